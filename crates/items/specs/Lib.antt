@@ -1,0 +1,5 @@
+pub mod Game
+pub mod GameFaults
+pub mod Multiset
+pub mod Packable
+pub mod Counters

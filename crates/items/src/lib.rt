@@ -1,0 +1,10 @@
+//! Games, lists of numbers and multisets of items: what every rule and every search is made of.
+#![tactic(auto)]
+
+mod game;
+mod items;
+mod list;
+
+pub use game::{Game, GameFault};
+pub use items::Items;
+pub use list::{Nums, Sequence};

@@ -1,0 +1,6 @@
+//! Packings: the offline placements that show that a list of items fits.
+#![tactic(auto)]
+
+mod packing;
+
+pub use packing::Packing;
