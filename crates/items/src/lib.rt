@@ -3,6 +3,7 @@
 
 mod game;
 mod items;
+pub mod laws;
 mod list;
 
 pub use game::{Game, GameFault};

@@ -1,0 +1,2 @@
+pub mod MultisetLemmas
+pub mod CounterLemmas
