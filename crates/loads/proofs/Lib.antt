@@ -1,0 +1,2 @@
+pub mod DescendingLemmas
+pub mod LoadsLemmas
