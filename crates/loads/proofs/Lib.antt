@@ -1,2 +1,3 @@
 pub mod DescendingLemmas
+pub mod CountLemmas
 pub mod LoadsLemmas
