@@ -2,6 +2,7 @@
 #![tactic(auto)]
 
 mod bins;
+pub mod laws;
 mod position;
 mod sorted_loads;
 
