@@ -1,0 +1,4 @@
+pub mod DescendingLemmas
+pub mod CountLemmas
+pub mod DistinctLemmas
+pub mod LoadsLemmas

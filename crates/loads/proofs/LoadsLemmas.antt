@@ -1,0 +1,64 @@
+-- Loads after an item.
+use Rattle.std.proofs.Common.{◌≡◌, ℕ, ◌+◌, ◌<◌, List, length, get_or, set, cond, eqb, sum, arith, sym, ap, ◌∙◌}
+use Rattle.std.specs.Prelude.{All, Contains, insert, remove, position, unwrap_or, nat_le}
+use Rattle.std.proofs.lemmas.List.{get_or_default}
+use Rattle.std.specs.List.{sum_by}
+use Rattle.std.proofs.lemmas.List.Sums.{sum_by-set}
+use Rattle.items.specs.Game.{GameNumbers}
+use Rattle.items.specs.Multiset.{count, Same}
+use Rattle.loads.specs.Descending.{IsDescending, put_descending, take_out}
+use Rattle.loads.specs.Loads.{IsLoads, IsLowestBin, loads_after}
+use Rattle.loads.proofs.DescendingLemmas.{IsDescending-put, IsDescending-take_out, All-put, All-take_out, length-put, length-take_out, take_out-remove, put_descending-insert, unwrap_or-position}
+use Rattle.loads.proofs.CountLemmas.{count-sum_by, Contains-Same, sum_by-put, sum_by-take_out, equal_from_Same}
+
+-- an item in a bin that stays below the target leaves loads of the game
+pub IsLoads-after : (game : GameNumbers) (loads : List ℕ) (load size : ℕ) → IsLoads game loads → Contains loads load → load + size < game.target → IsLoads game (loads_after loads load size)
+IsLoads-after game loads load size h member below = record {
+  one_each = omega (arith, h.one_each, length-put (load + size) (take_out load loads), length-take_out load loads member);
+  descending = IsDescending-put (load + size) (take_out load loads) (IsDescending-take_out load loads h.descending);
+  below_target = All-put (λ held. held < game.target) (load + size) (take_out load loads) below (All-take_out (λ held. held < game.target) load loads h.below_target);
+}
+
+-- taking one such load out and putting the load with the item in at its place
+pub loads_after-edits : (xs rest ys : List ℕ) (load size k at : ℕ) → IsLowestBin xs load k → rest ≡ remove xs k
+    → at ≡ unwrap_or (position (λ held. nat_le held (load + size)) rest) (length rest) → ys ≡ insert rest at (load + size)
+    → ys ≡ loads_after xs load size
+loads_after-edits xs rest ys load size k at first removed place inserted =
+    let out : take_out load xs ≡ rest = take_out-remove load xs k first ∙ sym removed in
+    let here = place ∙ unwrap_or-position (λ held. nat_le held (load + size)) rest in
+    inserted ∙ ap (λ i. insert rest i (load + size)) here ∙ sym (put_descending-insert (load + size) rest) ∙ ap (put_descending (load + size)) (sym out)
+
+-- a bin with the load shows that the load is there
+pub Contains-from_lowest : (xs : List ℕ) (load bin : ℕ) → IsLowestBin xs load bin → Contains xs load
+Contains-from_lowest xs load bin h = (bin, h.in_range, get_or_default xs bin load 0 h.in_range ∙ h.has_load)
+
+-- what a sum over loads gains by an item
+pub sum_by-loads_after : (f : ℕ → ℕ) (loads : List ℕ) (load size : ℕ) → Contains loads load → sum_by f (loads_after loads load size) + f load ≡ sum_by f loads + f (load + size)
+sum_by-loads_after f loads load size member =
+    omega (arith, sum_by-put f (load + size) (take_out load loads), sum_by-take_out f load loads member)
+
+pub sum-loads_after : (loads : List ℕ) (load size : ℕ) → Contains loads load → sum (loads_after loads load size) ≡ sum loads + size
+sum-loads_after loads load size member = let e = sum_by-loads_after (λ x. x) loads load size member in omega arith
+
+pub length-loads_after : (loads : List ℕ) (load size : ℕ) → Contains loads load → length (loads_after loads load size) ≡ length loads
+length-loads_after loads load size member =
+    omega (arith, length-put (load + size) (take_out load loads), length-take_out load loads member)
+
+pub count-loads_after : (x : ℕ) (loads : List ℕ) (load size : ℕ) → Contains loads load
+    → count x (loads_after loads load size) + cond (eqb x load) 1 0 ≡ count x loads + cond (eqb x (load + size)) 1 0
+count-loads_after x loads load size member =
+    let e = sum_by-loads_after (λ y. cond (eqb x y) 1 0) loads load size member in
+    omega (arith, count-sum_by x (loads_after loads load size), count-sum_by x loads)
+
+-- an item in any bin of a load gives the loads after it, whatever the bins' numbers
+pub Same-loads_after : (actual loads : List ℕ) (bin load size : ℕ) → Same actual loads → bin < length actual → get_or actual bin 0 ≡ load
+    → Same (set actual bin (load + size)) (loads_after loads load size)
+Same-loads_after actual loads bin load size same within has x =
+    let here : Contains actual load = (bin, within, get_or_default actual bin load 0 within ∙ has) in
+    let gained = count-loads_after x loads load size (Contains-Same load actual loads same here) in
+    let written = sum_by-set (λ y. cond (eqb x y) 1 0) actual bin (load + size) 0 within in
+    omega (arith, same x, count-sum_by x (set actual bin (load + size)), count-sum_by x actual, ap {B = ℕ} (λ y. cond (eqb x y) 1 0) has)
+
+-- loads of a game are the loads of that multiset
+pub equal_from_Same-loads : (game : GameNumbers) (xs ys : List ℕ) → IsLoads game xs → IsLoads game ys → Same xs ys → xs ≡ ys
+equal_from_Same-loads game xs ys h k = equal_from_Same xs ys h.descending k.descending

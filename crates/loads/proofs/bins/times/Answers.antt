@@ -1,0 +1,9 @@
+use Rattle.std.proofs.Common.{rules, ◌≡◌, eqb, sym, ◌∙◌}
+use Rattle.std.specs.Prelude.{count_by}
+use Rattle.loads.proofs.CountLemmas.{count-count_by}
+use Rattle.loads.proofs.bins.times.Goals as goal
+
+pub returns : goal.returns
+returns c =
+    let e : c.count.result ≡ count_by (λ held. eqb held c.args.load) c.args.loads.now = search rules in
+    e ∙ sym (count-count_by c.args.load c.args.loads.now)

@@ -1,0 +1,11 @@
+//! The loads of a game's bins without the bins' numbers, and positions: the loads beside the items so far.
+#![tactic(auto)]
+
+mod bins;
+pub mod laws;
+mod position;
+mod sorted_loads;
+
+pub use bins::{bin_with, same_up_to_renaming};
+pub use position::{Position, Positions};
+pub use sorted_loads::Loads;

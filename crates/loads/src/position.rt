@@ -1,0 +1,17 @@
+//! Positions of the game.
+
+use crate::sorted_loads::Loads;
+use items::{Items, Sequence};
+
+/// A position: the loads of the bins and the items so far. Bins are alike, so positions are taken up to
+/// the numbers of the bins. A position takes about 300 bytes and no memory besides.
+#[derive(Drop)]
+pub struct Position {
+    /// The loads, descending.
+    pub loads: Loads,
+    /// The items that led to them.
+    pub items: Items,
+}
+
+/// A list of positions that grows at its end.
+pub type Positions = Sequence<Position>;
