@@ -1,0 +1,11 @@
+//! Byte sources and byte sinks that may fail, a reader of lines, and a writer of whole pieces.
+//!
+//! A source or a sink counts its faults. A call that answers [`Failed`] does so only where that count
+//! rose in the call, so a caller can always tell a fault of the outside from one of its own.
+#![tactic(auto)]
+
+pub mod sinks;
+pub mod sources;
+
+pub use crate::sinks::{Sink, put_all};
+pub use crate::sources::{Failed, Source};
