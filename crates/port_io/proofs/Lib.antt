@@ -1,2 +1,5 @@
 pub mod FaultLemmas
+pub mod LineLemmas
+pub mod ReadingLemmas
+pub mod SliceLemmas
 pub mod ToldLemmas

@@ -4,8 +4,15 @@
 //! rose in the call, so a caller can always tell a fault of the outside from one of its own.
 #![tactic(auto)]
 
+pub mod calm;
+pub mod lines;
+pub mod memory;
+mod read_ahead;
 pub mod sinks;
 pub mod sources;
 
+pub use crate::calm::{CalmSink, CalmSource};
+pub use crate::lines::{Line, LineReader};
+pub use crate::memory::{MemSink, MemSource};
 pub use crate::sinks::{Sink, put_all};
 pub use crate::sources::{Failed, Source};
