@@ -54,3 +54,8 @@ NoLfBelow-read n held now bytes before all is k below within at =
 -- no LF is among bytes that have none
 pub Contains-no_lf : (bytes : List ℕ) → NoLfBelow (length bytes) bytes → Contains bytes lf → ⊥
 Contains-no_lf bytes none found = none found.0 found.1 found.1 (get_or_default bytes found.0 0 lf found.1 ∙ found.2)
+
+-- where a line was held at first, the bytes that are held still have it
+pub no_line-held : (first held now : List ℕ) {A : Type 0} → now ≡ held → NoLfBelow (longest_line + 1) now → length now ≤ longest_line → (Contains first lf → A × (held ≡ first)) → Contains first lf → ⊥
+no_line-held first held now is none short kept found =
+    Contains-no_lf now (λ k below within. none k (omega arith) within) (subst (λ xs. Contains xs lf) (sym (is ∙ (kept found).1)) found)

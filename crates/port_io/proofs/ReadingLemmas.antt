@@ -1,5 +1,5 @@
 -- Reading on, from call to call.
-use Rattle.std.proofs.Common.{◌≡◌, ℕ, List, [], ◌++◌, Option, ap, sym, ◌∙◌, append_assoc}
+use Rattle.std.proofs.Common.{◌≡◌, ℕ, List, [], ◌++◌, Option, IfSome, ap, sym, subst, ◌∙◌, append_assoc}
 use Rattle.std.proofs.lemmas.List.{append-nil}
 use Rattle.std.specs.Io.KnownBytes.{prepend_known}
 use Rattle.port_io.specs.Reading.{ReadsOn}
@@ -21,3 +21,8 @@ ReadsOn-then a b c left mid new first second = (
 pub prepend_known-read : (held now : List ℕ) (left new : Option (List ℕ)) → ReadsOn held now left new → prepend_known held left ≡ prepend_known now new
 prepend_known-read held now left new read =
     ap (prepend_known held) read.2 ∙ prepend_known-prepend held read.0 new ∙ ap (λ xs. prepend_known xs new) (sym read.1)
+
+-- what holds of the bytes held and left afterwards holds of those before
+pub IfSome-read : (P : List ℕ → Type 0) (first held now : List ℕ) (left new : Option (List ℕ)) → first ≡ held → ReadsOn held now left new → IfSome (prepend_known now new) P → IfSome (prepend_known first left) P
+IfSome-read P first held now left new is read holds =
+    subst (λ told. IfSome told P) (sym (ap (λ xs. prepend_known xs left) is ∙ prepend_known-read held now left new read)) holds
