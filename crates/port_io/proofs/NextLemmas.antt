@@ -1,7 +1,9 @@
 -- What stands next is one thing, and it is what a search found.
-use Rattle.std.proofs.Common.{◌≡◌, ◌≢◌, ℕ, ◌+◌, ◌<◌, ◌≤◌, List, [], ◌∷◌, ◌++◌, length, get_or, take, drop, All, Contains, Option, None, Some, IfSome, IfNone, refl, ap, sym, ◌∙◌, subst, arith, append_assoc, length-append, length-take}
+use Rattle.std.proofs.Common.{◌≡◌, ◌≢◌, ◌⊎◌, inl, inr, true, false, eqb, ℕ, ◌+◌, ◌<◌, ◌≤◌, List, [], ◌∷◌, ◌++◌, length, get_or, take, drop, All, Contains, Option, None, Some, IfSome, IfNone, refl, ap, sym, ◌∙◌, subst, arith, append_assoc, length-append, length-take}
 use Rattle.std.proofs.lemmas.List.{append-nil, get_or_at, get_or_append_left, get_or-take, get_or_default, length-take-le, take-append-drop, drop_more, nil_from_length}
-use Rattle.std.proofs.lemmas.List.Elements.{All-contains, All-from_get_or, Contains-append_left, Contains-push}
+use Rattle.std.proofs.lemmas.List.Elements.{All-contains, All-from_get_or, All-nil, All-cons, All-head, All-tail, Contains-append_left, Contains-push}
+use Rattle.std.proofs.lemmas.Bool.{cases_lt}
+use Rattle.std.proofs.lemmas.Bool.Decides.{eqb_tells}
 use Rattle.std.specs.Io.KnownBytes.{prepend_known, IsAtEnd}
 use Rattle.port_io.specs.declared.lines.Line.{Line}
 use Rattle.port_io.specs.declared.lines.Line.TheVariants.{Text, End, TooLong, Unfinished}
@@ -119,3 +121,50 @@ Ending-found TooLong held (Some rest) found = (
 Ending-found Unfinished held (Some rest) found =
     let same : held ≡ held ++ rest = sym (ap (λ xs. held ++ xs) found.3 ∙ append-nil held) in
     subst (StandsNext Unfinished) same (record { no_lf = HasNoLf-all held found.0; short = found.2 }, found.1)
+
+-- a line and its LF are in front, or there is no LF
+abbrev HasFirst : List ℕ → Type 0
+HasFirst bytes = HasNoLf bytes ⊎ ((line : List ℕ) × (rest : List ℕ) × HasNoLf line × (bytes ≡ with_lf line ++ rest))
+
+HasFirst-cons : (b : ℕ) (bs : List ℕ) → ((eqb b lf ≡ true) × (b ≡ lf)) ⊎ ((eqb b lf ≡ false) × (b ≢ lf)) → HasFirst bs → HasFirst (b ∷ bs)
+HasFirst-cons b bs (inl is) h = inr ([], bs, All-nil (λ x. x ≢ lf), ap (λ x. x ∷ bs) is.1)
+HasFirst-cons b bs (inr differs) (inl none) = inl (All-cons (λ x. x ≢ lf) b bs differs.1 none)
+HasFirst-cons b bs (inr differs) (inr some) = inr (b ∷ some.0, some.1, All-cons (λ x. x ≢ lf) b some.0 differs.1 some.2, ap (λ xs. b ∷ xs) some.3)
+
+first_of_all : (bytes : List ℕ) → HasFirst bytes
+first_of_all [] = inl (All-nil (λ x. x ≢ lf))
+first_of_all (b ∷ bs) = HasFirst-cons b bs (eqb_tells b lf) (first_of_all bs)
+
+stands_from : (bytes : List ℕ) → HasFirst bytes → (line : Line) × StandsNext line bytes
+stands_from bytes (inl none) =
+    elim (cases_lt longest_line (length bytes)) [
+      inl long ↦ (TooLong, (bytes, [], none, long, sym (append-nil bytes)))
+      | inr short ↦ elim (cases_lt 0 (length bytes)) [
+        inl some ↦ (Unfinished, (record { no_lf = none; short = short }, some))
+        | inr none' ↦ (End, nil_from_length bytes (omega arith))
+      ]
+    ]
+stands_from bytes (inr first) =
+    elim (cases_lt longest_line (length first.0)) [
+      inl long ↦ (TooLong, (first.0, lf ∷ first.1, first.2, long, first.3 ∙ append_assoc first.0 (lf ∷ []) first.1))
+      | inr short ↦ (Text, (first.0, first.1, record { no_lf = first.2; short = short }, first.3))
+    ]
+
+-- one thing stands next in any bytes
+pub stands_next : (bytes : List ℕ) → (line : Line) × StandsNext line bytes × ((other : Line) → StandsNext other bytes → line ≡ other)
+stands_next bytes =
+    let next = stands_from bytes (first_of_all bytes) in
+    (next.0, next.1, λ other k. StandsNext-only next.0 other bytes next.1 k)
+
+-- bytes begin with one line only
+pub with_lf-only : (line other rest more : List ℕ) → HasNoLf line → HasNoLf other → with_lf line ++ rest ≡ with_lf other ++ more → (line ≡ other) × (rest ≡ more)
+with_lf-only [] [] rest more h k is = (refl, (cc))
+with_lf-only [] (c ∷ cs) rest more h k is =
+    let head : c ≡ lf = (cc) in absurd (All-head (λ b. b ≢ lf) c cs k head)
+with_lf-only (b ∷ bs) [] rest more h k is =
+    let head : b ≡ lf = (cc) in absurd (All-head (λ b. b ≢ lf) b bs h head)
+with_lf-only (b ∷ bs) (c ∷ cs) rest more h k is =
+    let head : b ≡ c = (cc) in
+    let tail : with_lf bs ++ rest ≡ with_lf cs ++ more = (cc) in
+    let same = with_lf-only bs cs rest more (All-tail (λ b. b ≢ lf) b bs h) (All-tail (λ b. b ≢ lf) c cs k) tail in
+    (ap (λ x. x ∷ bs) head ∙ ap (λ xs. c ∷ xs) same.0, same.1)

@@ -4,12 +4,15 @@
 //! rose in the call, so a caller can always tell a fault of the outside from one of its own.
 #![tactic(auto)]
 
-pub mod calm;
-pub mod lines;
-pub mod memory;
+mod calm;
+pub mod laws;
+mod lines;
+mod memory;
 mod read_ahead;
-pub mod sinks;
-pub mod sources;
+mod sinks;
+mod sources;
+
+
 
 pub use crate::calm::{CalmSink, CalmSource};
 pub use crate::lines::{Line, LineReader};

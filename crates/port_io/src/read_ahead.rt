@@ -113,9 +113,9 @@ fn move_to_front(bytes: &mut Vec<u8>, start: usize, end: usize) -> usize
     end - start
 }
 
-// Reads once into the bytes from `end` on.
+// Reads once into the bytes from `end` on, of which there are 4,096 at least.
 fn read_behind<S: Source>(source: &mut S, bytes: &mut Vec<u8>, end: usize) -> Result<usize, Failed>
-    requires { end < vec_len bytes.old }
+    requires { end + 4096 ≤ vec_len bytes.old }
     ensures count { S.faults source.old ≤ S.faults source.new }
     ensures len { vec_len bytes.new ≡ vec_len bytes.old }
     ensures before { take end bytes.new.items ≡ take end bytes.old.items }
