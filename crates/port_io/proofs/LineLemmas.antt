@@ -19,7 +19,7 @@ window-at bytes searched top k low high =
 NoLfBelow-window : (bytes : List ℕ) (searched top m : ℕ) → NoLfBelow searched bytes → searched + m ≤ top → Nowhere (Passes (is_byte 10) (window bytes searched top)) 0 m → NoLfBelow (searched + m) bytes
 NoLfBelow-window bytes searched top m before fits none k below within is =
     elim (cases_lt k searched) [
-      inl first ↦ before k first within is
+      | inl first ↦ before k first within is
       | inr later ↦ none (k - searched) (omega arith) (omega arith) (eq-eqb (get_or (window bytes searched top) (k - searched) 0) 10 (window-at bytes searched top k later (omega arith) ∙ is))
     ]
 

@@ -81,8 +81,8 @@ IfNone-any (Some line) h = tt
 pub HasNoLf-take : (n : ℕ) (bytes : List ℕ) → NoLfBelow n bytes → n ≤ length bytes → HasNoLf (take n bytes)
 HasNoLf-take n bytes none within =
     All-from_get_or (λ b. b ≢ lf) (take n bytes) 0 (λ i below.
-      let low : i < n = omega (arith, length-take n bytes) in
-      λ at. none i low (omega arith) (sym (get_or-take n bytes i 0 low) ∙ at))
+    let low : i < n = omega (arith, length-take n bytes) in
+    λ at. none i low (omega arith) (sym (get_or-take n bytes i 0 low) ∙ at))
 
 -- no LF among the bytes
 pub HasNoLf-all : (bytes : List ℕ) → NoLfBelow (length bytes) bytes → HasNoLf bytes
@@ -138,15 +138,15 @@ first_of_all (b ∷ bs) = HasFirst-cons b bs (eqb_tells b lf) (first_of_all bs)
 stands_from : (bytes : List ℕ) → HasFirst bytes → (line : Line) × StandsNext line bytes
 stands_from bytes (inl none) =
     elim (cases_lt longest_line (length bytes)) [
-      inl long ↦ (TooLong, (bytes, [], none, long, sym (append-nil bytes)))
+      | inl long ↦ (TooLong, (bytes, [], none, long, sym (append-nil bytes)))
       | inr short ↦ elim (cases_lt 0 (length bytes)) [
-        inl some ↦ (Unfinished, (record { no_lf = none; short = short }, some))
+        | inl some ↦ (Unfinished, (record { no_lf = none; short = short }, some))
         | inr none' ↦ (End, nil_from_length bytes (omega arith))
       ]
     ]
 stands_from bytes (inr first) =
     elim (cases_lt longest_line (length first.0)) [
-      inl long ↦ (TooLong, (first.0, lf ∷ first.1, first.2, long, first.3 ∙ append_assoc first.0 (lf ∷ []) first.1))
+      | inl long ↦ (TooLong, (first.0, lf ∷ first.1, first.2, long, first.3 ∙ append_assoc first.0 (lf ∷ []) first.1))
       | inr short ↦ (Text, (first.0, first.1, record { no_lf = first.2; short = short }, first.3))
     ]
 

@@ -11,8 +11,8 @@ mod memory;
 mod read_ahead;
 mod sinks;
 mod sources;
-
-
+#[cfg(test)]
+mod tests;
 
 pub use crate::calm::{CalmSink, CalmSource};
 pub use crate::lines::{Line, LineReader};

@@ -151,7 +151,11 @@ fn find_next<S: Source>(ahead: &mut ReadAhead, source: &mut S) -> Result<Found, 
         }
         if ahead.refill(source)? == 0 {
             let is_empty = searched == 0;
-            return Ok(Found::Ending(if is_empty { Line::End } else { Line::Unfinished }));
+            return Ok(Found::Ending(if is_empty {
+                Line::End
+            } else {
+                Line::Unfinished
+            }));
         }
     }
 }
