@@ -1,5 +1,5 @@
 -- Where the first LF stands.
-use Rattle.std.proofs.Common.{◌≡◌, ◌≢◌, ℕ, ◌+◌, ◌-◌, ◌<◌, ◌≤◌, min, List, ◌++◌, Contains, length, get_or, take, drop, refl, ap, sym, ◌∙◌, subst, arith, inl, inr, length-take, length-drop, true}
+use Rattle.std.proofs.Common.{◌≡◌, ℕ, ◌+◌, ◌-◌, ◌<◌, ◌≤◌, min, List, ◌++◌, Contains, length, get_or, take, drop, ap, sym, ◌∙◌, subst, arith, inl, inr, length-take, length-drop}
 use Rattle.std.proofs.lemmas.List.{get_or-take, get_or-drop, get_or_append_left, get_or_default}
 use Rattle.std.proofs.lemmas.Bool.{cases_lt, eq-eqb, eqb-true}
 use Rattle.memchr.specs.Find.{Nowhere, NoneBefore, Passes, is_byte}

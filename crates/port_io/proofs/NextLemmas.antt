@@ -1,13 +1,13 @@
 -- What stands next is one thing, and it is what a search found.
-use Rattle.std.proofs.Common.{◌≡◌, ◌≢◌, ◌⊎◌, inl, inr, true, false, eqb, ℕ, ◌+◌, ◌<◌, ◌≤◌, List, [], ◌∷◌, ◌++◌, length, get_or, take, drop, All, Contains, Option, None, Some, IfSome, IfNone, refl, ap, sym, ◌∙◌, subst, arith, append_assoc, length-append, length-take}
-use Rattle.std.proofs.lemmas.List.{append-nil, get_or_at, get_or_append_left, get_or-take, get_or_default, length-take-le, take-append-drop, drop_more, nil_from_length}
+use Rattle.std.proofs.Common.{◌≡◌, ◌≢◌, ◌⊎◌, inl, inr, true, false, eqb, ℕ, ◌+◌, ◌<◌, ◌≤◌, List, [], ◌∷◌, ◌++◌, length, get_or, take, drop, Contains, Option, None, Some, IfSome, IfNone, refl, ap, sym, ◌∙◌, subst, arith, append_assoc, length-append, length-take}
+use Rattle.std.proofs.lemmas.List.{append-nil, get_or_at, get_or_append_left, get_or-take, take-append-drop, drop_more, nil_from_length}
 use Rattle.std.proofs.lemmas.List.Elements.{All-contains, All-from_get_or, All-nil, All-cons, All-head, All-tail, Contains-append_left, Contains-push}
 use Rattle.std.proofs.lemmas.Bool.{cases_lt}
 use Rattle.std.proofs.lemmas.Bool.Decides.{eqb_tells}
-use Rattle.std.specs.Io.KnownBytes.{prepend_known, IsAtEnd}
+use Rattle.std.specs.Io.KnownBytes.{prepend_known}
 use Rattle.port_io.specs.declared.lines.Line.{Line}
 use Rattle.port_io.specs.declared.lines.Line.TheVariants.{Text, End, TooLong, Unfinished}
-use Rattle.port_io.specs.declared.lines.Found.TheVariants.{Whole, Ending}
+use Rattle.port_io.specs.declared.lines.Found.TheVariants.{Ending}
 use Rattle.port_io.specs.Lines.{lf, longest_line, HasNoLf, IsLine, with_lf, StandsNext}
 use Rattle.port_io.specs.Found.{NoLfBelow, EndsAt, IsFound}
 

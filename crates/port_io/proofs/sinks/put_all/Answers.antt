@@ -1,4 +1,4 @@
-use Rattle.std.proofs.Common.{arith, ◌-◌, take, drop, length, length-take, length-drop}
+use Rattle.std.proofs.Common.{arith, ◌-◌, drop, length, length-take, length-drop}
 use Rattle.port_io.proofs.ToldLemmas.{append_known-more}
 use Rattle.port_io.proofs.sinks.put_all.Goals as goal
 

@@ -1,4 +1,4 @@
-use Rattle.std.proofs.Common.{◌≡◌, ap, sym, ◌∙◌}
+use Rattle.std.proofs.Common.{ap, sym, ◌∙◌}
 use Rattle.port_io.specs.Reading.{Ahead}
 use Rattle.port_io.specs.Lines.{ReaderState, StandsNext}
 use Rattle.port_io.specs.declared.lines.Line.TheVariants.{Text}
