@@ -1,0 +1,6 @@
+pub mod Faults
+pub mod Found
+pub mod Lines
+pub mod Memory
+pub mod Reading
+pub mod Told
