@@ -9,3 +9,6 @@ mod list;
 pub use game::{Game, GameFault};
 pub use items::Items;
 pub use list::{Nums, Sequence};
+
+#[cfg(test)]
+mod tests;
