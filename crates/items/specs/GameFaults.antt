@@ -1,4 +1,4 @@
-use Rattle.std.specs.Prelude.{ℕ, ◌<◌, ◌≤◌, ◌*◌, ◌⊎◌}
+use Rattle.std.specs.Prelude.{◌<◌, ◌≤◌, ◌*◌, ◌⊎◌}
 use Rattle.items.specs.Game.{GameNumbers, HasBins, HasCapacity}
 use Rattle.items.specs.declared.game.GameFault.{GameFault}
 use Rattle.items.specs.declared.game.GameFault.TheVariants.{Bins, Capacity, Target}

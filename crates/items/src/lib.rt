@@ -3,8 +3,12 @@
 
 mod game;
 mod items;
+pub mod laws;
 mod list;
 
 pub use game::{Game, GameFault};
 pub use items::Items;
 pub use list::{Nums, Sequence};
+
+#[cfg(test)]
+mod tests;

@@ -1,0 +1,3 @@
+pub mod MultisetLemmas
+pub mod SameLemmas
+pub mod CounterLemmas

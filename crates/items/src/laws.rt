@@ -1,0 +1,34 @@
+//! Laws on ascending lists and on lists with the same numbers, as contracts of functions that do nothing.
+
+ghost use Rattle.std.specs.Prelude.{◌≡◌, ◌==◌, ◌↔◌, IsTrue, ℕ, ◌+◌, List, [], ◌∷◌, ◌++◌, if◌then◌else◌, length, sum};
+ghost use Rattle.std.specs.List.Sorted.{IsNonDecreasing};
+ghost use Rattle.items.specs.Multiset.{Same, count, put_ascending};
+
+use crate::items::Items;
+use std::hash::Hash;
+
+/// Ascending lists with the same numbers, each as often, are equal.
+pub fn equal_from_counts()
+    ensures { (xs ys : List ℕ) → IsNonDecreasing xs → IsNonDecreasing ys → Same xs ys → xs ≡ ys }
+{}
+
+/// Lists with the same numbers, each as often, have the same total and the same length.
+pub fn totals_from_counts()
+    ensures total { (xs ys : List ℕ) → Same xs ys → sum xs ≡ sum ys }
+    ensures length { (xs ys : List ℕ) → Same xs ys → length xs ≡ length ys }
+{}
+
+/// A number put in at its place keeps a list ascending, and counts as it does at the list's end.
+pub fn put_in_order()
+    ensures ascending { (x : ℕ) (xs : List ℕ) → IsNonDecreasing xs → IsNonDecreasing (put_ascending x xs) }
+    ensures counts { (x y : ℕ) (xs : List ℕ) → count y (put_ascending x xs) ≡ (if y == x then 1 else 0) + count y xs }
+    ensures end { (x : ℕ) (xs : List ℕ) → Same (xs ++ x ∷ []) (put_ascending x xs) }
+    ensures total { (x : ℕ) (xs : List ℕ) → sum (put_ascending x xs) ≡ x + sum xs }
+{}
+
+/// `==` on multisets of items holds exactly where their ascending lists are equal, and equal ones hash alike.
+pub fn items_equal_as_lists()
+    ensures equal { (xs ys : List ℕ) → IsTrue (⟦<Items as PartialEq>⟧.eq xs ys) ↔ (xs ≡ ys) }
+    ensures hash { (xs ys : List ℕ) → IsTrue (⟦<Items as PartialEq>⟧.eq xs ys)
+        → ⟦<Items as Hash>⟧.hash_input xs ≡ ⟦<Items as Hash>⟧.hash_input ys }
+{}
