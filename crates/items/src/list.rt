@@ -54,6 +54,11 @@ impl<T> Sequence<T> {
         self.elements.is_empty()
     }
 
+    /// The allocator that the list was made with.
+    pub fn allocator(&self) -> Global {
+        *self.elements.allocator()
+    }
+
     /// The element at a place, counted from 0; None exactly where there is none.
     pub fn get(&self, i: usize) -> Option<&T>
         ensures value { option_copied result ≡ slice_get self.now i }

@@ -1,6 +1,7 @@
 //! Packings: the offline placements that show that a list of items fits.
 #![tactic(auto)]
 
+mod counters;
 mod packing;
 
 pub use packing::Packing;

@@ -1,8 +1,10 @@
 //! Packings of items into bins.
 
-ghost use Rattle.std.specs.Prelude.{◌≡◌, [], ◌∷◌, ◌++◌, IfOk, OnOk, OnErr};
+ghost use Rattle.std.specs.Prelude.{◌≡◌, ◌↔◌, [], ◌∷◌, ◌++◌, IsTrue, OnOk, OnErr};
+ghost use Rattle.items.specs.Packable.{IsPacking};
 
-use items::{Nums, Sequence};
+use crate::counters::{counters_of, empties};
+use items::{Game, Items, Nums, Sequence};
 use std::alloc::{AllocError, Global};
 use std::marker::Model;
 
@@ -44,5 +46,14 @@ impl Packing {
         ensures value { result.now ≡ self.now }
     {
         self.lists.as_slice()
+    }
+
+    /// Whether this is a packing of the items: as many bins as the game has, each summing to at most
+    /// the capacity, and together the multiset of the items. Takes no memory.
+    pub fn holds(&self, game: &Game, items: &Items) -> bool
+        ensures exact { IsTrue result ↔ IsPacking game.now self.now items.now }
+    {
+        self.lists.len() == usize::from(game.m())
+            && empties(&mut counters_of(items), self.lists.as_slice(), game.g())
     }
 }

@@ -1,0 +1,6 @@
+//! The adversary's side: the rules of a node, and what a legal strategy is.
+#![tactic(auto)]
+
+mod rules;
+
+pub use rules::node_fault;

@@ -1,0 +1,62 @@
+//! Counters of what is left of a multiset of items while bins are taken out of it.
+
+ghost use Rattle.std.specs.Prelude.{◌≡◌, ◌↔◌, ℕ, ◌≤◌, slice_index, All, IsTrue};
+ghost use Rattle.std.specs.Bool.{OnTrue, OnFalse};
+ghost use Rattle.items.specs.Multiset.{count};
+ghost use Rattle.packing_witness.specs.Counters.{TakesOut, CannotTakeOut, Empties};
+
+use items::{Items, Nums};
+
+/// A counter for each size up to 120, and one for 0.
+pub const COUNTERS: usize = 121;
+
+/// Takes a bin's items out of what is left. False where the bin sums to more than `most`, or has an
+/// item that is not left.
+pub fn take_bin(left: &mut [u16; COUNTERS], bin: &[u16], most: u16) -> bool
+    requires { most ≤ 120 }
+    ensures taken { OnTrue result (TakesOut most left.old left.new bin.now) }
+    ensures refused { OnFalse result (CannotTakeOut most left.old bin.now) }
+{
+    let mut total = 0u16;
+    for item in bin {
+        if *item > most || left[*item as usize] == 0 {
+            return false;
+        }
+        total += *item;
+        if total > most {
+            return false;
+        }
+        left[*item as usize] -= 1;
+    }
+    true
+}
+
+/// The counters of a multiset of items.
+pub fn counters_of(items: &Items) -> [u16; COUNTERS]
+    ensures value { (size : ℕ) → slice_index result size ≡ count size items.now }
+{
+    let mut counters = [0; COUNTERS];
+    for size in 1..COUNTERS {
+        counters[size] = items.count_of(size as u16);
+    }
+    counters
+}
+
+/// Whether bins of at most `most` each take out all that is left, and no more.
+pub fn empties(left: &mut [u16; COUNTERS], bins: &[Nums], most: u16) -> bool
+    requires { most ≤ 120 }
+    ensures exact { IsTrue result ↔ Empties most left.old bins.now }
+{
+    for bin in bins {
+        if !take_bin(left, bin.as_slice(), most) {
+            return false;
+        }
+    }
+    all_zero(left)
+}
+
+fn all_zero(counters: &[u16]) -> bool
+    ensures { IsTrue result ↔ All (λ n. n ≡ 0) counters.now }
+{
+    counters.iter().all(|n| *n == 0)
+}
