@@ -1,10 +1,10 @@
 -- The different numbers of a descending list.
-use Rattle.std.proofs.Common.{◌≡◌, ℕ, zero, suc, ◌+◌, ◌<◌, ◌≤◌, eqb, List, [], ◌∷◌, length, get_or, refl, sym, ap, ◌∙◌, subst, arith, inl, inr}
-use Rattle.std.specs.Prelude.{All, Contains}
+use Rattle.std.proofs.Common.{◌≡◌, ℕ, zero, suc, ◌+◌, ◌<◌, ◌≤◌, eqb, List, [], ◌∷◌, length, get_or, ◌∙◌, subst, arith, inl, inr}
+use Rattle.std.specs.Prelude.{Contains}
 use Rattle.std.proofs.lemmas.Bool.{eqb-true, eqb-false, cases_Bool, cases_eq}
-use Rattle.std.proofs.lemmas.List.Elements.{All-contains, Contains-get_or}
+use Rattle.std.proofs.lemmas.List.Elements.{Contains-get_or}
 use Rattle.loads.specs.Descending.{IsDescending, IsStrictlyDescending, distinct}
-use Rattle.loads.proofs.DescendingLemmas.{IsDescending-tail, IsDescending-head, Contains-nil, Contains-tail, Contains-cons, Contains-here}
+use Rattle.loads.proofs.DescendingLemmas.{IsDescending-tail, IsDescending-head, Contains-tail, Contains-cons, Contains-here}
 use Rattle.loads.proofs.CountLemmas.{greatest_first}
 
 -- a number of the list is one of the different numbers

@@ -1,12 +1,12 @@
 -- Loads after an item.
 use Rattle.std.proofs.Common.{◌≡◌, ℕ, ◌+◌, ◌<◌, List, length, get_or, set, cond, eqb, sum, arith, sym, ap, ◌∙◌}
-use Rattle.std.specs.Prelude.{All, Contains, insert, remove, position, unwrap_or, nat_le}
+use Rattle.std.specs.Prelude.{Contains, insert, remove, position, unwrap_or, nat_le}
 use Rattle.std.proofs.lemmas.List.{get_or_default}
 use Rattle.std.specs.List.{sum_by}
 use Rattle.std.proofs.lemmas.List.Sums.{sum_by-set}
 use Rattle.items.specs.Game.{GameNumbers}
 use Rattle.items.specs.Multiset.{count, Same}
-use Rattle.loads.specs.Descending.{IsDescending, put_descending, take_out}
+use Rattle.loads.specs.Descending.{put_descending, take_out}
 use Rattle.loads.specs.Loads.{IsLoads, IsLowestBin, loads_after}
 use Rattle.loads.proofs.DescendingLemmas.{IsDescending-put, IsDescending-take_out, All-put, All-take_out, length-put, length-take_out, take_out-remove, put_descending-insert, unwrap_or-position}
 use Rattle.loads.proofs.CountLemmas.{count-sum_by, Contains-Same, sum_by-put, sum_by-take_out, equal_from_Same}

@@ -9,3 +9,6 @@ mod sorted_loads;
 pub use bins::{bin_with, same_up_to_renaming};
 pub use position::{Position, Positions};
 pub use sorted_loads::Loads;
+
+#[cfg(test)]
+mod tests;

@@ -2,6 +2,7 @@
 
 use crate::sorted_loads::Loads;
 use items::{Items, Sequence};
+use std::mem::size_of;
 
 /// A position: the loads of the bins and the items so far. Bins are alike, so positions are taken up to
 /// the numbers of the bins. A position takes about 300 bytes and no memory besides.
@@ -15,3 +16,6 @@ pub struct Position {
 
 /// A list of positions that grows at its end.
 pub type Positions = Sequence<Position>;
+
+// Positions are kept by the hundred thousand.
+const _: () = prove!(size_of::<Position>() <= 320);

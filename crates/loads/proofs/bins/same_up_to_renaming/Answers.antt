@@ -1,6 +1,6 @@
 use Rattle.std.proofs.Common.{◌≡◌, rules}
 use Rattle.std.specs.Prelude.{All, IsTrue, ◌↔◌}
-use Rattle.items.specs.Multiset.{Same, count}
+use Rattle.items.specs.Multiset.{count}
 use Rattle.loads.proofs.CountLemmas.{Same-from_members}
 use Rattle.loads.proofs.bins.same_up_to_renaming.Goals as goal
 

@@ -1,0 +1,100 @@
+use super::*;
+use items::{Game, Items};
+use std::alloc::Global;
+use std::test::Fail;
+
+fn small_game() -> Result<Game, Fail> {
+    Ok(Game::new(3, 3, 5)?)
+}
+
+fn is_taken(alloc: Global, game: &Game, list: &[u16]) -> bool {
+    Loads::from_slice(alloc, game, list).is_some()
+}
+
+#[test]
+fn only_descending_loads_below_the_target_are_taken(rt: HostRuntime) -> Result<(), Fail> {
+    let game = small_game()?;
+    assert!(rt; is_taken(rt.alloc(), &game, &[0, 0, 0]));
+    assert!(rt; is_taken(rt.alloc(), &game, &[4, 4, 1]));
+    assert!(rt; !is_taken(rt.alloc(), &game, &[4, 1, 4]));
+    assert!(rt; !is_taken(rt.alloc(), &game, &[5, 0, 0]));
+    assert!(rt; !is_taken(rt.alloc(), &game, &[1, 1]));
+    assert!(rt; !is_taken(rt.alloc(), &game, &[1, 1, 1, 1]));
+    assert!(rt; !is_taken(rt.alloc(), &game, &[]));
+    Ok(())
+}
+
+#[test]
+fn an_item_goes_to_one_bin_of_its_load(rt: HostRuntime) -> Result<(), Fail> {
+    let game = Game::new(2, 3, 4)?;
+    let loads = Loads::from_slice(rt.alloc(), &game, &[2, 0]).ok_or("refused")?;
+    let placed = loads.place(&game, 0, 2).ok_or("no such bin")?;
+    assert_eq!(rt; placed.as_slice(), [2, 2].as_slice());
+    assert!(rt; loads.place(&game, 1, 1).is_none());
+    let again = placed.place(&game, 2, 1).ok_or("no such bin")?;
+    assert_eq!(rt; again.as_slice(), [3, 2].as_slice());
+    Ok(())
+}
+
+#[test]
+fn a_grown_load_moves_to_its_place(rt: HostRuntime) -> Result<(), Fail> {
+    let game = Game::new(8, 60, 120)?;
+    let loads = Loads::from_slice(rt.alloc(), &game, &[90, 70, 70, 50, 30, 30, 10, 0]).ok_or(
+        "refused",
+    )?;
+    let placed = loads.place(&game, 30, 45).ok_or("no such bin")?;
+    assert_eq!(rt;
+        placed.as_slice(),
+        [90, 75, 70, 70, 50, 30, 10, 0].as_slice()
+    );
+    assert!(rt; !loads.same(&placed));
+    assert!(rt; loads.same(&loads.copy()));
+    Ok(())
+}
+
+#[test]
+fn different_loads_are_counted_from_the_greatest(rt: HostRuntime) -> Result<(), Fail> {
+    let game = Game::new(5, 10, 20)?;
+    let loads = Loads::from_slice(rt.alloc(), &game, &[7, 7, 3, 0, 0]).ok_or("refused")?;
+    assert_eq!(rt; loads.distinct_count(), 3);
+    assert_eq!(rt; loads.distinct_at(0), 7);
+    assert_eq!(rt; loads.distinct_at(1), 3);
+    assert_eq!(rt; loads.distinct_at(2), 0);
+    assert_eq!(rt; Loads::zero(rt.alloc(), &game).distinct_count(), 1);
+    Ok(())
+}
+
+#[test]
+fn loads_of_bins_are_sorted_downwards(rt: HostRuntime) -> Result<(), Fail> {
+    let game = Game::new(5, 10, 20)?;
+    let actual = [3, 0, 7, 0, 7];
+    let sorted = Loads::sorted(rt.alloc(), &game, &actual);
+    assert_eq!(rt; sorted.as_slice(), [7, 7, 3, 0, 0].as_slice());
+    assert!(rt; same_up_to_renaming(&actual, &sorted));
+    assert!(rt; !same_up_to_renaming(&[3, 0, 7, 3, 7], &sorted));
+    assert!(rt; !same_up_to_renaming(&[3, 0, 7, 7], &sorted));
+    assert!(rt; !same_up_to_renaming(&[3, 0, 7, 7, 0, 0], &sorted));
+    Ok(())
+}
+
+#[test]
+fn the_lowest_bin_with_a_load_is_named(rt: HostRuntime) {
+    let actual = [3, 0, 7, 0, 7];
+    assert_eq!(rt; bin_with(&actual, 7), Some(2));
+    assert_eq!(rt; bin_with(&actual, 0), Some(1));
+    assert_eq!(rt; bin_with(&actual, 5), None);
+}
+
+#[test]
+fn positions_are_kept_in_their_order(rt: HostRuntime) -> Result<(), Fail> {
+    let game = small_game()?;
+    let mut positions = Positions::new(rt.alloc());
+    let loads = Loads::zero(rt.alloc(), &game);
+    let items = Items::empty();
+    positions.push(Position { loads, items })?;
+    assert_eq!(rt; positions.len(), 1);
+    let first = positions.get(0).ok_or("no position")?;
+    assert_eq!(rt; first.loads.as_slice(), [0, 0, 0].as_slice());
+    assert!(rt; positions.get(1).is_none());
+    Ok(())
+}
