@@ -3,6 +3,7 @@
 
 mod node;
 mod rule;
+mod words;
 
 pub use node::{AdvNode, AdvNodes, Placement, Placements, Side, Then};
 pub use rule::Rule;
