@@ -1,2 +1,5 @@
 pub mod Split
 pub mod Numerals
+pub mod Lines
+pub mod Steps
+pub mod HeadLines

@@ -9,11 +9,11 @@ use Rattle.std.proofs.lemmas.Fmt.{decimal-digits_value, digits_decimal, digits_v
 use Rattle.std.proofs.lemmas.Bool.Decides.{nat_tests}
 use Rattle.strategy_text.specs.Words.{digits_after, number_of}
 
-abbrev read_on : ℕ → List ℕ → ℕ
+abbrev pub read_on : ℕ → List ℕ → ℕ
 read_on n [] = n
 read_on n (c ∷ cs) = read_on (10 * n + (c - 48)) cs
 
-own : IsNumeralModel (λ ds. all_ascii_digits ds ≡ true) (read_on 0)
+pub own : IsNumeralModel (λ ds. all_ascii_digits ds ≡ true) (read_on 0)
 own = numerals_by_fold _ (search rules) read_on (search rules)
 
 -- what digits that were read are
@@ -44,7 +44,7 @@ grows : (n : ℕ) (cs : List ℕ) → n ≤ read_on n cs
 grows n [] = omega arith
 grows n (c ∷ cs) = omega (arith, grows (10 * n + (c - 48)) cs)
 
-and_parts : (a b : Bool) → (a && b) ≡ true → (a ≡ true) × (b ≡ true)
+pub and_parts : (a b : Bool) → (a && b) ≡ true → (a ≡ true) × (b ≡ true)
 and_parts true b e = (refl, e)
 and_parts false b e = absurd cc
 

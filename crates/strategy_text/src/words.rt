@@ -117,4 +117,14 @@ impl<'a> Words<'a> {
         self.rest = rest;
         Some(n)
     }
+
+    /// Takes the next word if it is a number of 16 bits.
+    pub(crate) fn size(&mut self) -> Option<u16>
+        ensures { MatchOption result
+            ((number_at 65535 self.old ≡ None) × (self.new ≡ self.old))
+            (λ n. number_at 65535 self.old ≡ Some (n, self.new)) }
+    {
+        let n = self.number(u32::from(u16::MAX))?;
+        Some(n as u16)
+    }
 }
