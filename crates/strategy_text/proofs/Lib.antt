@@ -3,3 +3,5 @@ pub mod Numerals
 pub mod Lines
 pub mod Steps
 pub mod HeadLines
+pub mod Taken
+pub mod Loops

@@ -2,9 +2,10 @@
 use Rattle.std.proofs.Common.{◌≡◌, ◌≢◌, ℕ, zero, suc, ◌+◌, ◌-◌, ◌*◌, ◌<◌, ◌≤◌, ◌^◌, Bool, true, false, not, cond, ◌&&◌, ◌==◌, List, [], ◌∷◌, ◌++◌, length, map, decimal, Option, Some, None, refl, sym, ap, subst, ◌∙◌, arith, rules}
 use Rattle.std.specs.Option.{option_map}
 use Rattle.std.specs.Str.{bytes_eq}
+use Rattle.std.proofs.lemmas.Bool.Decides.{nat_tests}
 use Rattle.std.proofs.lemmas.Slice.Eq.{bytes_eq-Decides}
 use Rattle.strategy_text.specs.Words.{number_of, after, number_at}
-use Rattle.strategy_text.specs.Reading.{◌>>=◌, whole}
+use Rattle.strategy_text.specs.Reading.{◌>>=◌, whole, some_at}
 use Rattle.strategy_text.proofs.Numerals.{number_takes, number_again}
 
 -- the value of a step that did not fail
@@ -15,7 +16,7 @@ bind_some (Some x) f y e = (x, refl, e)
 pub some_is : {A : Type 0} (x y : A) → (let o : Option A = Some x in o) ≡ Some y → x ≡ y
 some_is x y e = cc
 
-test_some : {A : Type 0} (b : Bool) (x y : A) → cond b (Some x) None ≡ Some y → (b ≡ true) × (x ≡ y)
+pub test_some : {A : Type 0} (b : Bool) (x y : A) → cond b (Some x) None ≡ Some y → (b ≡ true) × (x ≡ y)
 test_some true x y e = (refl, cc)
 test_some false x y e = absurd cc
 
@@ -31,7 +32,7 @@ pub after_again : (word : List ℕ) (rest : List (List ℕ)) → after word (wor
 unfolding after
 after_again word rest = rw ((bytes_eq-Decides word word).1 refl) refl
 
-mapped : (o : Option ℕ) (ws : List (List ℕ)) (x : ℕ × List (List ℕ)) → option_map (λ n. (n, ws)) o ≡ Some x → (o ≡ Some x.0) × (ws ≡ x.1)
+pub mapped : (o : Option ℕ) (ws : List (List ℕ)) (x : ℕ × List (List ℕ)) → option_map (λ n. (n, ws)) o ≡ Some x → (o ≡ Some x.0) × (ws ≡ x.1)
 mapped None ws x e = absurd cc
 mapped (Some n) ws x e = (cc, cc)
 
@@ -66,3 +67,23 @@ number_then high words f y P small e then =
     let b = bind_some (number_at high words) f y e in
     let t = number_at_takes high words b.0 small b.1 in
     then b.0.0 b.0.1 t.0 t.1 b.2
+
+some_test : {A : Type 0} (b : Bool) (x y : A) → cond b None (Some x) ≡ Some y → (b ≡ false) × (x ≡ y)
+some_test true x y e = absurd cc
+some_test false x y e = (refl, cc)
+
+nonempty : {X : Type 0} (xs : List X) → (length xs == 0) ≡ false → xs ≢ []
+nonempty [] e h = absurd cc
+nonempty (x ∷ xs) e h = absurd cc
+
+pub some_takes : {X : Type 0} (found x : List X × List (List ℕ)) → some_at found ≡ Some x → (found ≡ x) × (x.0 ≢ [])
+some_takes found x e =
+    let t = some_test (length found.0 == 0) found x e in
+    (t.1, rw (← t.1) (nonempty found.0 t.0))
+
+full : (n : ℕ) → (suc n == 0) ≡ false
+full n = grind (arith, nat_tests)
+
+pub some_again : {X : Type 0} (xs : List X) (left : List (List ℕ)) → xs ≢ [] → some_at (xs, left) ≡ Some (xs, left)
+some_again [] left h = absurd (h refl)
+some_again (x ∷ xs) left h = rw (full (length xs)) refl

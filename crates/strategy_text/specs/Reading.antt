@@ -90,12 +90,16 @@ many_at word item (suc n) words = many_from (after word words) words item (many_
 abbrev pub each_at : {X : Type 0} → List ℕ → (List (List ℕ) → Option (X × List (List ℕ))) → List (List ℕ) → Option (List X × List (List ℕ))
 each_at word item words = many_at word item (length words) words
 
+-- the bins of a packing behind the first
+abbrev pub bins_at : List ℕ → List (List ℕ) → Option (List (List ℕ) × List (List ℕ))
+bins_at first words = with_front (first ∷ []) (each_at (codes "/") list_at words)
+
 -- the bins of a packing
 unfoldable pub pack_at : List (List ℕ) → Option (List (List ℕ) × List (List ℕ))
 pack_at words = do
   rest ← after (codes "pack") words
   bin ← list_at rest
-  with_front (bin.0 ∷ []) (each_at (codes "/") list_at bin.1)
+  bins_at bin.0 bin.1
 
 abbrev pub child_at : List (List ℕ) → Option (Then × List (List ℕ))
 child_at words = do

@@ -3,7 +3,7 @@
 ghost use Rattle.std.specs.Prelude.{◌≡◌, ◌∷◌, [], IfOk, IfSome, IfNone, MatchBool, Some, None, codes};
 ghost use Rattle.strategy_text.specs.declared.node.AdvNode.{AdvNode};
 ghost use Rattle.strategy_text.specs.Spelling.{SpellsAdversary};
-ghost use Rattle.strategy_text.specs.Reading.{Takes, Reads, Gives, numbers_at, list_at, with_front, each_at, pack_at, then_at, placement_at, placements_at, numbered_at, labelled_at, send_at, adversary_at};
+ghost use Rattle.strategy_text.specs.Reading.{Takes, Reads, Gives, numbers_at, list_at, each_at, bins_at, pack_at, then_at, placement_at, placements_at, numbered_at, labelled_at, send_at, adversary_at};
 
 use crate::node::{AdvNode, Placement, Placements, Then};
 use crate::stop::Stop;
@@ -38,21 +38,29 @@ fn list(alloc: Global, words: &mut Words) -> Result<Nums, Stop>
     Ok(list)
 }
 
-/// The bins of a packing, with a slash between two.
+/// The bins of a packing whose first was read.
+fn bins(alloc: Global, words: &mut Words, first: Nums) -> Result<Packing, Stop>
+    ensures { Reads result words.new (bins_at first words.old) }
+{
+    let mut packing = Packing::new(alloc);
+    packing.push_bin(first)?;
+    while words.accept(b"/") {
+        let bin = list(alloc, words)?;
+        packing.push_bin(bin)?;
+    }
+    Ok(packing)
+}
+
+/// The bins of a packing behind its first word, with a slash between two.
+#[tactic(auto, unfolding(crate::specs::Reading::pack_at))]
 fn packing(alloc: Global, words: &mut Words) -> Result<Packing, Stop>
     ensures { Reads result words.new (pack_at words.old) }
 {
     if !words.accept(b"pack") {
         return Err(Stop::Form);
     }
-    let mut packing = Packing::new(alloc);
-    let bin = list(alloc, words)?;
-    packing.push_bin(bin)?;
-    while words.accept(b"/") {
-        let bin = list(alloc, words)?;
-        packing.push_bin(bin)?;
-    }
-    Ok(packing)
+    let first = list(alloc, words)?;
+    bins(alloc, words, first)
 }
 
 /// What follows a placement.
