@@ -5,3 +5,5 @@ pub mod Steps
 pub mod HeadLines
 pub mod Taken
 pub mod Loops
+pub mod Again
+pub mod NodeLines

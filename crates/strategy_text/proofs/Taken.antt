@@ -124,7 +124,8 @@ placement_takes words x e =
 pub placement_shrinks : (words : List (List ℕ)) (x : Placement × List (List ℕ)) → placement_at words ≡ Some x → length x.1 ≤ length words
 placement_shrinks words x e = Begins-shrinks words (behind x.0) x.1 _ (placement_takes words x e)
 
-pack_bins : (bin : List ℕ) (bins : List (List ℕ)) → pack_words (bin ∷ bins) ≡ list_words bin ++ flat_map (λ b. codes "/" ∷ list_words b) bins
+-- the bins of a packing: the first, and the others each behind a slash
+pub pack_bins : (bin : List ℕ) (bins : List (List ℕ)) → pack_words (bin ∷ bins) ≡ list_words bin ++ flat_map (λ b. codes "/" ∷ list_words b) bins
 pack_bins bin [] = sym (append-nil (list_words bin))
 pack_bins bin (next ∷ bins) = ap (λ (t : List (List ℕ)). list_words bin ++ codes "/" ∷ t) (pack_bins next bins)
 
@@ -186,3 +187,45 @@ unfolding send_at
 send_takes words x e =
     after_then (codes "send") words _ x _ e
     (λ r0 e0 k0. let t = number_at_takes 65535 r0 x (omega arith) k0 in record { parts = e0 ∙ ap (λ (t : List (List ℕ)). codes "send" ∷ t) t.0; fits = t.1 })
+
+each_all : (bins : List (List ℕ)) → AllByRecursion (AllByRecursion IsNumber) bins → AllByRecursion (All IsNumber) bins
+each_all [] h = tt
+each_all (bin ∷ bins) h = (All-from_recursion IsNumber bin h.0, each_all bins h.1)
+
+begins_then : {X B : Type 0} (item : List (List ℕ) → Option (X × List (List ℕ))) (spell : X → List (List ℕ)) (Fits : X → Type 0) → Spells spell Fits item
+    → (words : List (List ℕ)) (f : X × List (List ℕ) → Option B) (y : B) (P : Type 0) → (item words >>= f) ≡ Some y
+    → ((x : X) (rest : List (List ℕ)) → words ≡ spell x ++ rest → Fits x → f (x, rest) ≡ Some y → P) → P
+begins_then item spell Fits spells words f y P e then =
+    let b = bind_some (item words) f y e in
+    let t = spells words b.0 b.1 in
+    then b.0.0 b.0.1 t.parts t.fits b.2
+
+-- the parts of a node's words, one behind the other, are its words
+pub joined : (n loads items send s pack : List ℕ) (a b p f : List (List ℕ))
+    → n ∷ ((loads ∷ a) ++ ((items ∷ b) ++ ((send ∷ s ∷ []) ++ ((pack ∷ p) ++ (f ++ []))))) ≡ n ∷ loads ∷ a ++ items ∷ b ++ send ∷ s ∷ pack ∷ p ++ f
+joined n loads items send s pack a b p f = simp (append_assoc, append-nil)
+
+-- a node that was read has these words, and each part is in its ranges
+pub adversary_takes : (number : ℕ) (words : List (List ℕ)) (node : AdvNode) → adversary_at number words ≡ Some node → (words ≡ adversary_words number node) × IsSpellable node
+unfolding adversary_at
+adversary_takes number words node e =
+    let b = bind_some (numbered_at number words) (λ rest. labelled_at (codes "loads") rest >>= λ loads. labelled_at (codes "items") loads.1 >>= λ items. send_at items.1 >>= λ send. pack_at send.1 >>= λ pack. placements_at pack.1 >>= λ placements. whole (record { loads = loads.0; items = items.0; send = send.0; pack = pack.0; placements = placements.0 }) placements.1) node e in
+    let e0 = numbered_takes number words b.0 b.1 in
+    begins_then (labelled_at (codes "loads")) (λ xs. codes "loads" ∷ list_words xs) (AllByRecursion IsNumber) (labelled_takes (codes "loads")) b.0 _ node _ b.2
+    (λ loads r1 e1 f1 k1. begins_then (labelled_at (codes "items")) (λ xs. codes "items" ∷ list_words xs) (AllByRecursion IsNumber) (labelled_takes (codes "items")) r1 _ node _ k1
+    (λ items r2 e2 f2 k2. begins_then send_at (λ s. codes "send" ∷ decimal s ∷ []) IsNumber send_takes r2 _ node _ k2
+    (λ send r3 e3 f3 k3. begins_then pack_at (λ bins. codes "pack" ∷ pack_words bins) IsPack pack_takes r3 _ node _ k3
+    (λ pack r4 e4 f4 k4. begins_then placements_at (flat_map placement_words) ArePlacements placements_takes r4 _ node _ k4
+    (λ placements r5 e5 f5 k5. let read : AdvNode = record { loads = loads; items = items; send = send; pack = pack; placements = placements } in
+    let w = whole_takes read node r5 k5 in
+    let parts : words ≡ adversary_words number read = e0 ∙ rw (e1, e2, e3, e4, e5, w.0) (joined (decimal number) (codes "loads") (codes "items") (codes "send") (decimal send) (codes "pack") (list_words loads) (list_words items) (pack_words pack) (flat_map placement_words placements)) in
+    let fits : IsSpellable read = record {
+      loads = All-from_recursion IsNumber loads f1;
+      items = All-from_recursion IsNumber items f2;
+      send = f3;
+      bins = f4.some;
+      pack = All-from_recursion (All IsNumber) pack (each_all pack f4.each);
+      some = f5.some;
+      placements = All-from_recursion IsPlacement placements f5.each;
+    } in
+    subst (λ (n : AdvNode). (words ≡ adversary_words number n) × IsSpellable n) w.1 (parts, fits))))))
