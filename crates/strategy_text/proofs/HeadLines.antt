@@ -26,7 +26,7 @@ game_takes line game e =
     let spells : SpellsGame line (numbers m g t) = record { bins = lm; capacity = lg; target = lt; spelled = line_takes line _ all } in
     subst (λ (x : GameNumbers). SpellsGame line x) w.1 spells))))
 
-game_again : (line : List ℕ) (game : GameNumbers) → SpellsGame line game → game_at (words_left (Some line)) ≡ Some game
+pub game_again : (line : List ℕ) (game : GameNumbers) → SpellsGame line game → game_at (words_left (Some line)) ≡ Some game
 unfolding game_at game_line
 game_again line game h =
     let all : words_left (Some line) ≡ game_words game = ap (λ (l : List ℕ). words_left (Some l)) h.spelled ∙ words_again (codes "game") (decimal game.bins ∷ decimal game.capacity ∷ decimal game.target ∷ []) (refl, (decimal_word game.bins (omega (arith, h.bins)), (decimal_word game.capacity (omega (arith, h.capacity)), (decimal_word game.target (omega (arith, h.target)), tt)))) in
@@ -57,7 +57,7 @@ count_takes line nodes e =
     let spells : SpellsCount line n = record { low = low_test n t.0; high = high; spelled = line_takes line _ all } in
     subst (λ (x : ℕ). SpellsCount line x) w.1 spells))
 
-count_again : (line : List ℕ) (nodes : ℕ) → SpellsCount line nodes → count_at (words_left (Some line)) ≡ Some nodes
+pub count_again : (line : List ℕ) (nodes : ℕ) → SpellsCount line nodes → count_at (words_left (Some line)) ≡ Some nodes
 unfolding count_at count_line
 count_again line nodes h =
     let all : words_left (Some line) ≡ codes "nodes" ∷ decimal nodes ∷ [] = ap (λ (l : List ℕ). words_left (Some l)) h.spelled ∙ words_again (codes "nodes") (decimal nodes ∷ []) (refl, (decimal_word nodes (omega (arith, h.high)), tt)) in

@@ -7,3 +7,4 @@ pub mod Taken
 pub mod Loops
 pub mod Again
 pub mod NodeLines
+pub mod Texts

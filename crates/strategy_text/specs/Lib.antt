@@ -2,3 +2,4 @@ pub mod Text
 pub mod Spelling
 pub mod Words
 pub mod Reading
+pub mod Laws
