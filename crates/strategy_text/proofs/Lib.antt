@@ -1,0 +1,10 @@
+pub mod Split
+pub mod Numerals
+pub mod Lines
+pub mod Steps
+pub mod HeadLines
+pub mod Taken
+pub mod Loops
+pub mod Again
+pub mod NodeLines
+pub mod Texts
