@@ -26,3 +26,8 @@ prepend_known-read held now left new read =
 pub IfSome-read : (P : List ℕ → Type 0) (first held now : List ℕ) (left new : Option (List ℕ)) → first ≡ held → ReadsOn held now left new → IfSome (prepend_known now new) P → IfSome (prepend_known first left) P
 IfSome-read P first held now left new is read holds =
     subst (λ told. IfSome told P) (sym (ap (λ xs. prepend_known xs left) is ∙ prepend_known-read held now left new read)) holds
+
+-- what was to come is a line, and then what is to come
+pub prepend_known-given : (first held now line rest : List ℕ) (left new : Option (List ℕ)) → first ≡ held → ReadsOn held now left new → now ≡ line ++ rest → prepend_known first left ≡ prepend_known line (prepend_known rest new)
+prepend_known-given first held now line rest left new is read split =
+    ap (λ xs. prepend_known xs left) is ∙ prepend_known-read held now left new read ∙ ap (λ xs. prepend_known xs new) split ∙ sym (prepend_known-prepend line rest new)

@@ -1,5 +1,6 @@
 -- Lines of bytes, and what stands next.
 use Rattle.std.specs.Prelude.{◌≡◌, ◌≢◌, ℕ, ◌<◌, ◌≤◌, List, [], ◌∷◌, ◌++◌, length, All, Option, None, Some, Result, Ok, Err}
+use Rattle.std.specs.Io.KnownBytes.{prepend_known}
 use Rattle.port_io.specs.declared.lines.Line.{Line}
 use Rattle.port_io.specs.declared.lines.Line.TheVariants.{Text, End, TooLong, Unfinished}
 
@@ -39,6 +40,15 @@ StandsNext End bytes = bytes ≡ []
 StandsNext TooLong bytes =
     (front : List ℕ) × (rest : List ℕ) × HasNoLf front × (longest_line < length front) × (bytes ≡ front ++ rest)
 StandsNext Unfinished bytes = IsLine bytes × (0 < length bytes)
+
+-- nothing else stands next than this
+abbrev pub OnlyStandsNext : Line → List ℕ → Type 0
+OnlyStandsNext line bytes = (other : Line) → StandsNext other bytes → line ≡ other
+
+-- what is to come for a reader: the bytes that it holds, and then those that the source has left, where
+-- the source tells them
+abbrev pub to_come : ReaderState → Option (List ℕ) → Option (List ℕ)
+to_come reader left = prepend_known reader.held left
 
 -- the line that an answer gives with its LF, or nothing
 abbrev pub line_given : {E : Type 0} → Result Line E → List ℕ → List ℕ

@@ -3,7 +3,7 @@ ghost use Rattle.std.specs.Prelude.{◌≡◌, ℕ, ◌+◌, ◌<◌, ◌≤◌,
 ghost use Rattle.std.specs.Io.KnownBytes.{prepend_known};
 ghost use Rattle.port_io.specs.Faults.{Rose};
 ghost use Rattle.port_io.specs.Reading.{ReadsOn};
-ghost use Rattle.port_io.specs.Lines.{lf, longest_line, HasNoLf, StandsNext, GivesText, line_given, ending_of};
+ghost use Rattle.port_io.specs.Lines.{lf, longest_line, HasNoLf, StandsNext, OnlyStandsNext, GivesText, to_come, line_given, ending_of};
 ghost use Rattle.port_io.specs.Found.{NoLfBelow, EndsAt, IsFound};
 
 use crate::read_ahead::ReadAhead;
@@ -91,14 +91,19 @@ impl LineReader {
     pub fn next_line<S: Source>(&mut self, source: &mut S) -> Result<Line, Failed>
         ensures count { S.faults source.old ≤ S.faults source.new }
 
-        // What was held, and what was read in this call, is the line given and what is held now.
-        ensures reads { ReadsOn self.old.held (line_given result self.new.text ++ self.new.held) (S.left source.old) (S.left source.new) }
-        ensures input { prepend_known self.old.held (S.left source.old) ≡ prepend_known (line_given result self.new.text ++ self.new.held) (S.left source.new) }
+        // What was held, and what was read in this call, is the line given and what is held now. So what
+        // was to come is the line given, and then what is to come.
+        ensures reads { ReadsOn self.old.held (line_given result self.new.text ++ self.new.held)
+            (S.left source.old) (S.left source.new) }
+        ensures input { to_come self.old (S.left source.old)
+            ≡ prepend_known (line_given result self.new.text) (to_come self.new (S.left source.new)) }
         ensures text { GivesText result self.new.text }
 
         // What it answers is what stands next, and nothing else stands next.
-        ensures answer { IfNone self.old.ending (IfOk result (λ line. IfSome (prepend_known self.old.held (S.left source.old)) (StandsNext line))) }
-        ensures only { IfNone self.old.ending (IfOk result (λ line. IfSome (prepend_known self.old.held (S.left source.old)) (λ bytes. (other : _) → StandsNext other bytes → line ≡ other))) }
+        ensures answer { IfNone self.old.ending (IfOk result (λ line.
+            IfSome (to_come self.old (S.left source.old)) (StandsNext line))) }
+        ensures only { IfNone self.old.ending (IfOk result (λ line.
+            IfSome (to_come self.old (S.left source.old)) (OnlyStandsNext line))) }
         ensures ending { IfOk result (λ line. self.new.ending ≡ ending_of line) }
 
         // After an ending.

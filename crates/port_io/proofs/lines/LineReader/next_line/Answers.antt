@@ -1,10 +1,24 @@
-use Rattle.std.proofs.Common.{ap, sym, ◌∙◌}
+use Rattle.std.proofs.Common.{◌+◌, take, drop, ap, sym, ◌∙◌}
 use Rattle.port_io.specs.Reading.{Ahead}
-use Rattle.port_io.specs.Lines.{ReaderState, StandsNext}
+use Rattle.port_io.specs.Lines.{ReaderState, StandsNext, with_lf}
 use Rattle.port_io.specs.declared.lines.Line.TheVariants.{Text}
-use Rattle.port_io.proofs.NextLemmas.{only-told, IfNone-any, Text-found, Ending-found}
-use Rattle.port_io.proofs.ReadingLemmas.{IfSome-read}
+use Rattle.port_io.proofs.NextLemmas.{only-told, IfNone-any, Text-found, Ending-found, IsLine-found, with_lf-found}
+use Rattle.port_io.proofs.ReadingLemmas.{IfSome-read, prepend_known-given}
 use Rattle.port_io.proofs.lines.LineReader.next_line.Goals as goal
+
+pub returns-in-Whole-clause-input : goal.returns-in-Whole-clause-input
+returns-in-Whole-clause-input g c =
+    let held_of : ReaderState → _ = λ r. r.held in
+    let ahead_of : Ahead → _ = λ a. a.held in
+    let now = c.find_next.new in
+    let n = c.in-Whole.length in
+    let found = rw c.in-Whole.is at c.in_ok-length.ensures.found in
+    rw c.give.ensures (prepend_known-given c.args.self.now.held c.forget.new.self.held now.ahead.held (with_lf (take n now.ahead.held)) (drop (n + 1) now.ahead.held) (g.S.Source.left c.args.source.now) (g.S.Source.left now.source) (sym (ap held_of c.self.view_is) ∙ sym (ap ahead_of c.forget.ensures)) c.find_next.ensures.reads (with_lf-found n now.ahead.held found))
+
+pub returns-in-Whole-clause-text : goal.returns-in-Whole-clause-text
+returns-in-Whole-clause-text g c =
+    let found = rw c.in-Whole.is at c.in_ok-length.ensures.found in
+    rw c.give.ensures (IsLine-found c.in-Whole.length c.find_next.new.ahead.held found)
 
 pub returns-in-Whole-clause-answer : goal.returns-in-Whole-clause-answer
 returns-in-Whole-clause-answer g c =
