@@ -1,14 +1,15 @@
 -- Loads after an item.
-use Rattle.std.proofs.Common.{◌≡◌, ℕ, ◌+◌, ◌<◌, List, length, get_or, set, cond, eqb, sum, arith, sym, ap, ◌∙◌}
+use Rattle.std.proofs.Common.{◌≡◌, ℕ, zero, suc, ◌+◌, ◌<◌, ◌≤◌, true, List, [], ◌∷◌, leb, refl, inl, inr, length, get_or, set, cond, eqb, sum, arith, sym, ap, ◌∙◌}
 use Rattle.std.specs.Prelude.{Contains, insert, remove, position, unwrap_or, nat_le}
 use Rattle.std.proofs.lemmas.List.{get_or_default}
 use Rattle.std.specs.List.{sum_by}
 use Rattle.std.proofs.lemmas.List.Sums.{sum_by-set}
+use Rattle.std.proofs.lemmas.Bool.{leb-true, leb-false, le-leb, cases_Bool}
 use Rattle.items.specs.Game.{GameNumbers}
 use Rattle.items.specs.Multiset.{count, Same}
-use Rattle.loads.specs.Descending.{put_descending, take_out}
+use Rattle.loads.specs.Descending.{IsDescending, put_descending, take_out}
 use Rattle.loads.specs.Loads.{IsLoads, IsLowestBin, loads_after}
-use Rattle.loads.proofs.DescendingLemmas.{IsDescending-put, IsDescending-take_out, All-put, All-take_out, length-put, length-take_out, take_out-remove, put_descending-insert, unwrap_or-position}
+use Rattle.loads.proofs.DescendingLemmas.{IsDescending-tail, IsDescending-head, IsDescending-put, IsDescending-take_out, All-put, All-take_out, length-put, length-take_out, take_out-remove, put_descending-insert, unwrap_or-position}
 use Rattle.loads.proofs.CountLemmas.{count-sum_by, Contains-Same, sum_by-put, sum_by-take_out, equal_from_Same}
 
 -- an item in a bin that stays below the target leaves loads of the game
@@ -62,3 +63,45 @@ Same-loads_after actual loads bin load size same within has x =
 -- loads of a game are the loads of that multiset
 pub equal_from_Same-loads : (game : GameNumbers) (xs ys : List ℕ) → IsLoads game xs → IsLoads game ys → Same xs ys → xs ≡ ys
 equal_from_Same-loads game xs ys h k = equal_from_Same xs ys h.descending k.descending
+
+-- a number put back where it was taken out
+pub put_descending-take_out : (x : ℕ) (ys : List ℕ) → IsDescending ys → Contains ys x → put_descending x (take_out x ys) ≡ ys
+put_descending-take_out x ys h member =
+    equal_from_Same (put_descending x (take_out x ys)) ys (IsDescending-put x (take_out x ys) (IsDescending-take_out x ys h)) h (λ z.
+    let put = sum_by-put (λ y. cond (eqb z y) 1 0) x (take_out x ys) in
+    let out = sum_by-take_out (λ y. cond (eqb z y) 1 0) x ys member in
+    omega (arith, count-sum_by z (put_descending x (take_out x ys)), count-sum_by z ys))
+
+-- a number that is no less than the first goes to the front
+put_descending-front : (x : ℕ) (ys : List ℕ) → IsDescending (x ∷ ys) → put_descending x ys ≡ x ∷ ys
+put_descending-front x [] h = refl
+put_descending-front x (y ∷ ys) h = let e = le-leb y x (IsDescending-head x y ys h) in rw e refl
+
+cons_rises : (x y : ℕ) (xs ys : List ℕ) → x ≤ y → ((k : ℕ) → get_or xs k 0 ≤ get_or ys k 0) → (k : ℕ) → get_or (x ∷ xs) k 0 ≤ get_or (y ∷ ys) k 0
+cons_rises x y xs ys le h zero = le
+cons_rises x y xs ys le h (suc k) = h k
+
+-- a greater number put in leaves no place lower
+pub put_descending-rises : (a b : ℕ) (ys : List ℕ) → a ≤ b → IsDescending ys → (k : ℕ) → get_or (put_descending a ys) k 0 ≤ get_or (put_descending b ys) k 0
+put_descending-rises a b [] le h = cons_rises a b [] [] le (λ k. omega arith)
+put_descending-rises a b (y ∷ ys) le h =
+    let t = IsDescending-tail y ys h in
+    elim (cases_Bool (leb y a)) [
+      | inl low ↦
+          let high : leb y b ≡ true = le-leb y b (let l = leb-true y a low in omega arith) in
+          rw (low, high) (cons_rises a b (y ∷ ys) (y ∷ ys) le (λ k. omega arith))
+      | inr low ↦
+          let under = leb-false y a low in
+          elim (cases_Bool (leb y b)) [
+            | inl high ↦ rw (low, high) (cons_rises y b (put_descending a ys) (y ∷ ys) (leb-true y b high)
+                (λ k. let r = put_descending-rises a y ys (omega arith) t k in rw (put_descending-front y ys h) at r))
+            | inr high ↦ rw (low, high) (cons_rises y y (put_descending a ys) (put_descending b ys) (omega arith) (put_descending-rises a b ys le t))
+          ]
+    ]
+
+-- no place of the loads is lower after an item
+pub loads_after-rises : (loads : List ℕ) (load size : ℕ) → IsDescending loads → Contains loads load → (k : ℕ) → get_or loads k 0 ≤ get_or (loads_after loads load size) k 0
+loads_after-rises loads load size h member k =
+    let out = take_out load loads in
+    let r = put_descending-rises load (load + size) out (omega arith) (IsDescending-take_out load loads h) k in
+    rw (put_descending-take_out load loads h member) at r

@@ -14,11 +14,15 @@ pub fn bin_with(actual: &[u16], load: u16) -> Option<u8>
     first_place(actual, load).map(|bin| bin as u8)
 }
 
-/// Whether the loads by bin number are these loads but for the numbers of the bins.
+/// Whether the loads by bin number are these loads but for the numbers of the bins. Takes a time
+/// that grows with the square of the number of bins.
 pub fn same_up_to_renaming(actual: &[u16], loads: &Loads) -> bool
     ensures same { IsTrue result ↔ Same actual.now loads.now }
 {
     let loads = loads.as_slice();
+    if actual.len() != loads.len() {
+        return false;
+    }
     all_as_often(actual, actual, loads) && all_as_often(loads, actual, loads)
 }
 

@@ -1,10 +1,11 @@
 //! Facts about loads that each call here proves of what it is given.
 
-ghost use Rattle.std.specs.Prelude.{◌≡◌, ◌↔◌, ◌+◌, ◌<◌, ℕ, Contains, IsTrue, length, slice_index, slice_set, sum};
+ghost use Rattle.std.specs.Prelude.{◌≡◌, ◌↔◌, ◌+◌, ◌<◌, ◌≤◌, ℕ, Contains, IsTrue, length, slice_index, slice_set, sum};
 ghost use Rattle.items.specs.Multiset.{Same};
 ghost use Rattle.loads.specs.Descending.{IsStrictlyDescending, distinct};
 ghost use Rattle.loads.specs.Loads.{loads_after};
 
+use crate::position::Position;
 use crate::sorted_loads::Loads;
 use std::hash::Hash;
 
@@ -39,8 +40,23 @@ pub fn an_item_adds_its_size(loads: &Loads, load: u16, size: u16)
     ensures number { length (loads_after loads.now load size) ≡ length loads.now }
 {}
 
+/// No place of the descending loads is lower after an item.
+pub fn loads_never_fall(loads: &Loads, load: u16, size: u16)
+    requires { Contains loads.now load }
+    ensures { (k : ℕ) → slice_index loads.now k ≤ slice_index (loads_after loads.now load size) k }
+{
+    let _loads = loads.as_slice();
+}
+
 /// The comparison of loads says that they are equal exactly where they are, and equal loads hash alike.
 pub fn equality_of_loads_is_exact(first: &Loads, second: &Loads)
     ensures exact { IsTrue (⟦<Loads as PartialEq>⟧.eq first.now second.now) ↔ (first.now ≡ second.now) }
     ensures hash { IsTrue (⟦<Loads as PartialEq>⟧.eq first.now second.now) → ⟦<Loads as Hash>⟧.hash_input first.now ≡ ⟦<Loads as Hash>⟧.hash_input second.now }
+{}
+
+/// The comparison of positions says that they are equal exactly where both loads and items are, and equal
+/// positions hash alike.
+pub fn equality_of_positions_is_exact(first: &Position, second: &Position)
+    ensures exact { IsTrue (⟦<Position as PartialEq>⟧.eq first.now second.now) ↔ (first.now ≡ second.now) }
+    ensures hash { IsTrue (⟦<Position as PartialEq>⟧.eq first.now second.now) → ⟦<Position as Hash>⟧.hash_input first.now ≡ ⟦<Position as Hash>⟧.hash_input second.now }
 {}

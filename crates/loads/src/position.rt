@@ -6,7 +6,7 @@ use std::mem::size_of;
 
 /// A position: the loads of the bins and the items so far. Bins are alike, so positions are taken up to
 /// the numbers of the bins. A position takes about 300 bytes and no memory besides.
-#[derive(Drop)]
+#[derive(PartialEq, Eq, Hash, Debug, Drop)]
 pub struct Position {
     /// The loads, descending.
     pub loads: Loads,

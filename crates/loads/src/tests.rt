@@ -1,6 +1,7 @@
 use super::*;
 use items::{Game, Items};
 use std::alloc::Global;
+use std::collections::HashSet;
 use std::test::Fail;
 
 fn small_game() -> Result<Game, Fail> {
@@ -96,5 +97,36 @@ fn positions_are_kept_in_their_order(rt: HostRuntime) -> Result<(), Fail> {
     let first = positions.get(0).ok_or("no position")?;
     assert_eq!(rt; first.loads.as_slice(), [0, 0, 0].as_slice());
     assert!(rt; positions.get(1).is_none());
+    Ok(())
+}
+
+#[test]
+fn equal_positions_are_one_key(rt: HostRuntime) -> Result<(), Fail> {
+    let game = Game::new(2, 3, 4)?;
+    let one = Loads::from_slice(rt.alloc(), &game, &[1, 1]).ok_or("refused")?;
+    let other = Loads::from_slice(rt.alloc(), &game, &[2, 0]).ok_or("refused")?;
+    let items = Items::from_slice(&game, &[1, 1]).ok_or("refused")?;
+    let first = Position {
+        loads: one.copy(),
+        items: items.copy(),
+    };
+    let same = Position {
+        loads: one.copy(),
+        items: items.copy(),
+    };
+    let other_loads = Position {
+        loads: other,
+        items,
+    };
+    let other_items = Position {
+        loads: one,
+        items: Items::from_slice(&game, &[2]).ok_or("refused")?,
+    };
+    assert!(rt; first == same);
+    let mut seen = HashSet::new(rt.alloc());
+    seen.insert(first)?;
+    assert!(rt; seen.contains(&same));
+    assert!(rt; !seen.contains(&other_loads));
+    assert!(rt; !seen.contains(&other_items));
     Ok(())
 }
