@@ -1,5 +1,5 @@
 -- The words of a node are read as the node.
-use Rattle.std.proofs.Common.{◌≡◌, ◌≢◌, ℕ, zero, suc, ◌+◌, ◌<◌, ◌≤◌, ◌^◌, Bool, true, false, not, cond, ◌==◌, List, [], ◌∷◌, ◌++◌, length, map, decimal, codes, Option, Some, None, refl, sym, ap, subst, ◌∙◌, arith, append_assoc, length-append, All}
+use Rattle.std.proofs.Common.{◌≡◌, ◌≢◌, ℕ, zero, suc, ◌≤◌, Bool, true, false, ◌==◌, List, [], ◌∷◌, ◌++◌, length, map, decimal, codes, Option, Some, None, refl, sym, ap, ◌∙◌, arith, append_assoc, length-append, All}
 use Rattle.std.specs.List.{flat_map, AllByRecursion}
 use Rattle.std.specs.Str.{bytes_eq}
 use Rattle.std.proofs.lemmas.Slice.Eq.{bytes_eq-Decides}
@@ -11,8 +11,8 @@ use Rattle.strategy_text.specs.declared.node.Then.{Then}
 use Rattle.strategy_text.specs.declared.node.Then.TheVariants.{Over, To}
 use Rattle.strategy_text.specs.Text.{list_words, pack_words, then_words, placement_words, adversary_words}
 use Rattle.strategy_text.specs.Spelling.{IsNumber, IsThen, IsPlacement, IsSpellable}
-use Rattle.strategy_text.specs.Words.{number_of, after, number_at}
-use Rattle.strategy_text.specs.Reading.{◌>>=◌, whole, numbers_from, numbers_at, some_at, list_or, list_at, with_front, many_from, many_at, each_at, bins_at, pack_at, child_at, then_or, then_at, placement_at, placements_at, numbered_at, labelled_at, send_at, adversary_at}
+use Rattle.strategy_text.specs.Words.{number_of, after}
+use Rattle.strategy_text.specs.Reading.{numbers_at, list_at, many_at, pack_at, then_at, placement_at, placements_at, numbered_at, labelled_at, send_at, adversary_at}
 use Rattle.strategy_text.proofs.Numerals.{number_again}
 use Rattle.strategy_text.proofs.Steps.{after_again, number_at_again, some_again}
 use Rattle.strategy_text.proofs.Taken.{behind, pack_bins, joined}

@@ -1,13 +1,13 @@
 -- The lines of a game and of a number of nodes are read as what they spell, and no other lines.
-use Rattle.std.proofs.Common.{◌≡◌, ◌≢◌, ℕ, zero, suc, ◌+◌, ◌-◌, ◌*◌, ◌<◌, ◌≤◌, ◌^◌, Bool, true, false, not, cond, ◌&&◌, ◌==◌, List, [], ◌∷◌, ◌++◌, length, map, decimal, codes, Option, Some, None, refl, sym, ap, subst, ◌∙◌, arith, rules}
+use Rattle.std.proofs.Common.{◌≡◌, ℕ, ◌≤◌, Bool, true, false, cond, ◌==◌, List, [], ◌∷◌, decimal, codes, Option, Some, None, refl, sym, ap, subst, ◌∙◌, arith}
 use Rattle.std.specs.Prelude.{MatchOption}
 use Rattle.std.proofs.lemmas.Bool.Decides.{nat_tests}
 use Rattle.std.specs.Option.{option_map}
 use Rattle.items.specs.Game.{GameNumbers, numbers}
-use Rattle.strategy_text.specs.Text.{line_of, game_line, count_line}
-use Rattle.strategy_text.specs.Spelling.{IsNumber, SpellsGame, SpellsCount}
-use Rattle.strategy_text.specs.Words.{words_left, after, number_at}
-use Rattle.strategy_text.specs.Reading.{◌>>=◌, whole, game_at, count_at}
+use Rattle.strategy_text.specs.Text.{game_line, count_line}
+use Rattle.strategy_text.specs.Spelling.{SpellsGame, SpellsCount}
+use Rattle.strategy_text.specs.Words.{words_left}
+use Rattle.strategy_text.specs.Reading.{whole, game_at, count_at}
 use Rattle.strategy_text.proofs.Lines.{words_again, line_takes, decimal_word}
 use Rattle.strategy_text.proofs.Steps.{after_then, number_then, after_again, number_at_again, whole_takes}
 

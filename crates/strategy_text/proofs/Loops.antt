@@ -1,12 +1,12 @@
 -- Reading values one after the other, as a loop does.
-use Rattle.std.proofs.Common.{◌≡◌, ◌≢◌, ℕ, zero, suc, ◌+◌, ◌-◌, ◌*◌, ◌<◌, ◌≤◌, ◌^◌, Bool, true, false, not, cond, ◌&&◌, ◌==◌, List, [], ◌∷◌, ◌++◌, length, map, decimal, codes, Option, Some, None, Result, Err, refl, sym, ap, subst, ◌∙◌, arith, rules, append_assoc, length-append}
+use Rattle.std.proofs.Common.{◌≡◌, ℕ, zero, suc, ◌<◌, ◌≤◌, List, [], ◌∷◌, ◌++◌, length, Option, Some, None, Result, Err, refl, sym, ap, ◌∙◌, arith, append_assoc}
 use Rattle.std.specs.Option.{option_map}
 use Rattle.std.proofs.lemmas.List.{append-nil}
 use Rattle.strategy_text.specs.declared.stop.Stop.{Stop}
 use Rattle.strategy_text.specs.declared.stop.Stop.TheVariants.{Memory, Form}
 use Rattle.strategy_text.specs.Words.{number_of, after, number_at}
-use Rattle.strategy_text.specs.Reading.{◌>>=◌, Reads, numbers_from, numbers_at, with_front, many_from, many_at, each_at}
-use Rattle.strategy_text.proofs.Steps.{mapped, after_takes, number_at_takes}
+use Rattle.strategy_text.specs.Reading.{Reads, numbers_at, with_front, many_at, each_at}
+use Rattle.strategy_text.proofs.Steps.{mapped, after_takes}
 
 -- ---- numbers
 

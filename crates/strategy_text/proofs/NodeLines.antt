@@ -1,5 +1,5 @@
 -- The lines of nodes are read as what they spell, and no other lines.
-use Rattle.std.proofs.Common.{◌≡◌, ◌≢◌, ℕ, zero, suc, ◌+◌, ◌<◌, ◌≤◌, ◌^◌, Bool, true, false, List, [], ◌∷◌, ◌++◌, length, map, decimal, codes, Option, Some, None, refl, sym, ap, subst, ◌∙◌, arith, append_assoc, All}
+use Rattle.std.proofs.Common.{◌≡◌, ℕ, ◌≤◌, List, [], ◌∷◌, ◌++◌, map, decimal, codes, Some, None, refl, ap, ◌∙◌, arith, All}
 use Rattle.std.specs.List.{flat_map, AllByRecursion}
 use Rattle.std.proofs.lemmas.List.Elements.{recursion_from_All}
 use Rattle.strategy_text.specs.declared.node.AdvNode.{AdvNode}
@@ -10,7 +10,7 @@ use Rattle.strategy_text.specs.Text.{list_words, pack_words, then_words, placeme
 use Rattle.strategy_text.specs.Spelling.{IsNumber, IsThen, IsPlacement, IsSpellable, SpellsAdversary}
 use Rattle.strategy_text.specs.Words.{words_left}
 use Rattle.strategy_text.specs.Reading.{adversary_at}
-use Rattle.strategy_text.proofs.Lines.{is_word, AreWords, AreWords-append, decimal_word, words_again, line_takes}
+use Rattle.strategy_text.proofs.Lines.{AreWords, AreWords-append, decimal_word, words_again, line_takes}
 use Rattle.strategy_text.proofs.Taken.{pack_bins, adversary_takes}
 use Rattle.strategy_text.proofs.Again.{each_recursion, adversary_again}
 

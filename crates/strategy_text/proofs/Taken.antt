@@ -1,6 +1,5 @@
 -- What is read of the words of a node is spelled so.
-use Rattle.std.proofs.Common.{◌≡◌, ◌≢◌, ℕ, zero, suc, ◌+◌, ◌-◌, ◌*◌, ◌<◌, ◌≤◌, ◌^◌, Bool, true, false, not, cond, ◌&&◌, ◌==◌, List, [], ◌∷◌, ◌++◌, length, map, decimal, codes, Option, Some, None, refl, sym, ap, subst, ◌∙◌, arith, rules, append_assoc, length-append, All}
-use Rattle.std.specs.Option.{option_map}
+use Rattle.std.proofs.Common.{◌≡◌, ◌≢◌, ℕ, zero, suc, ◌≤◌, ◌==◌, List, [], ◌∷◌, ◌++◌, length, map, decimal, codes, Option, Some, None, refl, sym, ap, subst, ◌∙◌, arith, append_assoc, length-append, All}
 use Rattle.std.specs.List.{flat_map, AllByRecursion}
 use Rattle.std.proofs.lemmas.Bool.{eqb-true}
 use Rattle.std.proofs.lemmas.List.{append-nil}
@@ -11,7 +10,7 @@ use Rattle.strategy_text.specs.declared.node.Then.{Then}
 use Rattle.strategy_text.specs.declared.node.Then.TheVariants.{Over, To}
 use Rattle.strategy_text.specs.Text.{list_words, pack_words, then_words, placement_words, adversary_words}
 use Rattle.strategy_text.specs.Spelling.{IsNumber, IsThen, IsPlacement, IsSpellable}
-use Rattle.strategy_text.specs.Words.{number_of, after, number_at}
+use Rattle.strategy_text.specs.Words.{number_of, after}
 use Rattle.strategy_text.specs.Reading.{◌>>=◌, whole, numbers_from, numbers_at, some_at, list_or, list_at, with_front, many_from, many_at, each_at, bins_at, pack_at, child_at, then_or, then_at, placement_at, placements_at, numbered_at, labelled_at, send_at, adversary_at}
 use Rattle.strategy_text.proofs.Numerals.{number_takes}
 use Rattle.strategy_text.proofs.Steps.{bind_some, some_is, test_some, after_takes, after_then, some_takes, number_at_takes, number_then, whole_takes}

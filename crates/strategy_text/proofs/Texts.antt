@@ -1,5 +1,5 @@
 -- The text of a strategy of the adversary tells its game and its nodes, whatever follows it.
-use Rattle.std.proofs.Common.{◌≡◌, ◌≢◌, ℕ, zero, suc, ◌+◌, ◌<◌, ◌≤◌, ◌^◌, Bool, true, false, List, [], ◌∷◌, ◌++◌, length, map, decimal, codes, Option, Some, None, refl, sym, ap, subst, ◌∙◌, arith, append_assoc, All}
+use Rattle.std.proofs.Common.{◌≡◌, ℕ, suc, ◌+◌, ◌≤◌, true, List, [], ◌∷◌, ◌++◌, length, decimal, codes, Some, refl, sym, ap, ◌∙◌, arith}
 use Rattle.std.specs.List.{AllByRecursion}
 use Rattle.std.proofs.lemmas.List.{append-nil}
 use Rattle.std.proofs.lemmas.List.Elements.{recursion_from_All}
@@ -7,7 +7,7 @@ use Rattle.items.specs.Game.{GameNumbers}
 use Rattle.strategy_text.specs.declared.node.AdvNode.{AdvNode}
 use Rattle.strategy_text.specs.declared.node.Side.TheVariants.{Adversary}
 use Rattle.strategy_text.specs.Text.{text_of_lines, first_line, game_line, side_line, count_line, end_line, adversary_words, adversary_line, adversary_lines, adversary_text}
-use Rattle.strategy_text.specs.Spelling.{IsNumber, IsSpellable, SpellsGame, SpellsCount, SpellsAdversary}
+use Rattle.strategy_text.specs.Spelling.{IsSpellable, SpellsGame, SpellsCount}
 use Rattle.strategy_text.specs.Laws.{HasText, TextTellsStrategy, NoTextBeginsAnother}
 use Rattle.strategy_text.specs.Words.{words_left}
 use Rattle.strategy_text.specs.Reading.{game_at, count_at, adversary_at}

@@ -24,7 +24,7 @@ fn numbers(alloc: Global, words: &mut Words) -> Result<Nums, AllocError>
 }
 
 /// A list of numbers: a dash for none, else one or more numbers.
-#[tactic(auto, unfolding(crate::specs::Reading::list_at))]
+#[tactic(auto, using(crate::proofs::Steps::some_again), unfolding(crate::specs::Reading::list_at))]
 fn list(alloc: Global, words: &mut Words) -> Result<Nums, Stop>
     ensures { Reads result words.new (list_at words.old) }
 {
@@ -32,7 +32,7 @@ fn list(alloc: Global, words: &mut Words) -> Result<Nums, Stop>
         return Ok(Sequence::new(alloc));
     }
     let list = numbers(alloc, words)?;
-    if list.len() == 0 {
+    if list.is_empty() {
         return Err(Stop::Form);
     }
     Ok(list)
@@ -103,12 +103,12 @@ fn each_placement(alloc: Global, words: &mut Words) -> Result<Placements, Stop>
 }
 
 /// The placements, at least one.
-#[tactic(auto, unfolding(crate::specs::Reading::placements_at))]
+#[tactic(auto, using(crate::proofs::Steps::some_again), unfolding(crate::specs::Reading::placements_at))]
 fn placements(alloc: Global, words: &mut Words) -> Result<Placements, Stop>
     ensures { Reads result words.new (placements_at words.old) }
 {
     let placements = each_placement(alloc, words)?;
-    if placements.len() == 0 {
+    if placements.is_empty() {
         return Err(Stop::Form);
     }
     Ok(placements)

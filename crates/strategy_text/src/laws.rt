@@ -7,5 +7,4 @@ ghost use Rattle.strategy_text.specs.Laws.{TextTellsStrategy, NoTextBeginsAnothe
 pub fn text_is_unique()
     ensures same { TextTellsStrategy }
     ensures prefix { NoTextBeginsAnother }
-{
-}
+{}

@@ -14,3 +14,6 @@ pub use head::{parse_end, parse_first, parse_game, parse_nodes, parse_side};
 pub use laws::text_is_unique;
 pub use node::{AdvNode, AdvNodes, Placement, Placements, Side, Then};
 pub use rule::Rule;
+
+#[cfg(test)]
+mod tests;

@@ -1,6 +1,6 @@
-use Rattle.std.proofs.Common.{◌≡◌, ◌∷◌, [], List, ℕ, ◌∙◌, refl, codes, arith}
+use Rattle.std.proofs.Common.{◌≡◌, ◌∷◌, [], ◌∙◌, refl, codes, arith}
 use Rattle.std.proofs.lemmas.Result.{err_from_is_err_and}
-use Rattle.strategy_text.specs.Reading.{list_at, bins_at, with_front, each_at}
+use Rattle.strategy_text.specs.Reading.{list_at, bins_at}
 use Rattle.strategy_text.proofs.Loops.{many_more, many_fails, many_ends, after_shrinks}
 use Rattle.strategy_text.proofs.Taken.{list_shrinks}
 use Rattle.strategy_text.proofs.adversary.bins.Goals as goal

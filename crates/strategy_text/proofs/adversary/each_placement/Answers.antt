@@ -1,5 +1,5 @@
 use Rattle.std.proofs.Common.{codes, arith}
-use Rattle.strategy_text.specs.Reading.{placement_at, with_front, each_at}
+use Rattle.strategy_text.specs.Reading.{placement_at}
 use Rattle.strategy_text.proofs.Loops.{many_more, many_stops, many_ends, from_front, after_shrinks}
 use Rattle.strategy_text.proofs.Taken.{placement_shrinks}
 use Rattle.strategy_text.proofs.adversary.each_placement.Goals as goal
