@@ -3,4 +3,4 @@
 
 mod rules;
 
-pub use rules::node_fault;
+pub use rules::{node_fault, node_position};

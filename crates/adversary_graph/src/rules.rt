@@ -6,7 +6,7 @@ ghost use Rattle.std.specs.List.{AllByRecursion};
 ghost use Rattle.items.specs.Packable.{IsPacking};
 ghost use Rattle.loads.specs.Loads.{IsLoads, loads_after};
 ghost use Rattle.loads.specs.Descending.{distinct};
-ghost use Rattle.adversary_graph.specs.Rules.{MeetsRules, Breaks, Meets, IsFirstBroken, rules_past_items, AreItemsOf, IsOverAtTarget, LeadsTo, IsEmptyPosition, position};
+ghost use Rattle.adversary_graph.specs.Rules.{MeetsRules, Breaks, Meets, IsFirstBroken, rules_past_items, AreItemsOf, IsOverAtTarget, LeadsTo, IsEmptyPosition, position, position_of};
 
 use items::{Game, Items};
 use loads::{Loads, Position, Positions};
@@ -30,6 +30,18 @@ pub fn node_fault(game: &Game, earlier: &Positions, last: bool, node: &AdvNode) 
         return Some(Rule::Items);
     };
     fault_past_items(game, earlier, last, node, &loads, &items)
+}
+
+/// The position of a node that meets the rules `loads` and `items`. Takes no memory.
+pub fn node_position(game: &Game, node: &AdvNode) -> Position
+    requires loads { IsLoads game.now node.now.loads }
+    requires items { AreItemsOf (sizes_of game.now) node.now.loads node.now.items }
+    ensures value { result ≡ position_of node.now }
+{
+    let loads = node.loads.as_slice();
+    let loads = Loads::from_slice(node.loads.allocator(), game, loads).unwrap();
+    let items = items_of(game, &loads, node.items.as_slice()).unwrap();
+    Position { loads, items }
 }
 
 // The first rule past `items` that the node breaks.

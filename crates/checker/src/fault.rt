@@ -1,0 +1,56 @@
+//! What a check comes to.
+
+ghost use Rattle.std.specs.Prelude.{◌≡◌};
+ghost use Rattle.checker.specs.declared.fault.CheckFault.TheVariants.{Memory};
+
+use items::Game;
+use std::alloc::{AllocError, AllocFailed};
+use strategy_text::{Rule, Side};
+use thiserror::Error;
+
+/// What is wrong with a line.
+#[derive(Clone, Copy, Debug, PartialEq, Eq)]
+pub enum Why {
+    /// The line is missing, unfinished, too long, or not of the form of its place.
+    Syntax,
+    /// The line breaks this rule, the first in their order.
+    Rule(Rule),
+}
+
+/// Why a text was not accepted.
+#[derive(Debug, Drop, Error)]
+pub enum CheckFault {
+    /// The text has this first fault, in this line, counted from 1.
+    #[error("line {line} has a fault")]
+    Rejected { line: u64, why: Why },
+    /// A read failed.
+    #[error("a read failed")]
+    Read,
+    /// Memory was refused.
+    #[error("memory was refused")]
+    Memory,
+}
+
+impl From<AllocError> for CheckFault {
+    ghost from_gives = { λ _ fault. fault ≡ Memory };
+
+    fn from(_error: AllocError) -> CheckFault {
+        CheckFault::Memory
+    }
+}
+
+impl<T: Drop> From<AllocFailed<T>> for CheckFault {
+    ghost from_gives = { λ _ fault. fault ≡ Memory };
+
+    fn from(_error: AllocFailed<T>) -> CheckFault {
+        CheckFault::Memory
+    }
+}
+
+/// A legal strategy that was read: its game, its side, and how many nodes it has.
+#[derive(Clone, Copy)]
+pub struct Accepted {
+    pub game: Game,
+    pub side: Side,
+    pub nodes: u32,
+}

@@ -1,0 +1,8 @@
+//! The checker: reads the text of a strategy line by line, and judges each node as soon as its line is whole.
+#![tactic(auto)]
+
+mod fault;
+mod reading;
+
+pub use fault::{Accepted, CheckFault, Why};
+pub use reading::check;
