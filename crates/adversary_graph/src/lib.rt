@@ -4,3 +4,6 @@
 mod rules;
 
 pub use rules::{node_fault, node_position};
+
+#[cfg(test)]
+mod tests;
