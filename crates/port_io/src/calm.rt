@@ -36,12 +36,15 @@ impl<'a> Source for CalmSource<'a> {
 
     /// Gives as many bytes as are left and as the buffer has room for.
     fn read(&mut self, buf: &mut [u8]) -> Result<usize, Failed>
+        // What every source promises.
         ensures count { 0 ≤ 0 }
         ensures bound { IfOk result (λ n. n ≤ length buf.old) }
         ensures given { IfOk result (λ n. Some self.old ≡ prepend_known (take n buf.new) (Some self.new)) }
         ensures end { IfOk result (λ n. n ≡ 0 → 0 < length buf.old → IsAtEnd (Some self.old)) }
         ensures failed { OnErr result (Rose 0 0) }
         ensures kept { OnErr result (Some self.new ≡ Some self.old) }
+
+        // It never fails, and gives as much as there is and fits.
         ensures amount { result ≡ Ok (min (length self.old) (length buf.old)) }
     {
         let count = copy_front(self.rest, buf, usize::MAX);

@@ -1,5 +1,5 @@
 //! Reading a source line by line.
-ghost use Rattle.std.specs.Prelude.{◌≡◌, ℕ, ◌+◌, ◌<◌, ◌≤◌, [], None, Some, Ok, ◌++◌, Option, IfOk, OnErr, IsOk, IfSome, IfNone, Contains, length};
+ghost use Rattle.std.specs.Prelude.{◌≡◌, ◌+◌, ◌<◌, ◌≤◌, [], None, Some, Ok, ◌++◌, Option, IfOk, OnErr, IsOk, IfSome, IfNone, Contains, length};
 ghost use Rattle.std.specs.Io.KnownBytes.{prepend_known};
 ghost use Rattle.port_io.specs.Faults.{Rose};
 ghost use Rattle.port_io.specs.Reading.{ReadsOn};
@@ -46,7 +46,7 @@ pub struct LineReader {
 }
 
 impl Model for LineReader {
-    ghost use Rattle.std.specs.Prelude.{◌≢◌, Some, OnSome};
+    ghost use Rattle.std.specs.Prelude.{◌≢◌, Some};
     ghost use Rattle.port_io.specs.Lines.{ReaderState};
     ghost use Rattle.port_io.specs.declared.lines.Line.TheVariants.{Text};
 

@@ -1,5 +1,5 @@
 //! A source and a sink in memory, whose reads and writes fail where they are told to.
-ghost use Rattle.std.specs.Prelude.{◌≡◌, ℕ, ◌+◌, ◌-◌, ◌^◌, ◌<◌, ◌≤◌, ◌⊎◌, ◌↔◌, List, Some, Ok, IfOk, OnErr, IsTrue, IsErr, is_err, if◌then◌else◌, Contains, length, take, drop, min, [], ◌==◌};
+ghost use Rattle.std.specs.Prelude.{◌≡◌, ◌+◌, ◌-◌, ◌^◌, ◌<◌, ◌≤◌, ◌⊎◌, ◌↔◌, Some, Ok, IfOk, OnErr, IsTrue, IsErr, is_err, if◌then◌else◌, Contains, length, take, drop, min, [], ◌==◌};
 ghost use Rattle.std.specs.Io.KnownBytes.{prepend_known, append_known, IsAtEnd};
 ghost use Rattle.port_io.specs.Faults.{Rose};
 
@@ -86,6 +86,7 @@ impl Source for MemSource {
     ghost faults = { λ s. s.faults };
 
     fn read(&mut self, buf: &mut [u8]) -> Result<usize, Failed>
+        // What every source promises.
         ensures count { self.old.faults ≤ self.new.faults }
         ensures bound { IfOk result (λ n. n ≤ length buf.old) }
         ensures given { IfOk result (λ n. Some self.old.left ≡ prepend_known (take n buf.new) (Some self.new.left)) }
@@ -178,6 +179,7 @@ impl Sink for MemSink {
     ghost faults = { λ s. s.faults };
 
     fn write(&mut self, piece: &[u8]) -> Result<usize, Failed>
+        // What every sink promises.
         ensures count { self.old.faults ≤ self.new.faults }
         ensures bound { IfOk result (λ n. n ≤ length piece.now) }
         ensures progress { IfOk result (λ n. 0 < length piece.now → 0 < n) }

@@ -1,7 +1,5 @@
 //! Worked cases, and what no clause says: that memory is found, and how large a read is asked for.
-ghost use Rattle.std.specs.Prelude.{◌≡◌, ◌<◌, ◌≤◌, Some, IfOk, OnErr, length, take};
-ghost use Rattle.std.specs.Io.KnownBytes.{prepend_known, IsAtEnd};
-ghost use Rattle.port_io.specs.Faults.{Rose};
+ghost use Rattle.std.specs.Prelude.{Some};
 
 use crate::{
     CalmSink, CalmSource, Failed, Line, LineReader, MemSink, MemSource, Sink, Source, put_all,
