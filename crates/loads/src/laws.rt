@@ -1,4 +1,4 @@
-//! Facts about loads that each call here proves of what it is given.
+//! Laws of loads and positions, as contracts of functions that do nothing.
 
 ghost use Rattle.std.specs.Prelude.{◌≡◌, ◌↔◌, ◌+◌, ◌<◌, ◌≤◌, ℕ, Contains, IsTrue, length, slice_index, slice_set, sum};
 ghost use Rattle.items.specs.Multiset.{Same};
