@@ -1,4 +1,4 @@
-//! The lines that are nodes of the adversary.
+//! The lines that are nodes of the adversary. Their form is this project's.
 
 ghost use Rattle.std.specs.Prelude.{◌≡◌, ◌∷◌, [], IfOk, IfSome, IfNone, MatchBool, Some, None, codes};
 ghost use Rattle.strategy_text.specs.declared.node.AdvNode.{AdvNode};

@@ -1,4 +1,4 @@
-//! The lines of a strategy that are no nodes.
+//! The lines of a strategy that are no nodes. Their forms are this project's.
 
 ghost use Rattle.std.specs.Prelude.{◌≡◌, ◌↔◌, ℕ, IsTrue, MatchOption};
 ghost use Rattle.std.specs.Option.{option_map};
@@ -11,7 +11,7 @@ ghost use Rattle.strategy_text.specs.Reading.{game_at, count_at};
 use crate::node::Side;
 use crate::words::Words;
 
-/// The most nodes that a strategy has.
+/// The most nodes that a strategy has. This limit is this project's.
 const NODES: u32 = 4_000_000_000;
 
 /// Whether a line, without its line feed, is the first of a strategy. Takes no memory.

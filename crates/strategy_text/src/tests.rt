@@ -152,7 +152,7 @@ fn a_number_of_nodes_is_from_1_to_4_000_000_000(rt: HostRuntime) {
 }
 
 #[test]
-fn the_order_of_rules_and_sides_prints(rt: HostRuntime) -> Result<(), Fail> {
+fn rules_and_sides_print_their_names(rt: HostRuntime) -> Result<(), Fail> {
     let printed = format!(in rt.alloc(); "{:?} {:?}", Rule::Game, Side::Adversary)?;
     assert_eq!(rt; printed.as_str(), "Game Adversary");
     assert!(rt; Rule::Loads != Rule::Items);
