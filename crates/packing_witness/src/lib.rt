@@ -2,6 +2,10 @@
 #![tactic(auto)]
 
 mod counters;
+mod edits;
 mod packing;
 
 pub use packing::Packing;
+
+#[cfg(test)]
+mod tests;
