@@ -3,6 +3,7 @@
 
 mod counters;
 mod edits;
+pub mod laws;
 mod packing;
 
 pub use packing::Packing;
