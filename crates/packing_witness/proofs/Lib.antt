@@ -1,3 +1,4 @@
 pub mod CountLemmas
 pub mod EditLemmas
 pub mod PackableLemmas
+pub mod PackingLemmas

@@ -1,11 +1,11 @@
 -- Assignments from packings, packings from assignments, and what follows for packable lists.
-use Rattle.std.proofs.Common.{◌≡◌, ◌≢◌, ◌⊎◌, ℕ, zero, suc, ◌+◌, ◌-◌, ◌*◌, ◌<◌, ◌≤◌, Some, None, List, [], ◌∷◌, ◌++◌, length, get_or, set, replicate, sum, cond, eqb, refl, sym, ap, ◌∙◌, inl, inr, subst, arith}
+use Rattle.std.proofs.Common.{◌≡◌, ◌≢◌, ℕ, zero, suc, ◌+◌, ◌*◌, ◌<◌, ◌≤◌, Some, None, List, [], ◌∷◌, ◌++◌, length, get_or, set, replicate, sum, cond, eqb, refl, sym, ap, ◌∙◌, inl, inr, subst, arith}
 use Rattle.std.specs.Prelude.{All}
 use Rattle.std.specs.List.{concat, sum_by, count_by}
 use Rattle.std.proofs.lemmas.Bool.{cases_eq, cases_lt, cond-true, cond-false, eq-eqb, ne_eqb, lt-ltb, le-ltb}
 use Rattle.std.proofs.lemmas.List.{length-append, length-set, get_or-set_same, get_or-set_other, get_or_default}
 use Rattle.std.proofs.lemmas.List.Sums.{sum_by-cons, sum_by-append, sum_by-set, sum_by-le}
-use Rattle.std.proofs.lemmas.List.Elements.{All-nil, All-cons, All-head, All-tail, All-get_or, All-append, All-weaker}
+use Rattle.std.proofs.lemmas.List.Elements.{All-nil, All-cons, All-head, All-tail, All-get_or, All-weaker}
 use Rattle.items.specs.Game.{GameNumbers}
 use Rattle.items.specs.Multiset.{count, Same, IsSize, is_big, put_ascending}
 use Rattle.items.specs.Packable.{Packable, IsAssignment, IsPacking, bin_total}
@@ -232,14 +232,14 @@ pub packing-from_Packable : (game : GameNumbers) (items : List ℕ) → Packable
 packing-from_Packable game items p = (bins_of game.bins items p.0, IsPacking-bins_of game items p.0 p.1)
 
 -- a number that stands in a list has what each number of the list has
-at_count : (P : ℕ → Type 0) (x : ℕ) (xs : List ℕ) → All P xs → 0 < count x xs → P x
+pub at_count : (P : ℕ → Type 0) (x : ℕ) (xs : List ℕ) → All P xs → 0 < count x xs → P x
 at_count P x [] all some = absurd (omega arith)
 at_count P x (y ∷ ys) all some = elim (cases_eq x y) [
   | inl e ↦ subst P (sym e) (All-head P y ys all)
   | inr ne ↦ at_count P x ys (All-tail P y ys all) (omega (arith, some, count_other x y (count x ys) ne))
 ]
 
-all_from_counts : (P : ℕ → Type 0) (xs : List ℕ) → ((x : ℕ) → 0 < count x xs → P x) → All P xs
+pub all_from_counts : (P : ℕ → Type 0) (xs : List ℕ) → ((x : ℕ) → 0 < count x xs → P x) → All P xs
 all_from_counts P [] each = All-nil P
 all_from_counts P (x ∷ xs) each =
     All-cons P x xs (each x (omega (arith, count_this x x (count x xs) refl))) (all_from_counts P xs (λ y some. each y (omega (arith, some))))

@@ -1,7 +1,8 @@
-use Rattle.std.specs.Prelude.{ℕ, ◌*◌, ◌≤◌, ◌↔◌, List, [], ◌∷◌, ◌++◌, sum, count_by, All}
-use Rattle.items.specs.Game.{GameNumbers}
+use Rattle.std.specs.Prelude.{◌≡◌, ℕ, ◌*◌, ◌≤◌, ◌↔◌, Some, None, List, [], ◌∷◌, ◌++◌, map, sum, count_by, All}
+use Rattle.items.specs.Game.{GameNumbers, numbers}
 use Rattle.items.specs.Multiset.{Same, IsSize, count, is_big}
-use Rattle.items.specs.Packable.{Packable, IsPacking}
+use Rattle.items.specs.Packable.{Packable, IsPacking, IsRoom}
+use Rattle.packing_witness.specs.Edits.{without, scaled}
 use Rattle.packing_witness.specs.Sublist.{IsSublistOf}
 
 -- a packable list stays packable when some of its items are left out
@@ -40,3 +41,23 @@ BigItemsNeedABinEach =
 abbrev pub PackingsAreAssignments : Type 0
 PackingsAreAssignments =
     (game : GameNumbers) (items : List ℕ) → All (IsSize game.capacity) items → ((bins : List (List ℕ)) × IsPacking game bins items) ↔ Packable game items
+
+-- the sizes that may come next are those from 1 to the room
+abbrev pub SizesUpToTheRoomMayCome : Type 0
+SizesUpToTheRoomMayCome =
+    (game : GameNumbers) (items : List ℕ) (room size : ℕ) → IsRoom game items room → Packable game (items ++ size ∷ []) ↔ ((1 ≤ size) × (size ≤ room))
+
+-- nothing is taken out exactly where no bin has the item
+abbrev pub NothingIsTakenOut : Type 0
+NothingIsTakenOut =
+    (item : ℕ) (bins : List (List ℕ)) → (without item bins ≡ None) ↔ All (λ bin. count item bin ≡ 0) bins
+
+-- a packing of items and one more is a packing of the items when that one is taken out
+abbrev pub TakenOutLeavesAPacking : Type 0
+TakenOutLeavesAPacking =
+    (game : GameNumbers) (items : List ℕ) (item : ℕ) (bins rest : List (List ℕ)) → IsPacking game bins (items ++ item ∷ []) → without item bins ≡ Some rest → IsPacking game rest items
+
+-- a packing times a factor is a packing of the items times it, in bins of the capacity times it
+abbrev pub PackingsScale : Type 0
+PackingsScale =
+    (game : GameNumbers) (items : List ℕ) (factor : ℕ) (bins : List (List ℕ)) → IsPacking game bins items → IsPacking (numbers game.bins (game.capacity * factor) (game.target * factor)) (scaled factor bins) (map (λ size. size * factor) items)

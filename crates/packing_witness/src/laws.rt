@@ -1,6 +1,6 @@
 //! Laws on packable lists and their packings, as contracts of functions that do nothing.
 
-ghost use Rattle.packing_witness.specs.Laws.{SublistsArePackable, PartsArePackable, OrderDoesNotMatter, SmallerItemsFit, TotalsFit, ItemsFit, BigItemsNeedABinEach, PackingsAreAssignments};
+ghost use Rattle.packing_witness.specs.Laws.{SublistsArePackable, PartsArePackable, OrderDoesNotMatter, SmallerItemsFit, TotalsFit, ItemsFit, BigItemsNeedABinEach, PackingsAreAssignments, SizesUpToTheRoomMayCome, NothingIsTakenOut, TakenOutLeavesAPacking, PackingsScale};
 
 /// A packable list stays packable when some of its items are left out, in whatever order the others stand.
 pub fn sublists_are_packable()
@@ -33,4 +33,21 @@ pub fn big_items_need_a_bin_each()
 /// A list of items has a packing exactly where it has an assignment.
 pub fn packings_are_assignments()
     ensures bridge { PackingsAreAssignments }
+{}
+
+/// The sizes that may come next are those from 1 to the room.
+pub fn sizes_up_to_the_room_may_come()
+    ensures sizes { SizesUpToTheRoomMayCome }
+{}
+
+/// What is taken out of a packing leaves a packing of the other items; nothing is taken out exactly where
+/// no bin has the item.
+pub fn taken_out_leaves_a_packing()
+    ensures nothing { NothingIsTakenOut }
+    ensures packing { TakenOutLeavesAPacking }
+{}
+
+/// A packing times a factor is a packing of the items times it, in bins of the capacity times it.
+pub fn packings_scale()
+    ensures scaled { PackingsScale }
 {}

@@ -4,18 +4,36 @@ ghost use Rattle.packing_witness.specs.Edits.{CanScale};
 use crate::Packing;
 use items::{Game, Items, Nums};
 use std::alloc::{AllocError, Global};
-use std::process::Abort;
 use std::test::Fail;
 
-const NONE: [u16; 0] = [];
-
-// The bins of these lists.
-fn packing(alloc: Global, lists: &[&[u16]]) -> Result<Packing, AllocError> {
+// The bins that a text spells, each closed by a slash.
+fn packing(alloc: Global, text: &str) -> Result<Packing, Fail> {
     let mut made = Packing::new(alloc);
-    for list in lists {
-        made.push_bin(Nums::from_slice(alloc, list)?)?;
+    for list in text.split_terminator('/') {
+        made.push_bin(bin(alloc, list)?)?;
     }
     Ok(made)
+}
+
+fn bin(alloc: Global, text: &str) -> Result<Nums, Fail> {
+    let mut made = Nums::new(alloc);
+    for word in text.split_whitespace() {
+        made.push(word.parse::<u16>()?)?;
+    }
+    Ok(made)
+}
+
+// The text that spells the bins.
+fn text(alloc: Global, packing: &Packing) -> Result<String, AllocError> {
+    let mut text = String::new(alloc);
+    for bin in packing.bins() {
+        for size in bin.as_slice() {
+            text.push_str(size.to_string(alloc)?.as_str())?;
+            text.push_str(" ")?;
+        }
+        text.push_str("/")?;
+    }
+    Ok(text)
 }
 
 // Whether each number times a factor is at most 65,535.
@@ -35,39 +53,34 @@ fn can_scale_bin(bin: &Nums, factor: u16) -> bool
         .all(|size| u32::from(*size) * u32::from(factor) <= 65535)
 }
 
-// Whether the bins are these lists.
-fn is(rt: &impl Abort, packing: &Packing, lists: &[&[u16]]) {
-    let bins = packing.bins();
-    assert_eq!(rt; bins.len(), lists.len());
-    for (bin, list) in bins.iter().zip(lists) {
-        assert_eq!(rt; bin.as_slice(), *list);
-    }
-}
-
 #[test]
 fn a_packing_has_each_item_once_in_a_bin_of_at_most_the_capacity(
     rt: HostRuntime,
 ) -> Result<(), Fail> {
     let game = Game::new(2, 3, 4).ok().expect(&rt, "a game");
     let items = Items::from_slice(&game, &[1, 1, 2]).expect(&rt, "items");
-    let cases: [(&[&[u16]], bool); 12] = [
-        (&[&[1, 2], &[1]], true),
-        (&[&[1], &[2, 1]], true),
-        (&[&[2], &[1, 1, 1]], false),
-        (&[&[1, 1, 2], &NONE], false),
-        (&[&[2], &[1]], false),
-        (&[&[2, 1], &[2]], false),
-        (&[&[1, 1]], false),
-        (&[&[1, 2], &[1], &NONE], false),
-        (&[&[1, 2], &[1, 0]], false),
-        (&[&[1, 2], &[65535]], false),
-        (&[&[65535, 65535, 65535], &[65535, 2, 1]], false),
-        (&[], false),
+    let cases = [
+        ("1 2 /1 /", true),
+        ("1 /2 1 /", true),
+        ("2 /1 1 1 /", false),
+        ("1 1 2 //", false),
+        ("2 /1 /", false),
+        ("2 1 /2 /", false),
+        ("1 1 /", false),
+        ("1 2 /1 //", false),
+        ("1 2 /1 0 /", false),
+        ("1 2 /65535 /", false),
+        ("65535 65535 65535 /65535 2 1 /", false),
+        ("", false),
+        ("//", false),
     ];
-    for (lists, want) in cases {
-        assert_eq!(rt; packing(rt.alloc(), lists)?.holds(&game, &items), want);
+    for (bins, want) in cases {
+        assert_eq!(rt;
+            packing(rt.alloc(), bins)?.holds(&game, &items),
+            want,
+            "{bins}"
+        );
     }
-    assert!(rt; packing(rt.alloc(), &[&NONE, &NONE])?.holds(&game, &Items::empty()));
     Ok(())
 }
 
@@ -75,35 +88,29 @@ fn a_packing_has_each_item_once_in_a_bin_of_at_most_the_capacity(
 fn the_first_such_number_of_the_first_bin_that_has_one_is_taken_out(
     rt: HostRuntime,
 ) -> Result<(), Fail> {
-    let small = packing(rt.alloc(), &[&[1, 2], &[1]])?;
-    is(
-        &rt,
-        &small.without(2)?.expect(&rt, "a bin has it"),
-        &[&[1], &[1]],
-    );
-    assert!(rt; small.without(3)?.is_none());
-    assert!(rt; small.without(0)?.is_none());
-    let large = packing(rt.alloc(), &[&[7], &[2, 3, 2, 5], &[2], &[3]])?;
-    let less = large.without(2)?.expect(&rt, "a bin has it");
-    is(&rt, &less, &[&[7], &[3, 2, 5], &[2], &[3]]);
-    is(
-        &rt,
-        &large.without(7)?.expect(&rt, "a bin has it"),
-        &[&NONE, &[2, 3, 2, 5], &[2], &[3]],
-    );
-    is(
-        &rt,
-        &large.without(5)?.expect(&rt, "a bin has it"),
-        &[&[7], &[2, 3, 2], &[2], &[3]],
-    );
+    let cases = [
+        ("1 2 /1 /", 2, Some("1 /1 /")),
+        ("1 2 /1 /", 3, None),
+        ("1 2 /1 /", 0, None),
+        ("7 /2 3 2 5 /2 /3 /", 2, Some("7 /3 2 5 /2 /3 /")),
+        ("7 /2 3 2 5 /2 /3 /", 7, Some("/2 3 2 5 /2 /3 /")),
+        ("7 /2 3 2 5 /2 /3 /", 5, Some("7 /2 3 2 /2 /3 /")),
+    ];
+    for (bins, item, want) in cases {
+        let rest = packing(rt.alloc(), bins)?.without(item)?;
+        assert_eq!(rt; rest.is_some(), want.is_some());
+        if let (Some(rest), Some(want)) = (rest, want) {
+            assert_eq!(rt; text(rt.alloc(), &rest)?.as_str(), want);
+        }
+    }
     Ok(())
 }
 
 #[test]
 fn each_number_of_each_bin_is_scaled(rt: HostRuntime) -> Result<(), Fail> {
-    let small = packing(rt.alloc(), &[&[1, 2], &[2], &NONE])?;
-    assert!(rt; can_scale(&small, 2));
-    is(&rt, &small.scaled(2)?, &[&[2, 4], &[4], &NONE]);
-    is(&rt, &small.copy()?, &[&[1, 2], &[2], &NONE]);
+    let small = packing(rt.alloc(), "1 2 /2 //")?.copy()?;
+    assert!(rt; can_scale(&small, 2) && !can_scale(&small, 32768));
+    assert_eq!(rt; text(rt.alloc(), &small.scaled(2)?)?.as_str(), "2 4 /4 //");
+    assert_eq!(rt; text(rt.alloc(), &small)?.as_str(), "1 2 /2 //");
     Ok(())
 }

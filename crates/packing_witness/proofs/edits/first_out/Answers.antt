@@ -1,4 +1,4 @@
-use Rattle.std.proofs.Common.{◌∙◌, sym, ap, arith, length, get_or, ◌<◌}
+use Rattle.std.proofs.Common.{sym, ap, arith, length}
 use Rattle.packing_witness.proofs.EditLemmas.{first_out_made, first_out_nowhere}
 use Rattle.packing_witness.proofs.edits.first_out.Goals as goal
 

@@ -1,4 +1,4 @@
-use Rattle.std.proofs.Common.{ℕ, ◌≡◌, ◌*◌, ◌<◌, ◌+◌, ◌++◌, List, [], ◌∷◌, length, get_or, take, map, ap, sym, ◌∙◌, arith}
+use Rattle.std.proofs.Common.{ℕ, ◌≡◌, ◌*◌, ◌<◌, ◌+◌, ◌++◌, List, [], ◌∷◌, length, get_or, take, map, sym, arith}
 use Rattle.std.proofs.lemmas.List.{map_more, get_or_read}
 use Rattle.packing_witness.specs.Edits.{scaled}
 use Rattle.packing_witness.proofs.packing.Packing.scaled.Goals as goal

@@ -1,4 +1,4 @@
-use Rattle.std.proofs.Common.{◌≡◌, ◌∙◌, sym, ap, arith, length, [], List, Some}
+use Rattle.std.proofs.Common.{◌∙◌, sym, ap, arith, length, []}
 use Rattle.std.proofs.lemmas.List.{get_or_read}
 use Rattle.packing_witness.specs.Edits.{first_out}
 use Rattle.packing_witness.proofs.EditLemmas.{without_made, without_nowhere}
