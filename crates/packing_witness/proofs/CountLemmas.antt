@@ -1,12 +1,11 @@
 -- How often a number stands in a front of a list.
-use Rattle.std.proofs.Common.{◌≡◌, ◌≢◌, ℕ, ◌+◌, ◌<◌, ◌≤◌, ◌⊎◌, ◌∷◌, List, [], cond, eqb, length, take, get_or, refl, sym, ap, ◌∙◌, arith}
+use Rattle.std.proofs.Common.{◌≡◌, ◌≢◌, ℕ, ◌+◌, ◌<◌, ◌≤◌, List, cond, eqb, length, take, get_or, refl, sym, ap, ◌∙◌, arith}
 use Rattle.std.specs.List.{sum_by}
 use Rattle.std.proofs.lemmas.List.Recursion.{is_sum_by}
 use Rattle.std.proofs.lemmas.List.Sums.{sum_by_more, sum_by-take-le}
 use Rattle.std.proofs.lemmas.Bool.Decides.{nat_tests}
-use Rattle.std.specs.List.{concat, All}
-use Rattle.std.proofs.lemmas.List.Elements.{All-head, All-tail}
-use Rattle.items.specs.Multiset.{count, IsSize}
+use Rattle.std.specs.List.{concat}
+use Rattle.items.specs.Multiset.{count}
 use Rattle.items.proofs.MultisetLemmas.{count-append}
 
 -- 1 at the number, 0 elsewhere
@@ -39,11 +38,3 @@ count-concat-more x xss i d l =
 pub count-concat-take-le : (x : ℕ) (xss : List (List ℕ)) (i : ℕ) → count x (concat (take i xss)) ≤ count x (concat xss)
 count-concat-take-le x xss i =
     omega (arith, count-concat x xss, count-concat x (take i xss), sum_by-take-le (count x) xss i)
-
--- a number that is no size does not stand in a list of sizes
-pub count_outside : (most x : ℕ) → (x < 1) ⊎ (most < x) → (xs : List ℕ) → All (IsSize most) xs → count x xs ≡ 0
-count_outside most x h [] all = refl
-count_outside most x h (y ∷ ys) all =
-    let s : IsSize most y = All-head (IsSize most) y ys all in
-    let ne : x ≢ y = λ e. absurd (grind arith) in
-    omega (arith, mark_other x y ne, count_outside most x h ys (All-tail (IsSize most) y ys all))

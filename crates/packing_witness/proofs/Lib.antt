@@ -1,1 +1,4 @@
 pub mod CountLemmas
+pub mod EditLemmas
+pub mod PackableLemmas
+pub mod PackingLemmas

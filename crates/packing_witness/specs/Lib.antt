@@ -1,1 +1,4 @@
 pub mod Counters
+pub mod Edits
+pub mod Sublist
+pub mod Laws

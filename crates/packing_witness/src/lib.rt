@@ -2,6 +2,11 @@
 #![tactic(auto)]
 
 mod counters;
+mod edits;
+pub mod laws;
 mod packing;
 
 pub use packing::Packing;
+
+#[cfg(test)]
+mod tests;

@@ -1,9 +1,11 @@
 //! Packings of items into bins.
 
-ghost use Rattle.std.specs.Prelude.{◌≡◌, ◌↔◌, [], ◌∷◌, ◌++◌, IsTrue, OnOk, OnErr};
+ghost use Rattle.std.specs.Prelude.{◌≡◌, ◌↔◌, [], ◌∷◌, ◌++◌, IsTrue, OnOk, OnErr, IfOk, option_map};
 ghost use Rattle.items.specs.Packable.{IsPacking};
+ghost use Rattle.packing_witness.specs.Edits.{without, scaled, CanScale};
 
 use crate::counters::{counters_of, empties};
+use crate::edits::{first_out, times};
 use items::{Game, Items, Nums, Sequence};
 use std::alloc::{AllocError, Global};
 use std::marker::Model;
@@ -48,6 +50,45 @@ impl Packing {
         self.lists.as_slice()
     }
 
+    /// The same bins.
+    pub fn copy(&self) -> Result<Packing, AllocError>
+        ensures same { IfOk result (λ made. made ≡ self.now) }
+    {
+        let mut made = Packing::new(self.lists.allocator());
+        made.push_copies(self.bins())?;
+        Ok(made)
+    }
+
+    /// The bins when the first such number of the first bin that has one is taken out; None exactly
+    /// where no bin has it.
+    pub fn without(&self, item: u16) -> Result<Option<Packing>, AllocError>
+        ensures exact { IfOk result (λ found. found ≡ without item self.now) }
+    {
+        let bins = self.bins();
+        let mut made = Packing::new(self.lists.allocator());
+        for (i, bin) in bins.iter().enumerate() {
+            if let Some(rest) = first_out(bin, item)? {
+                made.push_bin(rest)?;
+                made.push_copies(&bins[i + 1..])?;
+                return Ok(Some(made));
+            }
+            made.push_bin(bin.copy()?)?;
+        }
+        Ok(None)
+    }
+
+    /// Each number of each bin times a factor, for a game on another scale.
+    pub fn scaled(&self, c: u16) -> Result<Packing, AllocError>
+        requires { CanScale c self.now }
+        ensures exact { IfOk result (λ made. made ≡ scaled c self.now) }
+    {
+        let mut made = Packing::new(self.lists.allocator());
+        for bin in self.bins() {
+            made.push_bin(times(bin, c)?)?;
+        }
+        Ok(made)
+    }
+
     /// Whether this is a packing of the items: as many bins as the game has, each summing to at most
     /// the capacity, and together the multiset of the items. Takes no memory.
     pub fn holds(&self, game: &Game, items: &Items) -> bool
@@ -55,5 +96,15 @@ impl Packing {
     {
         self.lists.len() == usize::from(game.m())
             && empties(&mut counters_of(items), self.lists.as_slice(), game.g())
+    }
+
+    // Puts copies of bins at the end. Where memory is refused, some of them may have been put there.
+    fn push_copies(&mut self, bins: &[Nums]) -> Result<(), AllocError>
+        ensures ok { OnOk result (self.new ≡ self.old ++ bins.now) }
+    {
+        for bin in bins {
+            self.push_bin(bin.copy()?)?;
+        }
+        Ok(())
     }
 }

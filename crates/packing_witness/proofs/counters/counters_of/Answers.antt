@@ -2,16 +2,16 @@ use Rattle.std.proofs.Common.{◌≡◌, ℕ, ◌<◌, ◌≤◌, length, slice_
 use Rattle.std.proofs.lemmas.List.{get_or_past}
 use Rattle.std.proofs.lemmas.Bool.{cases_lt}
 use Rattle.items.specs.Multiset.{count, IsMultiset}
-use Rattle.packing_witness.proofs.CountLemmas.{count_outside}
+use Rattle.items.proofs.SameLemmas.{count_no_size}
 use Rattle.packing_witness.proofs.counters.counters_of.Goals as goal
 
 all_counted : (items counters : List ℕ) → length counters ≡ 121 → slice_index counters 0 ≡ 0 → IsMultiset 120 items → ((k : ℕ) → 1 ≤ k → k < 121 → slice_index counters k ≡ count k items) → (size : ℕ) → slice_index counters size ≡ count size items
 all_counted items counters len zero multiset counted size =
     ⊎_elim
-    (λ (low : size < 1). let e : size ≡ 0 = omega arith in rw e (zero ∙ sym (count_outside 120 0 (inl (omega arith)) items multiset.sizes)))
+    (λ (low : size < 1). let e : size ≡ 0 = omega arith in rw e (zero ∙ sym (count_no_size 120 0 items multiset.sizes (inl (omega arith)))))
     (λ (some : 1 ≤ size). ⊎_elim
     (λ (within : size < 121). counted size some within)
-    (λ (past : 121 ≤ size). get_or_past counters size 0 (omega arith) ∙ sym (count_outside 120 size (inr (omega arith)) items multiset.sizes))
+    (λ (past : 121 ≤ size). get_or_past counters size 0 (omega arith) ∙ sym (count_no_size 120 size items multiset.sizes (inr (omega arith))))
     (cases_lt size 121))
     (cases_lt size 1)
 
