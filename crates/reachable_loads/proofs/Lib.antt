@@ -1,0 +1,4 @@
+pub mod SetLemmas
+pub mod AssignmentLemmas
+pub mod ReachLemmas
+pub mod PutLemmas
