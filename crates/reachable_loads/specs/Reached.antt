@@ -18,6 +18,10 @@ sent game items = record { game = game; items = items }
 abbrev pub totals : GameNumbers → List ℕ → List ℕ → List ℕ
 totals game items bins = map (λ bin. bin_total bin items bins) (range_with_len 0 game.bins)
 
+-- some assignment of the items has these totals, but for the bins' numbers
+abbrev pub HasTotals : GameNumbers → List ℕ → List ℕ → Type 0
+HasTotals game items loads = (bins : List ℕ) × IsAssignment game items bins × Same (totals game items bins) loads
+
 -- the totals of the bins under an assignment, in descending order
 pub record AreLoadsOf (game : GameNumbers) (items bins loads : List ℕ) : Type 0 where
   pub assigned : IsAssignment game items bins

@@ -1,8 +1,8 @@
 //! The sorted loads of all assignments of a list of items.
 
-ghost use Rattle.std.specs.Prelude.{◌≡◌, ◌↔◌, ℕ, ◌+◌, ◌<◌, ◌≤◌, ◌⊎◌, List, [], ◌∷◌, ◌++◌, length, IsTrue, Contains, IfOk, OnOk};
+ghost use Rattle.std.specs.Prelude.{◌≡◌, ◌↔◌, ℕ, ◌+◌, ◌<◌, ◌≤◌, ◌⊎◌, List, [], ◌∷◌, ◌++◌, length, IsTrue, Contains, All, MatchOption, IfOk, OnOk};
 ghost use Rattle.items.specs.Packable.{Packable, IsRoom};
-ghost use Rattle.reachable_loads.specs.Reached.{FitOffline, IsAfter, IsLeast, sent};
+ghost use Rattle.reachable_loads.specs.Reached.{FitOffline, HasTotals, IsAfter, IsLeast, IsReached, sent};
 
 use items::{Game, Nums};
 use loads::Loads;
@@ -82,6 +82,24 @@ impl Reach {
             room = room.max(capacity - least(loads));
         }
         room
+    }
+
+    // Some sorted loads of an assignment; None exactly where the items do not fit.
+    pub(crate) fn some_loads(&self) -> Option<&Loads>
+        ensures { MatchOption result (¬ Packable self.now.game self.now.items) (λ loads. IsReached self.now.game self.now.items loads.now) }
+    {
+        self.members.first()
+    }
+
+    // Whether some assignment of the items has these loads, whatever the bins' numbers.
+    pub(crate) fn reaches(&self, loads: &[u16]) -> bool
+        requires one_each { length loads.now ≡ self.now.game.bins }
+        requires fits { All (λ load. load ≤ self.now.game.capacity) loads.now }
+        ensures { IsTrue result ↔ HasTotals self.now.game self.now.items loads.now }
+    {
+        prove!(self.game.g() < self.game.t());
+        let member = Loads::sorted(self.items.allocator(), &self.game, loads);
+        self.members.contains(&member)
     }
 }
 
