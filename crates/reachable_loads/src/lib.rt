@@ -1,0 +1,8 @@
+//! Which lists of items fit offline, told from the sorted loads that their assignments reach.
+#![tactic(auto)]
+
+mod packing;
+mod reach;
+
+pub use packing::pack;
+pub use reach::Reach;
