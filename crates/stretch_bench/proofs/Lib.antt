@@ -1,0 +1,4 @@
+mod LineLemmas
+mod WordLemmas
+mod Fronts
+mod DueLemmas

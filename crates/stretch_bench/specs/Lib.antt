@@ -1,0 +1,5 @@
+pub mod Words
+pub mod Lines
+pub mod Due
+pub mod Written
+pub mod Codes

@@ -1,0 +1,34 @@
+//! How a run ends.
+
+ghost use Rattle.std.specs.Prelude.{◌≡◌};
+ghost use Rattle.stretch_bench.specs.Codes.{code_of};
+
+/// How a run ended.
+#[derive(Clone, Copy, Debug, PartialEq, Eq)]
+pub enum Status {
+    /// The command was done.
+    Done,
+    /// The input has a fault.
+    Rejected,
+    /// The words spell no command.
+    Usage,
+    /// A search ended at its budget.
+    Undecided,
+    /// A read failed. Nothing was written.
+    ReadFault,
+    /// A write failed. What was written is the front of the text that was due.
+    WriteFault,
+    /// Memory was refused. Nothing was written.
+    OutOfMemory,
+    /// The items of the words do not fit into the bins.
+    Unpackable,
+}
+
+impl Status {
+    /// The number that the program ends with, from 0 to 7. Takes no memory.
+    pub fn code(self) -> u8
+        ensures value { result ≡ code_of self }
+    {
+        self as u8
+    }
+}

@@ -1,0 +1,218 @@
+//! Worked cases of the program, and that memory is found.
+
+use crate::{Status, run_bench};
+use port_io::{MemSink, MemSource};
+use std::alloc::{AllocError, Global};
+use std::test::Fail;
+
+// A legal strategy of the adversary for 2 bins, capacity 3 and target 4.
+const LEGAL: &str = "\
+stretch 1
+game 2 3 4
+side adversary
+nodes 5
+0 loads 2 2 items 1 1 2 send 2 pack 1 2 / 1 2 on 2 over
+1 loads 2 0 items 1 1 send 2 pack 1 2 / 1 on 2 over on 0 to 0
+2 loads 1 1 items 1 1 send 3 pack 3 / 1 1 on 1 over
+3 loads 1 0 items 1 send 1 pack 1 1 / - on 1 to 1 on 0 to 2
+4 loads 0 0 items - send 1 pack 1 / - on 0 to 3
+end
+";
+
+// A strategy of the algorithm for 2 bins, capacity 2 and target 3.
+const OF_ALGORITHM: &str = "\
+stretch 1
+game 2 2 3
+side algorithm
+nodes 5
+0 loads 2 0 items 1 1 finish
+1 loads 2 1 items 1 2 finish
+2 loads 1 0 items 1 reply 1 on 1 to 0 2 on 0 to 1
+3 loads 2 0 items 2 finish
+4 loads 0 0 items - reply 1 on 0 to 2 2 on 0 to 3
+end
+";
+
+const ACCEPTED: &str = "accepted adversary 2 3 4 nodes 5\n";
+
+// The words of a line.
+fn words_of(alloc: Global, line: &str) -> Result<Vec<String>, AllocError> {
+    let mut words = Vec::new(alloc);
+    for word in line.split_whitespace() {
+        words.push(String::from_str(alloc, word)?)?;
+    }
+    Ok(words)
+}
+
+// The text with another in place of the first one that stands in it.
+fn edited(alloc: Global, text: &str, from: &str, to: &str) -> Result<String, AllocError> {
+    let mut edited = String::new(alloc);
+    match text.split_once(from) {
+        Some((before, after)) => {
+            edited.push_str(before)?;
+            edited.push_str(to)?;
+            edited.push_str(after)?;
+        }
+        None => edited.push_str("not found")?,
+    }
+    Ok(edited)
+}
+
+// The status of a check, and what it wrote.
+fn checked(alloc: Global, input: &[u8]) -> Result<(Status, Vec<u8>), AllocError> {
+    let words = words_of(alloc, "check")?;
+    let mut source = MemSource::new(alloc, input, 64, &[])?;
+    let mut sink = MemSink::new(alloc, 100, 100, &[])?;
+    let status = run_bench(alloc, words.as_slice(), &mut source, &mut sink);
+    Ok((status, Vec::from_slice(alloc, sink.bytes())?))
+}
+
+#[test]
+fn a_legal_strategy_is_accepted_however_it_comes(rt: HostRuntime) -> Result<(), Fail> {
+    let alloc = rt.alloc();
+    let words = words_of(alloc, "check")?;
+    for step in [1, 7, 4_096] {
+        let mut source = MemSource::new(alloc, LEGAL.as_bytes(), step, &[])?;
+        let mut sink = MemSink::new(alloc, 100, step, &[])?;
+        let status = run_bench(alloc, words.as_slice(), &mut source, &mut sink);
+        assert_eq!(rt; status, Status::Done, "by {step}");
+        assert_eq!(rt; sink.bytes(), ACCEPTED.as_bytes(), "by {step}");
+    }
+    Ok(())
+}
+
+#[test]
+fn the_first_fault_is_written(rt: HostRuntime) -> Result<(), Fail> {
+    let alloc = rt.alloc();
+    let cases = [
+        ("end\n", "", "rejected line 10 syntax\n"),
+        ("end\n", "end", "rejected line 10 syntax\n"),
+        ("end\n", "end\nx", "rejected line 11 syntax\n"),
+        (
+            "pack 1 2 / 1 on",
+            "pack 2 / 1 1 1 on",
+            "rejected line 6 rule pack\n",
+        ),
+        (
+            "on 2 over\n1",
+            "on 2 to 0\n1",
+            "rejected line 5 rule over\n",
+        ),
+        ("on 0 to 2", "on 0 to 3", "rejected line 8 rule child\n"),
+        ("nodes 5", "nodes 4", "rejected line 8 rule root\n"),
+        ("nodes 5", "nodes 6", "rejected line 10 syntax\n"),
+        ("nodes 5", "nodes 4000000000", "rejected line 10 syntax\n"),
+        ("nodes 5", "nodes 05", "rejected line 4 syntax\n"),
+        ("nodes 5", "nodes  5", "rejected line 4 syntax\n"),
+        ("game 2 3 4", "game 2 3 3", "rejected line 2 rule game\n"),
+        ("game 2 3 4", "game 9 3 4", "rejected line 2 rule game\n"),
+    ];
+    for (from, to, line) in cases {
+        let input = edited(alloc, LEGAL, from, to)?;
+        let (status, written) = checked(alloc, input.as_bytes())?;
+        assert_eq!(rt; written.as_slice(), line.as_bytes(), "with {to:?}");
+        assert_eq!(rt; status, Status::Rejected, "with {to:?}");
+    }
+    Ok(())
+}
+
+#[test]
+fn inputs_of_another_kind_are_rejected(rt: HostRuntime) -> Result<(), Fail> {
+    let alloc = rt.alloc();
+    let mut long = vec![in alloc; b'x'; 16_385]?;
+    long.push(b'\n')?;
+    long.extend_from_slice(LEGAL.as_bytes())?;
+    let mut returns = Vec::new(alloc);
+    for byte in LEGAL.as_bytes() {
+        if *byte == b'\n' {
+            returns.push(b'\r')?;
+        }
+        returns.push(*byte)?;
+    }
+    let cases = [
+        (b"".as_slice(), "rejected line 1 syntax\n"),
+        (long.as_slice(), "rejected line 1 syntax\n"),
+        (returns.as_slice(), "rejected line 1 syntax\n"),
+        (OF_ALGORITHM.as_bytes(), "rejected line 3 rule side\n"),
+    ];
+    for (input, line) in cases {
+        let (status, written) = checked(alloc, input)?;
+        assert_eq!(rt; written.as_slice(), line.as_bytes());
+        assert_eq!(rt; status, Status::Rejected);
+    }
+    Ok(())
+}
+
+#[test]
+fn other_words_give_usage_and_read_nothing(rt: HostRuntime) -> Result<(), Fail> {
+    let alloc = rt.alloc();
+    let lines = [
+        "",
+        "check now",
+        "Check",
+        "checks",
+        "play nobody",
+        "answer 01",
+        "search 2 3 3 budget=1 table=1",
+    ];
+    for line in lines {
+        let words = words_of(alloc, line)?;
+        let mut source = MemSource::new(alloc, LEGAL.as_bytes(), 64, &[1])?;
+        let mut sink = MemSink::new(alloc, 100, 100, &[])?;
+        let status = run_bench(alloc, words.as_slice(), &mut source, &mut sink);
+        assert_eq!(rt; status, Status::Usage, "for {line:?}");
+        assert_eq!(rt; sink.bytes(), b"usage\n".as_slice(), "for {line:?}");
+    }
+    Ok(())
+}
+
+#[test]
+fn a_failing_read_writes_nothing(rt: HostRuntime) -> Result<(), Fail> {
+    let alloc = rt.alloc();
+    let words = words_of(alloc, "check")?;
+    for (step, failing) in [(4_096, 1), (4_096, 2), (100, 3), (1, 327)] {
+        let mut source = MemSource::new(alloc, LEGAL.as_bytes(), step, &[failing])?;
+        let mut sink = MemSink::new(alloc, 100, 100, &[])?;
+        let status = run_bench(alloc, words.as_slice(), &mut source, &mut sink);
+        assert_eq!(rt; status, Status::ReadFault, "at read {failing}");
+        assert_eq!(rt; sink.bytes(), b"".as_slice(), "at read {failing}");
+    }
+    Ok(())
+}
+
+#[test]
+fn a_failing_write_leaves_the_front_of_the_line(rt: HostRuntime) -> Result<(), Fail> {
+    let alloc = rt.alloc();
+    let words = words_of(alloc, "check")?;
+    for room in [0, 1, 20, 32] {
+        let mut source = MemSource::new(alloc, LEGAL.as_bytes(), 64, &[])?;
+        let mut sink = MemSink::new(alloc, room, 7, &[])?;
+        let status = run_bench(alloc, words.as_slice(), &mut source, &mut sink);
+        assert_eq!(rt; status, Status::WriteFault, "with room {room}");
+        let front = ACCEPTED.as_bytes().get(..room).unwrap_or(b"none");
+        assert_eq!(rt; sink.bytes(), front, "with room {room}");
+    }
+    let mut source = MemSource::new(alloc, LEGAL.as_bytes(), 64, &[])?;
+    let mut sink = MemSink::new(alloc, 100, 100, &[1])?;
+    let status = run_bench(alloc, words.as_slice(), &mut source, &mut sink);
+    assert_eq!(rt; status, Status::WriteFault);
+    assert_eq!(rt; sink.bytes(), b"".as_slice());
+    Ok(())
+}
+
+#[test]
+fn the_statuses_have_their_numbers(rt: HostRuntime) {
+    let statuses = [
+        Status::Done,
+        Status::Rejected,
+        Status::Usage,
+        Status::Undecided,
+        Status::ReadFault,
+        Status::WriteFault,
+        Status::OutOfMemory,
+        Status::Unpackable,
+    ];
+    for (number, status) in (0..8).zip(statuses) {
+        assert_eq!(rt; status.code(), number);
+    }
+}
