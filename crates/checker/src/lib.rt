@@ -6,3 +6,6 @@ mod reading;
 
 pub use fault::{Accepted, CheckFault, Why};
 pub use reading::check;
+
+#[cfg(test)]
+mod tests;
