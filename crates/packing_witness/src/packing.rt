@@ -1,6 +1,6 @@
 //! Packings of items into bins.
 
-ghost use Rattle.std.specs.Prelude.{◌≡◌, ◌↔◌, [], ◌∷◌, ◌++◌, IsTrue, OnOk, OnErr, IfOk, option_map};
+ghost use Rattle.std.specs.Prelude.{◌≡◌, ◌↔◌, [], ◌∷◌, ◌++◌, IsTrue, OnOk, OnErr, IfOk};
 ghost use Rattle.items.specs.Packable.{IsPacking};
 ghost use Rattle.packing_witness.specs.Edits.{without, scaled, CanScale};
 
@@ -77,7 +77,8 @@ impl Packing {
         Ok(None)
     }
 
-    /// Each number of each bin times a factor, for a game on another scale.
+    /// Each number of each bin times a factor, none of which may pass 65,535: the packing on the scale of
+    /// a game whose numbers are multiplied.
     pub fn scaled(&self, c: u16) -> Result<Packing, AllocError>
         requires { CanScale c self.now }
         ensures exact { IfOk result (λ made. made ≡ scaled c self.now) }
