@@ -72,9 +72,9 @@ IsPacking-contents game items bins a =
     record {
       one_each = n;
       fits = All-from_get_or (λ bin. sum bin ≤ game.capacity) (contents_of items bins game.bins) [] (λ k l.
-      let within : k < game.bins = omega (arith, l, n) in
-      let at = get_or-map-range_with_len (λ bin. items_in bin items bins) 0 game.bins k k [] within (omega arith) in
-      omega (arith, ap sum at, sum-items_in k items bins, a.fits k within));
+          let within : k < game.bins = omega (arith, l, n) in
+          let at = get_or-map-range_with_len (λ bin. items_in bin items bins) 0 game.bins k k [] within (omega arith) in
+          omega (arith, ap sum at, sum-items_in k items bins, a.fits k within));
       together = λ x. count-joined x (λ bin. items_in bin items bins) (range_with_len 0 game.bins) ∙ counted x game.bins items bins a.one_each a.of_game;
     }
 

@@ -107,12 +107,12 @@ IsWalkedBack-more game items left done i bin l within can w =
       one_each = omega (arith, w.one_each);
       of_game = All-cons (λ b. b < game.bins) bin done (omega (arith, within, n)) w.of_game;
       fits = λ b lb.
-        let now = ap {B = ℕ} (λ xs. bin_total b xs (bin ∷ done)) rest in
-        let was = w.fits b lb in
-        elim (cases_eq b bin) [
-          | inl e ↦ omega (arith, now, was, can.0, cond-true (eqb b bin) size 0 (eq-eqb b bin e), get_or-set_same left bin (get_or left bin 0 - size) 0 within, ap {B = ℕ} (λ k. get_or left k 0) e, ap {B = ℕ} (λ k. get_or (set left bin (get_or left bin 0 - size)) k 0) e)
-          | inr q ↦ omega (arith, now, was, cond-false (eqb b bin) size 0 (ne_eqb b bin q), get_or-set_other left bin b (get_or left bin 0 - size) 0 q)
-        ];
+          let now = ap {B = ℕ} (λ xs. bin_total b xs (bin ∷ done)) rest in
+          let was = w.fits b lb in
+          elim (cases_eq b bin) [
+            | inl e ↦ omega (arith, now, was, can.0, cond-true (eqb b bin) size 0 (eq-eqb b bin e), get_or-set_same left bin (get_or left bin 0 - size) 0 within, ap {B = ℕ} (λ k. get_or left k 0) e, ap {B = ℕ} (λ k. get_or (set left bin (get_or left bin 0 - size)) k 0) e)
+            | inr q ↦ omega (arith, now, was, cond-false (eqb b bin) size 0 (ne_eqb b bin q), get_or-set_other left bin b (get_or left bin 0 - size) 0 q)
+          ];
     }
 
 -- all items have their bins
