@@ -1,20 +1,19 @@
 -- The sorted loads that assignments reach, and what one more item does to them.
-use Rattle.std.proofs.Common.{◌≡◌, ◌↔◌, ℕ, zero, suc, ◌+◌, ◌-◌, ◌<◌, ◌≤◌, max, cond, eqb, List, [], ◌∷◌, ◌++◌, length, get_or, set, replicate, map, refl, sym, ap, ◌∙◌, subst, arith, inl, inr, ◌⊎◌, ⊎_elim}
+use Rattle.std.proofs.Common.{◌≡◌, ◌↔◌, ℕ, zero, suc, ◌+◌, ◌-◌, ◌<◌, ◌≤◌, max, cond, eqb, List, [], ◌∷◌, ◌++◌, length, get_or, replicate, refl, sym, ap, ◌∙◌, subst, arith, inl, inr, ◌⊎◌, ⊎_elim}
 use Rattle.std.specs.Prelude.{All, Contains}
-use Rattle.std.proofs.lemmas.Bool.{cases_eq, cases_lt}
+use Rattle.std.proofs.lemmas.Bool.{cases_lt}
 use Rattle.std.proofs.lemmas.List.{nil_from_length}
-use Rattle.std.proofs.lemmas.List.Elements.{All-from_get_or, All-weaker, All-nil, All-push, All-contains, Contains-get_or}
+use Rattle.std.proofs.lemmas.List.Elements.{All-from_get_or, All-weaker, All-contains, Contains-get_or}
 use Rattle.items.specs.Game.{GameNumbers, IsGame}
 use Rattle.items.specs.Multiset.{IsSize, Same, count}
 use Rattle.items.specs.Packable.{IsAssignment, Packable, IsRoom, bin_total}
 use Rattle.items.proofs.MultisetLemmas.{length-Same}
-use Rattle.items.proofs.SameLemmas.{Same-sym, Same-trans, Same-refl}
+use Rattle.items.proofs.SameLemmas.{Same-sym}
 use Rattle.loads.specs.Descending.{IsDescending, put_descending}
 use Rattle.loads.specs.Loads.{IsLoads, loads_after}
-use Rattle.loads.proofs.DescendingLemmas.{IsDescending-put, IsDescending-nil, IsDescending-take_out, Contains-nil}
+use Rattle.loads.proofs.DescendingLemmas.{IsDescending-put, IsDescending-nil, IsDescending-take_out}
 use Rattle.loads.proofs.CountLemmas.{count-sum_by, sum_by-put, equal_from_Same, Contains-Same}
 use Rattle.loads.proofs.LoadsLemmas.{Same-loads_after}
-use Rattle.std.proofs.lemmas.List.Sums.{sum_by-cons}
 use Rattle.reachable_loads.specs.Reached.{totals, AreLoadsOf, IsReached, ItemsSent, sent, IsReachOf, FitOffline, AnyOf, HasRoom, IsAfter, IsLeast}
 use Rattle.reachable_loads.proofs.AssignmentLemmas.{length-totals, get_or-totals, totals-push, IsAssignment-push, PutsLast, puts_last, IsAssignment-nil, totals-nil}
 
