@@ -1,5 +1,5 @@
 -- The items of each bin, and the packing that they make.
-use Rattle.std.proofs.Common.{◌≡◌, ℕ, zero, suc, ◌+◌, ◌<◌, ◌≤◌, cond, eqb, true, false, List, [], ◌∷◌, ◌++◌, length, get_or, take, drop, map, sum, refl, sym, ap, ◌∙◌, subst, arith, inl, inr}
+use Rattle.std.proofs.Common.{◌≡◌, ℕ, zero, suc, ◌+◌, ◌<◌, ◌≤◌, cond, eqb, List, [], ◌∷◌, ◌++◌, length, get_or, drop, map, sum, refl, sym, ap, ◌∙◌, arith, inl, inr}
 use Rattle.std.specs.Prelude.{All}
 use Rattle.std.specs.List.{range_with_len, sum_by, concat}
 use Rattle.std.proofs.lemmas.Bool.{cases_eq, cases_Bool, eq-eqb, ne_eqb, cond-true, cond-false}
@@ -9,7 +9,7 @@ use Rattle.std.proofs.lemmas.List.Recursion.{is_sum_by}
 use Rattle.std.proofs.lemmas.List.FromFn.{length-map-range_with_len, get_or-map-range_with_len}
 use Rattle.std.proofs.lemmas.List.Elements.{All-from_get_or, All-head, All-tail}
 use Rattle.items.specs.Game.{GameNumbers}
-use Rattle.items.specs.Multiset.{Same, count}
+use Rattle.items.specs.Multiset.{count}
 use Rattle.items.specs.Packable.{IsAssignment, IsPacking, bin_total}
 use Rattle.items.proofs.MultisetLemmas.{count-append}
 use Rattle.reachable_loads.specs.Pack.{items_in}
@@ -72,9 +72,9 @@ IsPacking-contents game items bins a =
     record {
       one_each = n;
       fits = All-from_get_or (λ bin. sum bin ≤ game.capacity) (contents_of items bins game.bins) [] (λ k l.
-      let within : k < game.bins = omega (arith, l, n) in
-      let at = get_or-map-range_with_len (λ bin. items_in bin items bins) 0 game.bins k k [] within (omega arith) in
-      omega (arith, ap sum at, sum-items_in k items bins, a.fits k within));
+          let within : k < game.bins = omega (arith, l, n) in
+          let at = get_or-map-range_with_len (λ bin. items_in bin items bins) 0 game.bins k k [] within (omega arith) in
+          omega (arith, ap sum at, sum-items_in k items bins, a.fits k within));
       together = λ x. count-joined x (λ bin. items_in bin items bins) (range_with_len 0 game.bins) ∙ counted x game.bins items bins a.one_each a.of_game;
     }
 

@@ -1,21 +1,19 @@
 -- Walking back from loads to an assignment.
-use Rattle.std.proofs.Common.{◌≡◌, ◌↔◌, ℕ, zero, suc, ◌+◌, ◌-◌, ◌<◌, ◌≤◌, cond, eqb, List, [], ◌∷◌, ◌++◌, length, get_or, set, take, drop, map, reverse, refl, sym, ap, ◌∙◌, subst, arith, inl, inr, ◌⊎◌, ⊎_elim, Option, Some, None, Bor, Bool}
+use Rattle.std.proofs.Common.{◌≡◌, ℕ, ◌+◌, ◌-◌, ◌<◌, ◌≤◌, cond, eqb, List, [], ◌∷◌, ◌++◌, length, get_or, set, take, drop, reverse, sym, ap, ◌∙◌, subst, arith, inl, inr, Option, Some, None, Bor, Bool}
 use Rattle.std.specs.Prelude.{All, Contains, IsSome, IfSome, IsTrue, MatchOption}
-use Rattle.std.specs.List.{range_with_len}
-use Rattle.std.proofs.lemmas.Bool.{cases_eq, cases_lt, eq-eqb, ne_eqb, cond-true, cond-false, false≢true}
+use Rattle.std.proofs.lemmas.Bool.{cases_eq, eq-eqb, ne_eqb, cond-true, cond-false, false≢true}
 use Rattle.std.proofs.lemmas.List.{get_or-set_same, get_or-set_other, length-set, take_more, take_all, drop_more, drop_all, get_or_default, reverse-append, set-set, set-get_or}
 use Rattle.std.proofs.lemmas.List.FromFn.{length-map-range_with_len, get_or-map-range_with_len, map-range_with_len_more}
 use Rattle.std.proofs.lemmas.List.Sums.{sum_by-set}
 use Rattle.std.proofs.lemmas.List.Elements.{All-cons, All-nil, All-from_get_or, Contains-get_or}
 use Rattle.items.specs.Game.{GameNumbers}
-use Rattle.items.specs.Multiset.{IsSize, IsMultiset, Same, count, largest_of}
+use Rattle.items.specs.Multiset.{IsSize, IsMultiset, Same, largest_of}
 use Rattle.items.specs.Packable.{IsAssignment, Packable, bin_total}
 use Rattle.items.proofs.MultisetLemmas.{length-Same, RisesFrom-zero, largest_of_bound, largest_of_last}
 use Rattle.items.proofs.SameLemmas.{Same-sym, Same-trans}
 use Rattle.loads.specs.Descending.{IsDescending}
-use Rattle.loads.specs.Loads.{IsLoads}
 use Rattle.loads.proofs.CountLemmas.{count-sum_by, Contains-Same}
-use Rattle.reachable_loads.specs.Reached.{ItemsSent, sent, totals, HasTotals, AreLoadsOf, IsReached, IsReachOf}
+use Rattle.reachable_loads.specs.Reached.{ItemsSent, sent, totals, HasTotals, IsReached, IsReachOf}
 use Rattle.reachable_loads.specs.Pack.{CanTakeOut, prefixes_of}
 use Rattle.reachable_loads.proofs.AssignmentLemmas.{length-totals, get_or-totals, totals-push, PutsLast, puts_last}
 use Rattle.reachable_loads.proofs.ReachLemmas.{member_from_Packable}
@@ -107,12 +105,12 @@ IsWalkedBack-more game items left done i bin l within can w =
       one_each = omega (arith, w.one_each);
       of_game = All-cons (λ b. b < game.bins) bin done (omega (arith, within, n)) w.of_game;
       fits = λ b lb.
-        let now = ap {B = ℕ} (λ xs. bin_total b xs (bin ∷ done)) rest in
-        let was = w.fits b lb in
-        elim (cases_eq b bin) [
-          | inl e ↦ omega (arith, now, was, can.0, cond-true (eqb b bin) size 0 (eq-eqb b bin e), get_or-set_same left bin (get_or left bin 0 - size) 0 within, ap {B = ℕ} (λ k. get_or left k 0) e, ap {B = ℕ} (λ k. get_or (set left bin (get_or left bin 0 - size)) k 0) e)
-          | inr q ↦ omega (arith, now, was, cond-false (eqb b bin) size 0 (ne_eqb b bin q), get_or-set_other left bin b (get_or left bin 0 - size) 0 q)
-        ];
+          let now = ap {B = ℕ} (λ xs. bin_total b xs (bin ∷ done)) rest in
+          let was = w.fits b lb in
+          elim (cases_eq b bin) [
+            | inl e ↦ omega (arith, now, was, can.0, cond-true (eqb b bin) size 0 (eq-eqb b bin e), get_or-set_same left bin (get_or left bin 0 - size) 0 within, ap {B = ℕ} (λ k. get_or left k 0) e, ap {B = ℕ} (λ k. get_or (set left bin (get_or left bin 0 - size)) k 0) e)
+            | inr q ↦ omega (arith, now, was, cond-false (eqb b bin) size 0 (ne_eqb b bin q), get_or-set_other left bin b (get_or left bin 0 - size) 0 q)
+          ];
     }
 
 -- all items have their bins

@@ -1,9 +1,9 @@
 -- The loads that are put in, one of the different loads after the other.
-use Rattle.std.proofs.Common.{◌≡◌, ◌↔◌, ℕ, zero, suc, ◌+◌, ◌-◌, ◌<◌, ◌≤◌, List, [], ◌∷◌, length, get_or, refl, sym, ap, ◌∙◌, subst, arith, inl, inr, ◌⊎◌, ⊎_elim, Option, Some, None}
-use Rattle.std.specs.Prelude.{All, Contains, MatchOption}
-use Rattle.std.proofs.lemmas.Bool.{cases_eq, cases_lt}
+use Rattle.std.proofs.Common.{◌≡◌, ◌↔◌, ℕ, ◌+◌, ◌<◌, ◌≤◌, List, length, get_or, sym, ap, ◌∙◌, arith, inl, inr, ◌⊎◌, ⊎_elim, Option, Some, None}
+use Rattle.std.specs.Prelude.{Contains, MatchOption}
+use Rattle.std.proofs.lemmas.Bool.{cases_eq}
 use Rattle.std.proofs.lemmas.List.{get_or_default}
-use Rattle.std.proofs.lemmas.List.Elements.{All-contains, Contains-get_or}
+use Rattle.std.proofs.lemmas.List.Elements.{Contains-get_or}
 use Rattle.loads.specs.Descending.{distinct}
 use Rattle.loads.specs.Loads.{loads_after}
 use Rattle.loads.proofs.DistinctLemmas.{Contains-distinct, Contains-from_distinct}

@@ -1,20 +1,19 @@
 -- The sorted loads that assignments reach, and what one more item does to them.
-use Rattle.std.proofs.Common.{◌≡◌, ◌↔◌, ℕ, zero, suc, ◌+◌, ◌-◌, ◌<◌, ◌≤◌, max, cond, eqb, List, [], ◌∷◌, ◌++◌, length, get_or, set, replicate, map, refl, sym, ap, ◌∙◌, subst, arith, inl, inr, ◌⊎◌, ⊎_elim}
+use Rattle.std.proofs.Common.{◌≡◌, ◌↔◌, ℕ, zero, suc, ◌+◌, ◌-◌, ◌<◌, ◌≤◌, max, cond, eqb, List, [], ◌∷◌, ◌++◌, length, get_or, replicate, refl, sym, ap, ◌∙◌, subst, arith, inl, inr, ◌⊎◌, ⊎_elim}
 use Rattle.std.specs.Prelude.{All, Contains}
-use Rattle.std.proofs.lemmas.Bool.{cases_eq, cases_lt}
+use Rattle.std.proofs.lemmas.Bool.{cases_lt}
 use Rattle.std.proofs.lemmas.List.{nil_from_length}
-use Rattle.std.proofs.lemmas.List.Elements.{All-from_get_or, All-weaker, All-nil, All-push, All-contains, Contains-get_or}
+use Rattle.std.proofs.lemmas.List.Elements.{All-from_get_or, All-weaker, All-contains, Contains-get_or}
 use Rattle.items.specs.Game.{GameNumbers, IsGame}
 use Rattle.items.specs.Multiset.{IsSize, Same, count}
 use Rattle.items.specs.Packable.{IsAssignment, Packable, IsRoom, bin_total}
 use Rattle.items.proofs.MultisetLemmas.{length-Same}
-use Rattle.items.proofs.SameLemmas.{Same-sym, Same-trans, Same-refl}
+use Rattle.items.proofs.SameLemmas.{Same-sym}
 use Rattle.loads.specs.Descending.{IsDescending, put_descending}
 use Rattle.loads.specs.Loads.{IsLoads, loads_after}
-use Rattle.loads.proofs.DescendingLemmas.{IsDescending-put, IsDescending-nil, IsDescending-take_out, Contains-nil}
+use Rattle.loads.proofs.DescendingLemmas.{IsDescending-put, IsDescending-nil, IsDescending-take_out}
 use Rattle.loads.proofs.CountLemmas.{count-sum_by, sum_by-put, equal_from_Same, Contains-Same}
 use Rattle.loads.proofs.LoadsLemmas.{Same-loads_after}
-use Rattle.std.proofs.lemmas.List.Sums.{sum_by-cons}
 use Rattle.reachable_loads.specs.Reached.{totals, AreLoadsOf, IsReached, ItemsSent, sent, IsReachOf, FitOffline, AnyOf, HasRoom, IsAfter, IsLeast}
 use Rattle.reachable_loads.proofs.AssignmentLemmas.{length-totals, get_or-totals, totals-push, IsAssignment-push, PutsLast, puts_last, IsAssignment-nil, totals-nil}
 
@@ -139,7 +138,6 @@ AnyOf-from_member P (ys ∷ xss) xs (suc k, l, e) p = inr (AnyOf-from_member P x
 -- the members after one more item
 pub IsReachOf-push : (game : GameNumbers) (items : List ℕ) (size : ℕ) (members after : List (List ℕ)) → IsReachOf game items members → IsSize game.capacity size → ((loads : List ℕ) → Contains after loads ↔ AnyOf (IsAfter game.capacity size loads) members) → IsReachOf game (items ++ size ∷ []) after
 IsReachOf-push game items size members after r s h = record {
-  sizes = All-push (IsSize game.capacity) items size r.sizes s;
   exact = λ loads. (
     λ c. let a = AnyOf-member (IsAfter game.capacity size loads) members ((h loads).0 c) in IsReached-after game items a.0 loads size s ((r.exact a.0).0 a.1) a.2,
     λ q. let f = came_from game items loads size q in (h loads).1 (AnyOf-from_member (IsAfter game.capacity size loads) members f.before ((r.exact f.before).1 f.reached) f.is_after),
@@ -163,7 +161,6 @@ IsReachOf-nil game members h =
       same = λ x. ap (count x) (totals-nil game);
     } in
     record {
-      sizes = All-nil (IsSize game.capacity);
       exact = λ loads. (
         λ c. ([], subst (AreLoadsOf game [] []) (sym ((h loads).0 c)) zeros),
         λ q. (h loads).1 (equal_from_Same loads (replicate game.bins 0) q.1.descending zeros.descending (λ x. sym (q.1.same x) ∙ ap (count x) (totals_of_none game q.0 q.1.assigned.one_each))),
@@ -264,3 +261,12 @@ pub HasAfter-end : (capacity size : ℕ) (made rest members : List (List ℕ)) �
 HasAfter-end capacity size made rest members e h loads =
     let h' : HasAfter capacity size made [] members = subst (λ xss. HasAfter capacity size made xss members) e h in
     (λ c. (h' loads).0 (inl c), λ a. ⊎_elim (λ c. c) (λ none. absurd none) ((h' loads).1 a))
+
+-- items that do not fit leave no room
+pub no_room : (reach : ItemsSent) (room : ℕ) → ((size : ℕ) → Packable reach.game (reach.items ++ size ∷ []) ↔ (1 ≤ size) × (size ≤ room)) → (Packable reach.game reach.items → ⊥) → room ≡ 0
+no_room reach room law h = elim (cases_lt 0 room) [
+  | inl l ↦
+      let p = (law room).1 (l, omega arith) in
+      let last = puts_last reach.game reach.items room p.0 p.1 in absurd (h (last.before, last.assigned))
+  | inr l ↦ omega arith
+]

@@ -1,7 +1,7 @@
 use Rattle.std.specs.Prelude.{◌≡◌, ◌↔◌, ℕ, ◌+◌, ◌≤◌, ◌⊎◌, List, [], ◌∷◌, length, map, All, Contains}
 use Rattle.std.specs.List.{range_with_len}
 use Rattle.items.specs.Game.{GameNumbers}
-use Rattle.items.specs.Multiset.{IsSize, Same}
+use Rattle.items.specs.Multiset.{Same}
 use Rattle.items.specs.Packable.{IsAssignment, bin_total}
 use Rattle.loads.specs.Descending.{IsDescending}
 use Rattle.loads.specs.Loads.{loads_after}
@@ -40,7 +40,6 @@ pub record FitOffline (game : GameNumbers) (loads : List ℕ) : Type 0 where
 
 -- the members of a set are exactly the sorted loads of assignments of the items
 pub record IsReachOf (game : GameNumbers) (items : List ℕ) (members : List (List ℕ)) : Type 0 where
-  pub sizes : All (IsSize game.capacity) items
   pub exact : (loads : List ℕ) → Contains members loads ↔ IsReached game items loads
 
 -- it holds of some list

@@ -6,3 +6,6 @@ mod reach;
 
 pub use packing::pack;
 pub use reach::Reach;
+
+#[cfg(test)]
+mod tests;

@@ -75,6 +75,7 @@ impl Reach {
     pub fn room(&self) -> u16
         ensures exact { IsRoom self.now.game self.now.items result }
         ensures law { (size : ℕ) → Packable self.now.game (self.now.items ++ size ∷ []) ↔ (1 ≤ size) × (size ≤ result) }
+        ensures none { (Packable self.now.game self.now.items → ⊥) → result ≡ 0 }
     {
         let capacity = self.game.g();
         let mut room = 0u16;

@@ -1,4 +1,4 @@
-use Rattle.std.proofs.Common.{◌≡◌, ◌<◌, ◌≤◌, ◌∙◌, List, ℕ, take, length, get_or, sym, ap, subst, arith}
+use Rattle.std.proofs.Common.{◌≡◌, ◌∙◌, length, get_or, ap, subst, arith}
 use Rattle.items.specs.Packable.{Packable}
 use Rattle.reachable_loads.specs.Reached.{ItemsSent, sent, IsReached}
 use Rattle.reachable_loads.proofs.PackLemmas.{at_prefix, whole_prefix, length-prefixes_of}

@@ -1,4 +1,4 @@
-use Rattle.std.proofs.Common.{◌≡◌, ◌<◌, ◌+◌, ◌++◌, ◌∙◌, List, ℕ, drop, length, get_or, sym, ap, subst, arith}
+use Rattle.std.proofs.Common.{◌<◌, ◌+◌, ◌++◌, ◌∙◌, drop, length, ap, arith}
 use Rattle.reachable_loads.specs.Pack.{items_in}
 use Rattle.reachable_loads.proofs.ContentsLemmas.{contents-more, contents-past}
 use Rattle.reachable_loads.proofs.packing.contents.Goals as goal

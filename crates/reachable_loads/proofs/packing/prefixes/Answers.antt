@@ -1,4 +1,4 @@
-use Rattle.std.proofs.Common.{◌≡◌, ◌≤◌, ◌<◌, ◌+◌, ◌∙◌, ◌++◌, ◌∷◌, [], take, get_or, sym, ap, length, arith, subst, ℕ, List}
+use Rattle.std.proofs.Common.{◌≡◌, ◌∙◌, ◌++◌, ◌∷◌, [], take, get_or, ap, length, arith, ℕ, List}
 use Rattle.reachable_loads.specs.Reached.{ItemsSent, sent}
 use Rattle.reachable_loads.proofs.PackLemmas.{at_prefix, length-prefixes_of, prefixes_of-more}
 use Rattle.reachable_loads.proofs.packing.prefixes.Goals as goal

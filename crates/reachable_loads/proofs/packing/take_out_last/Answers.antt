@@ -1,4 +1,4 @@
-use Rattle.std.proofs.Common.{◌≡◌, ◌≤◌, ◌<◌, ◌∙◌, sym, ap, length, arith, subst}
+use Rattle.std.proofs.Common.{◌≤◌, ◌∙◌, sym, ap, length, arith, subst}
 use Rattle.std.specs.Prelude.{All}
 use Rattle.reachable_loads.proofs.PackLemmas.{length-HasTotals, All-HasTotals, bin_to_take}
 use Rattle.reachable_loads.proofs.packing.take_out_last.Goals as goal

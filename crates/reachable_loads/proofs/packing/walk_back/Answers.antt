@@ -1,7 +1,7 @@
-use Rattle.std.proofs.Common.{◌≡◌, ◌<◌, ◌≤◌, ◌+◌, ◌-◌, ◌∙◌, List, ℕ, take, length, get_or, reverse, sym, ap, subst, arith}
+use Rattle.std.proofs.Common.{◌≡◌, ◌-◌, ◌∙◌, take, length, get_or, reverse, sym, ap, subst, arith}
 use Rattle.std.proofs.lemmas.List.{with_items_is}
 use Rattle.items.specs.Packable.{IsAssignment}
-use Rattle.reachable_loads.specs.Reached.{ItemsSent, sent, IsReached}
+use Rattle.reachable_loads.specs.Reached.{sent}
 use Rattle.reachable_loads.proofs.PackLemmas.{IsWalkedBack, IsWalkedBack-start, IsAssignment-walked, at_prefix, length-prefixes_of, ready_to_take, walked_on, reverse-push}
 use Rattle.reachable_loads.proofs.packing.walk_back.Goals as goal
 use Rattle.reachable_loads.proofs.packing.walk_back.Goals.{After-index}

@@ -1,4 +1,4 @@
-use Rattle.std.proofs.Common.{◌≡◌, ◌+◌, ◌≤◌, ◌<◌, ◌∙◌, ap, sym, subst, arith, length, get_or, List, ℕ, ◌⊎◌, ◌↔◌}
+use Rattle.std.proofs.Common.{◌≡◌, ◌+◌, ◌≤◌, ◌∙◌, ap, sym, subst, arith, get_or, List, ℕ, ◌⊎◌, ◌↔◌}
 use Rattle.std.specs.Prelude.{Contains}
 use Rattle.std.specs.BTreeSet.{BTreeSet}
 use Rattle.std.proofs.lemmas.Cmp.{nat_list_cmp_total}

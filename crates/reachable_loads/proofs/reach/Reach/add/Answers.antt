@@ -1,10 +1,10 @@
-use Rattle.std.proofs.Common.{◌≡◌, ◌≤◌, ◌∙◌, ◌++◌, ◌∷◌, [], ℕ, List, ◌↔◌, sym, ap, subst, arith}
+use Rattle.std.proofs.Common.{◌≡◌, ◌∙◌, ◌++◌, ◌∷◌, [], ℕ, List, ◌↔◌, sym, ap, subst, arith}
 use Rattle.std.specs.Prelude.{Contains}
 use Rattle.std.specs.Map.Iter.{deref}
 use Rattle.std.proofs.lemmas.Map.Views.{All-turn}
 use Rattle.items.specs.Multiset.{IsSize}
 use Rattle.reachable_loads.specs.Reached.{FitOffline, IsReachOf, ItemsSent, AnyOf, IsAfter}
-use Rattle.reachable_loads.proofs.ReachLemmas.{FitOffline-members, HasAfter, HasAfter-start, HasAfter-more, HasAfter-end, IsReachOf-push}
+use Rattle.reachable_loads.proofs.ReachLemmas.{FitOffline-members, HasAfter-start, HasAfter-more, HasAfter-end, IsReachOf-push}
 use Rattle.reachable_loads.proofs.reach.Reach.add.Goals as goal
 use Rattle.reachable_loads.proofs.reach.Reach.add.Goals.{After-result-1}
 

@@ -1,8 +1,8 @@
-use Rattle.std.proofs.Common.{◌≡◌, ◌<◌, ◌≤◌, ◌∙◌, sym, ap, subst, arith, ⊎_elim, inl, inr}
+use Rattle.std.proofs.Common.{sym, subst, arith}
 use Rattle.std.specs.Map.Iter.{deref}
 use Rattle.std.proofs.lemmas.Map.Views.{All-turn}
 use Rattle.reachable_loads.specs.Reached.{FitOffline}
-use Rattle.reachable_loads.proofs.ReachLemmas.{FitOffline-members, TellsRoom, TellsRoom-start, TellsRoom-more, IsTold-end, IsRoom-from_law, least-le_capacity}
+use Rattle.reachable_loads.proofs.ReachLemmas.{FitOffline-members, TellsRoom, TellsRoom-start, TellsRoom-more, IsTold-end, IsRoom-from_law, no_room, least-le_capacity}
 use Rattle.reachable_loads.proofs.reach.Reach.room.Goals as goal
 use Rattle.reachable_loads.proofs.reach.Reach.room.Goals.{In-Some}
 
@@ -31,7 +31,7 @@ pub returns : goal.returns
 returns c =
     let i = c.loop-loads.invariant in
     let h = IsTold-end c.self.inside.game c.self.inside.items c.args.self.now c.self.inside.members.keys c.into_iter-loads-iterator.result c.loop-loads.loads-iterator c.loop-loads.room c.g-capacity.result c.self.view_is c.self.invariant c.g-capacity.ensures.value c.into_iter-loads-iterator.ensures.into_iter_gives.0 c.in-None.ensures.steps.0 i.within i.tells in
-    record { exact = IsRoom-from_law c.args.self.now.game c.args.self.now.items c.loop-loads.room h.within h.law; law = h.law }
+    record { exact = IsRoom-from_law c.args.self.now.game c.args.self.now.items c.loop-loads.room h.within h.law; law = h.law; none = no_room c.args.self.now c.loop-loads.room h.law }
 
 pub overflow_sub-capacity : goal.overflow_sub-capacity
 overflow_sub-capacity c = omega (arith, least-le_capacity c.self.inside.game c.in-Some.loads.now c.least.result (fits (goal.at.overflow_sub-capacity c).In-Some) c.least.ensures, c.g-capacity.ensures.value)
