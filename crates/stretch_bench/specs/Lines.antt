@@ -9,10 +9,10 @@ use Rattle.strategy_text.specs.declared.rule.Rule.{Rule}
 use Rattle.strategy_text.specs.declared.rule.Rule.TheVariants as rules
 
 -- words with one space between two, and a line feed behind the last
-abbrev pub line_of : List (List ℕ) → List ℕ
-line_of [] = 10 ∷ []
-line_of (word ∷ []) = word ++ 10 ∷ []
-line_of (word ∷ next ∷ words) = word ++ 32 ∷ line_of (next ∷ words)
+abbrev pub written_line : List (List ℕ) → List ℕ
+written_line [] = 10 ∷ []
+written_line (word ∷ []) = word ++ 10 ∷ []
+written_line (word ∷ next ∷ words) = word ++ 32 ∷ written_line (next ∷ words)
 
 abbrev pub side_name : Side → List ℕ
 side_name Adversary = codes "adversary"
@@ -33,7 +33,7 @@ rule_name rules.Root = codes "root"
 -- a legal strategy was read: its side, its game, and how many nodes it has
 abbrev pub accepted_line : Accepted → List ℕ
 accepted_line accepted =
-    line_of (codes "accepted" ∷ side_name accepted.side ∷ decimal accepted.game.bins ∷ decimal accepted.game.capacity ∷ decimal accepted.game.target ∷ codes "nodes" ∷ decimal accepted.nodes ∷ [])
+    written_line (codes "accepted" ∷ side_name accepted.side ∷ decimal accepted.game.bins ∷ decimal accepted.game.capacity ∷ decimal accepted.game.target ∷ codes "nodes" ∷ decimal accepted.nodes ∷ [])
 
 -- what is wrong with a line
 abbrev pub why_words : Why → List (List ℕ)
@@ -42,8 +42,8 @@ why_words (why.Rule rule) = codes "rule" ∷ rule_name rule ∷ []
 
 -- the input has a fault in this line, counted from 1
 abbrev pub rejected_line : ℕ → Why → List ℕ
-rejected_line line fault = line_of (codes "rejected" ∷ codes "line" ∷ decimal line ∷ why_words fault)
+rejected_line line fault = written_line (codes "rejected" ∷ codes "line" ∷ decimal line ∷ why_words fault)
 
 -- the words spell no command
 abbrev pub usage_line : List ℕ
-usage_line = line_of (codes "usage" ∷ [])
+usage_line = written_line (codes "usage" ∷ [])

@@ -17,7 +17,7 @@ abbrev pub WritesFirst : Option (List ℕ) → Option (List ℕ) → List ℕ �
 WritesFirst None new bytes = ⊥
 WritesFirst (Some old) new bytes = (more : List ℕ) × (new ≡ Some (old ++ (bytes ++ more)))
 
--- numbers of at most 64 bits
+-- the numbers of an answer are ones that the program can hold
 pub record HasNumbers (accepted : Accepted) : Type 0 where
   pub bins : accepted.game.bins < 2 ^ 64
   pub capacity : accepted.game.capacity < 2 ^ 64
