@@ -1,24 +1,36 @@
 -- Why a line was refused, from what stood next.
-use Rattle.std.proofs.Common.{◌≡◌, ℕ, List, [], ◌∷◌, ◌++◌, Option, Some, None, sym, ap, ◌∙◌, subst, refl, IfSome}
+use Rattle.std.proofs.Common.{◌≡◌, inl, inr, Bool, true, false, ℕ, ◌+◌, ◌==◌, List, [], ◌∷◌, ◌++◌, length, Option, Some, None, sym, ap, ◌∙◌, subst, refl, IfSome, IfNone, arith}
 use Rattle.std.specs.Io.KnownBytes.{prepend_known}
 use Rattle.std.proofs.lemmas.List.{append-nil}
 use Rattle.std.proofs.lemmas.List.Elements.{All-head, All-cons, All-nil}
 use Rattle.port_io.specs.declared.lines.Line.{Line}
 use Rattle.port_io.specs.declared.lines.Line.TheVariants.{Text, End}
-use Rattle.port_io.specs.Lines.{IsLine, with_lf, OnlyStandsNext}
+use Rattle.port_io.specs.Lines.{ReaderState, IsLine, with_lf, OnlyStandsNext}
 use Rattle.port_io.proofs.NextLemmas.{with_lf-only}
+use Rattle.items.specs.Game.{GameNumbers}
+use Rattle.items.specs.Multiset.{sizes_of}
+use Rattle.loads.specs.declared.position.Position.{Position}
+use Rattle.strategy_text.specs.declared.node.AdvNode.{AdvNode}
 use Rattle.strategy_text.specs.declared.rule.Rule.{Rule}
+use Rattle.strategy_text.specs.Spelling.{SpellsAdversary}
+use Rattle.strategy_text.specs.Text.{end_line}
+use Rattle.adversary_graph.specs.Rules.{Breaks}
 use Rattle.checker.specs.declared.fault.CheckFault.{CheckFault}
 use Rattle.checker.specs.declared.fault.CheckFault.TheVariants.{Rejected, Read, Memory}
 use Rattle.checker.specs.declared.fault.Why.TheVariants as why
-use Rattle.checker.specs.Progress.{StoodNext, HasNext, HasMore, RefusesNext, AnyLine, NoRule}
+use Rattle.checker.specs.FirstFault.{IsNodeLine}
+use Rattle.checker.specs.Progress.{StoodNext, ReadsLines, HasNext, HasMore, RefusesNext, RefusesEnd, AnyLine, NoRule, BreaksNode}
+
+pub both_ways : (b : Bool) → b ≡ false → b ≡ true → ⊥
+both_ways true e f = absurd cc
+both_ways false e f = absurd cc
 
 -- what stood next was no whole line
 pub refuses_other : (number : ℕ) (come : Option (List ℕ)) (other : Line) → (other ≡ Text → ⊥) → IfSome come (OnlyStandsNext other) → RefusesNext number AnyLine NoRule come (Rejected number why.Syntax)
 refuses_other number None other differs only = (refl, tt)
 refuses_other number (Some bytes) other differs only = (refl, λ next. differs (only Text (next.line, next.rest, next.whole, next.split)))
 
--- a line that is not whole is of no form, and breaks no rule
+-- a line that is not whole is of never form, and breaks no rule
 pub RefusesNext-any : (number : ℕ) (Form : List ℕ → Type 0) (Breaking : Rule → List ℕ → Type 0) (come : Option (List ℕ)) (fault : CheckFault) → RefusesNext number AnyLine NoRule come fault → RefusesNext number Form Breaking come fault
 RefusesNext-any number Form Breaking None (Rejected line why.Syntax) h = (h.0, tt)
 RefusesNext-any number Form Breaking (Some bytes) (Rejected line why.Syntax) h =
@@ -65,3 +77,33 @@ StoodNext-one text old new whole came = record {
   whole = All-cons IsLine text [] whole (All-nil IsLine);
   came = came ∙ ap (λ front. prepend_known front new) (sym (append-nil (with_lf text)));
 }
+
+-- a line that spells no node was refused
+pub refuses_node_form : (game : GameNumbers) (count number line : ℕ) (earlier : List Position) (given text : List ℕ) (fault : CheckFault) (old new : Option (List ℕ)) → number ≡ length earlier → line ≡ number → given ≡ text → StoodNext (text ∷ []) old new → ((node : AdvNode) → SpellsAdversary given number node → ⊥) → fault ≡ Rejected (5 + line) why.Syntax → RefusesNext (5 + length earlier) (IsNodeLine (length earlier)) (BreaksNode game count earlier) old fault
+refuses_node_form game count number line earlier given text fault old new of_number of_line of_text stood never is =
+    let at : line ≡ length earlier = of_line ∙ of_number in
+    let refused = refuses_form (5 + length earlier) (IsNodeLine (length earlier)) (BreaksNode game count earlier) text old new stood (λ form. never form.0 (subst (λ (i : ℕ). SpellsAdversary given i form.0) (sym of_number) (subst (λ (t : List ℕ). SpellsAdversary t (length earlier) form.0) (sym of_text) form.1))) in
+    subst (λ (f : CheckFault). RefusesNext (5 + length earlier) (IsNodeLine (length earlier)) (BreaksNode game count earlier) old f) (sym (is ∙ ap (λ (i : ℕ). Rejected (5 + i) why.Syntax) at)) refused
+
+-- a node that breaks a rule was refused
+pub refuses_node_rule : (game : GameNumbers) (count number line : ℕ) (earlier : List Position) (given text : List ℕ) (fault : CheckFault) (old new : Option (List ℕ)) (node : AdvNode) (rule : Rule) → number ≡ length earlier → line ≡ number → given ≡ text → StoodNext (text ∷ []) old new → SpellsAdversary given number node → Breaks game (sizes_of game) earlier (number + 1 == count) node rule → fault ≡ Rejected (5 + line) (why.Rule rule) → RefusesNext (5 + length earlier) (IsNodeLine (length earlier)) (BreaksNode game count earlier) old fault
+refuses_node_rule game count number line earlier given text fault old new node rule of_number of_line of_text stood spells breaks is =
+    let at : line ≡ length earlier = of_line ∙ of_number in
+    let here : SpellsAdversary text (length earlier) node = subst (λ (i : ℕ). SpellsAdversary text i node) of_number (subst (λ (t : List ℕ). SpellsAdversary t number node) of_text spells) in
+    let broken : Breaks game (sizes_of game) earlier (length earlier + 1 == count) node rule = subst (λ (i : ℕ). Breaks game (sizes_of game) earlier (i + 1 == count) node rule) of_number breaks in
+    let refused = refuses_rule (5 + length earlier) (IsNodeLine (length earlier)) (BreaksNode game count earlier) rule text old new stood (node, here, broken) in
+    subst (λ (f : CheckFault). RefusesNext (5 + length earlier) (IsNodeLine (length earlier)) (BreaksNode game count earlier) old f) (sym (is ∙ ap (λ (i : ℕ). Rejected (5 + i) (why.Rule rule)) at)) refused
+
+-- no end line stood next
+pub refuses_end_form : (count line : ℕ) (given text : List ℕ) (fault : CheckFault) (old new : Option (List ℕ)) → line ≡ count → given ≡ text → StoodNext (text ∷ []) old new → (given ≡ end_line → ⊥) → fault ≡ Rejected (5 + line) why.Syntax → RefusesEnd count old fault
+refuses_end_form count line given text fault old new of_line of_text stood never is =
+    let refused = refuses_form (5 + count) (λ t. t ≡ end_line) NoRule text old new stood (λ e. never (of_text ∙ e)) in
+    inl (subst (λ (f : CheckFault). RefusesNext (5 + count) (λ t. t ≡ end_line) NoRule old f) (sym (is ∙ ap (λ (i : ℕ). Rejected (5 + i) why.Syntax) of_line)) refused)
+
+-- bytes stood behind the end line
+pub refuses_end_past : (count line : ℕ) (given text : List ℕ) (fault : CheckFault) (old mid : Option (List ℕ)) (other : Line) (reader : ReaderState) → line ≡ count → given ≡ text → given ≡ end_line → ReadsLines (text ∷ []) reader old mid → (other ≡ End → ⊥) → IfNone reader.ending (IfSome mid (OnlyStandsNext other)) → fault ≡ Rejected ((5 + line) + 1) why.Syntax → RefusesEnd count old fault
+refuses_end_past count line given text fault old mid other reader of_line of_text ends reads differs only is =
+    let here : StoodNext (end_line ∷ []) old mid = subst (λ (t : List ℕ). StoodNext (t ∷ []) old mid) (sym of_text ∙ ends) reads.stood in
+    let sum : (5 + line) + 1 ≡ 6 + count = omega arith in
+    let next : IfSome mid (OnlyStandsNext other) = subst (λ (met : Option Line). IfNone met (IfSome mid (OnlyStandsNext other))) reads.open_still only in
+    inr (is ∙ ap (λ (i : ℕ). Rejected i why.Syntax) sum, refuses_past end_line old mid other here differs next)

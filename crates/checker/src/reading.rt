@@ -114,7 +114,10 @@ fn read_count<S: Source>(lines: &mut LineReader, source: &mut S) -> Result<u32, 
     ensures refused { IfErr result (RefusesNext 4 IsCountLine NoRule (to_come lines.old (S.left source.old))) }
 {
     next_text(lines, source, 4)?;
-    parse_nodes(lines.text()).ok_or(syntax(4))
+    let Some(nodes) = parse_nodes(lines.text()) else {
+        return Err(syntax(4));
+    };
+    Ok(nodes)
 }
 
 // Reads the node that follows the earlier ones, judges it, and keeps its position.
