@@ -6,7 +6,7 @@ use Rattle.std.proofs.lemmas.Grind.{flat_map-append}
 use Rattle.std.proofs.lemmas.List.{append-nil, length-map, length_push}
 use Rattle.std.proofs.lemmas.List.Elements.{All-head, All-tail, All-cons, All-nil}
 use Rattle.std.proofs.lemmas.Option.{slice_get_within, slice_get-get_or, get_or_from_slice_get}
-use Rattle.port_io.specs.Lines.{IsLine, HasNoLf, with_lf}
+use Rattle.port_io.specs.Lines.{ReaderState, IsLine, HasNoLf, with_lf}
 use Rattle.port_io.proofs.NextLemmas.{with_lf-only}
 use Rattle.items.specs.Game.{GameNumbers, IsGame}
 use Rattle.items.specs.Multiset.{sizes_of}
@@ -29,6 +29,7 @@ use Rattle.checker.specs.declared.fault.Why.TheVariants as why
 use Rattle.checker.specs.FirstFault.{HasLine, HasForm, HasBytesPast, IsGameLine, IsSideLine, IsCountLine, IsNodeLine, HasHead, HasNodes, LineFault, first_syntax, game_syntax, game_rule, side_syntax, side_rule, count_syntax, node_syntax, node_rule, end_syntax, past_syntax, FirstFault, HasNoFault, IfRejected}
 use Rattle.checker.specs.Progress.{StoodNext, ReadsNodes, HasNext, HasMore, RefusesNext, RefusesNode, RefusesEnd, NoRule, BreaksGame, BreaksSide, BreaksNode}
 use Rattle.checker.proofs.ProgressLemmas.{StoodNext-then, StoodNext-none, length-adversary_lines}
+use Rattle.checker.proofs.RefusalLemmas.{StoodNext-one}
 
 -- ---- one line stands in a place
 
@@ -71,7 +72,7 @@ node_same bytes n k g h le a b =
     cc
 
 sides_differ : side_line Adversary ≡ side_line Algorithm → ⊥
-sides_differ e = let d : 100 ≡ 108 = ap (λ (l : List ℕ). get_or l 6 0) e in absurd (omega arith)
+sides_differ e = let d : ◌≡◌ {A = ℕ} 100 108 = ap (λ (l : List ℕ). get_or l 6 0) e in absurd (omega arith)
 
 count_high : (bytes : List ℕ) (game : GameNumbers) (count : ℕ) → HasHead bytes game count → count ≤ 4000000000
 count_high bytes game count head = head.nodes.2.high
@@ -289,21 +290,18 @@ lines_get number (first ∷ nodes) (suc k) node e =
     let at : (number + 1) + k ≡ number + suc k = omega arith in
     lines_get (number + 1) nodes k node e ∙ ap (λ (i : ℕ). Some (adversary_line i node)) at
 
-behind_head : (game : GameNumbers) (count : ℕ) (lines : List (List ℕ)) (k : ℕ) → slice_get (head_lines game count lines) (suc (suc (suc (suc k)))) ≡ slice_get lines k
-behind_head game count lines k = refl
-
 front_get : (lines more : List (List ℕ)) (k : ℕ) (line : List ℕ) → slice_get lines k ≡ Some line → slice_get (lines ++ more) k ≡ Some line
 front_get [] more k line e = let none : None ≡ Some line = e in absurd cc
 front_get (l ∷ ls) more zero line e = e
 front_get (l ∷ ls) more (suc k) line e = front_get ls more k line e
 
-nodes_from : (game : GameNumbers) (count : ℕ) (nodes : List AdvNode) (more : List (List ℕ)) (bytes : List ℕ) (mid : Option (List ℕ)) → All IsSpellable nodes → StoodNext (head_lines game count (adversary_lines 0 nodes ++ more)) (Some bytes) mid → HasNodes bytes nodes
-nodes_from game count nodes more bytes mid spellable stood k node e =
+nodes_from : (game : GameNumbers) (count : ℕ) (nodes : List AdvNode) (lines : List (List ℕ)) (bytes : List ℕ) (mid : Option (List ℕ)) → All IsSpellable nodes → ((k : ℕ) (line : List ℕ) → slice_get (adversary_lines 0 nodes) k ≡ Some line → slice_get lines k ≡ Some line) → StoodNext (head_lines game count lines) (Some bytes) mid → HasNodes bytes nodes
+nodes_from game count nodes lines bytes mid spellable front stood k node e =
     let at : 0 + k ≡ k = omega arith in
-    let get : slice_get (adversary_lines 0 nodes ++ more) k ≡ Some (adversary_line k node) = front_get (adversary_lines 0 nodes) more k (adversary_line k node) (lines_get 0 nodes k node e ∙ ap (λ (i : ℕ). Some (adversary_line i node)) at) in
+    let get : slice_get lines k ≡ Some (adversary_line k node) = front k (adversary_line k node) (lines_get 0 nodes k node e ∙ ap (λ (i : ℕ). Some (adversary_line i node)) at) in
     (
       adversary_line k node,
-      line_at (head_lines game count (adversary_lines 0 nodes ++ more)) bytes mid (suc (suc (suc (suc k)))) (5 + k) (adversary_line k node) stood get (omega arith),
+      line_at (head_lines game count lines) bytes mid (suc (suc (suc (suc k)))) (5 + k) (adversary_line k node) stood get (omega arith),
       record {
         spellable = subst IsSpellable (get_or_from_slice_get nodes k node node e) (spellable k node (slice_get_within nodes k node e));
         spelled = refl;
@@ -394,3 +392,86 @@ past_refused bytes game count nodes fault head stand each all end past is =
     subst (λ (f : CheckFault). IfRejected f (FirstFault bytes)) (sym is)
     (FirstFault-at bytes (6 + count) (6 + count) why.Syntax refl (past_syntax game count head past)
     (Faultless-nodes bytes (6 + count) game count nodes head stand each (λ k low far. omega arith) (λ far. end) (λ far. absurd (omega arith))))
+
+-- ---- from the steps of the reading
+
+stood_told : (given : List (List ℕ)) (left come mid : Option (List ℕ)) (bytes : List ℕ) → come ≡ left → left ≡ Some bytes → StoodNext given come mid → StoodNext given (Some bytes) mid
+stood_told given left come mid bytes fresh e stood = subst (λ (c : Option (List ℕ)). StoodNext given c mid) (fresh ∙ e) stood
+
+-- the first line was refused
+pub exit_first : (left come : Option (List ℕ)) (fault : CheckFault) → come ≡ left → RefusesNext 1 (λ text. text ≡ first_line) NoRule come fault → IsFirstOf left fault
+exit_first left come fault fresh h =
+    told left fault (λ bytes e. first_refused bytes fault (refused_after [] bytes come 1 (λ text. text ≡ first_line) NoRule fault (stood_told [] left come come bytes fresh e (StoodNext-none come)) refl h))
+
+-- the game's line was refused
+pub exit_game : (left come first : Option (List ℕ)) (fault : CheckFault) → come ≡ left → StoodNext (first_line ∷ []) come first → RefusesNext 2 IsGameLine BreaksGame first fault → IsFirstOf left fault
+exit_game left come first fault fresh one h =
+    told left fault (λ bytes e. (let given : List (List ℕ) = first_line ∷ [] in
+    let s = stood_told given left come first bytes fresh e one in
+    game_refused bytes fault (first_line, line_at given bytes first 0 1 first_line s refl (omega arith), refl) (refused_after given bytes first 2 IsGameLine BreaksGame fault s refl h)))
+
+-- the side's line was refused
+pub exit_side : (game : GameNumbers) (left come first second : Option (List ℕ)) (fault : CheckFault) → come ≡ left → IsGame game → StoodNext (first_line ∷ []) come first → StoodNext (game_line game ∷ []) first second → RefusesNext 3 IsSideLine BreaksSide second fault → IsFirstOf left fault
+exit_side game left come first second fault fresh of_game one two h =
+    told left fault (λ bytes e. (let given : List (List ℕ) = first_line ∷ game_line game ∷ [] in
+    let s = stood_told given left come second bytes fresh e (StoodNext-then (first_line ∷ []) (game_line game ∷ []) come first second one two) in
+    side_refused bytes game fault (first_line, line_at given bytes second 0 1 first_line s refl (omega arith), refl) (game_line game, line_at given bytes second 1 2 (game_line game) s refl (omega arith), game_spelled game of_game) of_game (refused_after given bytes second 3 IsSideLine BreaksSide fault s refl h)))
+
+-- the line of the number of nodes was refused
+pub exit_count : (game : GameNumbers) (left come first second third : Option (List ℕ)) (fault : CheckFault) → come ≡ left → IsGame game → StoodNext (first_line ∷ []) come first → StoodNext (game_line game ∷ []) first second → StoodNext (side_line Adversary ∷ []) second third → RefusesNext 4 IsCountLine NoRule third fault → IsFirstOf left fault
+exit_count game left come first second third fault fresh of_game one two three h =
+    told left fault (λ bytes e. (let given : List (List ℕ) = first_line ∷ game_line game ∷ side_line Adversary ∷ [] in
+    let s = stood_told given left come third bytes fresh e (StoodNext-then (first_line ∷ []) (game_line game ∷ side_line Adversary ∷ []) come first third one (StoodNext-then (game_line game ∷ []) (side_line Adversary ∷ []) first second third two three)) in
+    count_refused bytes game fault (first_line, line_at given bytes third 0 1 first_line s refl (omega arith), refl) (game_line game, line_at given bytes third 1 2 (game_line game) s refl (omega arith), game_spelled game of_game) of_game (side_line Adversary, line_at given bytes third 2 3 (side_line Adversary) s refl (omega arith), refl) (refused_after given bytes third 4 IsCountLine NoRule fault s refl h)))
+
+-- the lines of a head stood next, and then some lines
+head_stood : (game : GameNumbers) (count : ℕ) (lines : List (List ℕ)) (come first second third fourth last : Option (List ℕ)) → StoodNext (first_line ∷ []) come first → StoodNext (game_line game ∷ []) first second → StoodNext (side_line Adversary ∷ []) second third → StoodNext (count_line count ∷ []) third fourth → StoodNext lines fourth last → StoodNext (head_lines game count lines) come last
+head_stood game count lines come first second third fourth last one two three four more =
+    StoodNext-then (first_line ∷ []) (game_line game ∷ side_line Adversary ∷ count_line count ∷ lines) come first last one
+    (StoodNext-then (game_line game ∷ []) (side_line Adversary ∷ count_line count ∷ lines) first second last two
+    (StoodNext-then (side_line Adversary ∷ []) (count_line count ∷ lines) second third last three
+    (StoodNext-then (count_line count ∷ []) lines third fourth last four more)))
+
+length-head_lines : (game : GameNumbers) (count : ℕ) (nodes : List AdvNode) → length (head_lines game count (adversary_lines 0 nodes)) ≡ 4 + length nodes
+length-head_lines game count nodes = omega (arith, length-adversary_lines 0 nodes)
+
+-- a node's line was refused
+pub exit_nodes : (game : GameNumbers) (count : ℕ) (left come first second third fourth : Option (List ℕ)) (fault : CheckFault) → come ≡ left → IsGame game → (1 ≤ count) × (count ≤ 4000000000) → StoodNext (first_line ∷ []) come first → StoodNext (game_line game ∷ []) first second → StoodNext (side_line Adversary ∷ []) second third → StoodNext (count_line count ∷ []) third fourth → RefusesNode game count fourth fault → IsFirstOf left fault
+exit_nodes game count left come first second third fourth fault fresh of_game range one two three four h =
+    told left fault (λ bytes e. (let lines : List (List ℕ) = adversary_lines 0 h.nodes in
+    let given : List (List ℕ) = head_lines game count lines in
+    let s = stood_told given left come h.mid bytes fresh e (head_stood game count lines come first second third fourth h.mid one two three four h.stood) in
+    let place : length given + 1 ≡ 5 + length h.nodes = omega (arith, length-head_lines game count h.nodes) in
+    node_refused bytes game count h.nodes fault (head_from game count lines bytes h.mid of_game range s) (nodes_from game count h.nodes lines bytes h.mid h.spellable (λ k line at. at) s) h.each h.few (refused_after given bytes h.mid (5 + length h.nodes) (IsNodeLine (length h.nodes)) (BreaksNode game count (map position_of h.nodes)) fault s place h.refused)))
+
+-- bytes stood behind these lines and the end line
+past_from : (given : List (List ℕ)) (bytes rest : List ℕ) (n : ℕ) → StoodNext given (Some bytes) (Some rest) → length given + 1 ≡ n → HasMore end_line rest → HasBytesPast bytes n
+past_from given bytes rest n stood place more =
+    let both = StoodNext-then given (end_line ∷ []) (Some bytes) (Some rest) (Some more.rest) stood (StoodNext-one end_line (Some rest) (Some more.rest) more.whole (ap Some more.split)) in
+    record {
+      before = given ++ end_line ∷ [];
+      rest = more.rest;
+      place = omega (arith, length_push given end_line);
+      lines = no_lf (given ++ end_line ∷ []) both.whole;
+      some = more.some;
+      split = stood_bytes (given ++ end_line ∷ []) bytes more.rest both;
+    }
+
+end_from : (bytes : List ℕ) (game : GameNumbers) (count : ℕ) (nodes : List AdvNode) (given : List (List ℕ)) (mid : Option (List ℕ)) (fault : CheckFault) → HasHead bytes game count → HasNodes bytes nodes → EachMeetsRules game (sizes_of game) count nodes → length nodes ≡ count → StoodNext given (Some bytes) mid → length given + 1 ≡ 5 + count → RefusesEnd count mid fault → IfRejected fault (FirstFault bytes)
+end_from bytes game count nodes given mid fault head stand each all stood place (inl h) =
+    end_refused bytes game count nodes fault head stand each all (refused_after given bytes mid (5 + count) (λ text. text ≡ end_line) NoRule fault stood place h)
+end_from bytes game count nodes given None fault head stand each all stood place (inr h) = absurd (stood_none given bytes stood)
+end_from bytes game count nodes given (Some rest) fault head stand each all stood place (inr h) =
+    let more = h.1 in
+    past_refused bytes game count nodes fault head stand each all
+    (form_from given bytes rest (5 + count) (λ text. text ≡ end_line) stood place (record { line = end_line; rest = more.rest; whole = more.whole; split = more.split; form = refl }))
+    (past_from given bytes rest (5 + count) stood place more) h.0
+
+-- the end was refused
+pub exit_end : (game : GameNumbers) (count : ℕ) (left come first second third fourth fifth : Option (List ℕ)) (reader : ReaderState) (fault : CheckFault) → come ≡ left → IsGame game → (1 ≤ count) × (count ≤ 4000000000) → StoodNext (first_line ∷ []) come first → StoodNext (game_line game ∷ []) first second → StoodNext (side_line Adversary ∷ []) second third → StoodNext (count_line count ∷ []) third fourth → ReadsNodes game count reader fourth fifth → RefusesEnd count fifth fault → IsFirstOf left fault
+exit_end game count left come first second third fourth fifth reader fault fresh of_game range one two three four r h =
+    told left fault (λ bytes e. (let lines : List (List ℕ) = adversary_lines 0 r.nodes in
+    let given : List (List ℕ) = head_lines game count lines in
+    let s = stood_told given left come fifth bytes fresh e (head_stood game count lines come first second third fourth fifth one two three four r.lines.stood) in
+    let place : length given + 1 ≡ 5 + count = omega (arith, length-head_lines game count r.nodes, r.number) in
+    end_from bytes game count r.nodes given fifth fault (head_from game count lines bytes fifth of_game range s) (nodes_from game count r.nodes lines bytes fifth r.spellable (λ k line at. at) s) r.each r.number s place h))
