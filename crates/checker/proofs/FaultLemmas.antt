@@ -1,5 +1,6 @@
 -- The first fault of the whole bytes, from the lines that stood next and the one that was refused.
 use Rattle.std.proofs.Common.{◌≡◌, ◌≢◌, ◌==◌, ◌⊎◌, inl, inr, ℕ, suc, zero, ◌+◌, ◌<◌, ◌≤◌, List, [], ◌∷◌, ◌++◌, length, get_or, take, map, All, Option, Some, None, sym, ap, ◌∙◌, subst, refl, arith, append_assoc, IfSome}
+use Rattle.std.specs.Prelude.{Result, Ok, Err, IfErr, IsErrAnd}
 use Rattle.std.specs.List.{slice_get, AllByRecursion}
 use Rattle.std.specs.Io.KnownBytes.{prepend_known}
 use Rattle.std.proofs.lemmas.Grind.{flat_map-append}
@@ -475,3 +476,8 @@ exit_end game count left come first second third fourth fifth reader fault fresh
     let s = stood_told given left come fifth bytes fresh e (head_stood game count lines come first second third fourth fifth one two three four r.lines.stood) in
     let place : length given + 1 ≡ 5 + count = omega (arith, length-head_lines game count r.nodes, r.number) in
     end_from bytes game count r.nodes given fifth fault (head_from game count lines bytes fifth of_game range s) (nodes_from game count r.nodes lines bytes fifth r.spellable (λ k line at. at) s) r.each r.number s place h))
+
+-- the fault of a step is the answer's
+pub passed_on : {X : Type 0} (left : Option (List ℕ)) (fault : CheckFault) (result : Result X CheckFault) → IsErrAnd result (λ y. y ≡ fault) → IsFirstOf left fault → IfErr result (IsFirstOf left)
+passed_on left fault (Ok x) h k = tt
+passed_on left fault (Err y) h k = subst (IsFirstOf left) (sym h) k
