@@ -1,10 +1,9 @@
 -- The first fault of the whole bytes, from the lines that stood next and the one that was refused.
-use Rattle.std.proofs.Common.{◌≡◌, ◌≢◌, ◌==◌, ◌⊎◌, inl, inr, ℕ, suc, zero, ◌+◌, ◌<◌, ◌≤◌, List, [], ◌∷◌, ◌++◌, length, get_or, take, map, All, Option, Some, None, sym, ap, ◌∙◌, subst, refl, arith, append_assoc, IfSome}
+use Rattle.std.proofs.Common.{◌≡◌, ◌==◌, inl, inr, ℕ, suc, zero, ◌+◌, ◌<◌, ◌≤◌, List, [], ◌∷◌, ◌++◌, length, get_or, take, map, All, Option, Some, None, sym, ap, ◌∙◌, subst, refl, arith, append_assoc, IfSome}
 use Rattle.std.specs.Prelude.{Result, Ok, Err, IfErr, IsErrAnd}
 use Rattle.std.specs.List.{slice_get, AllByRecursion}
-use Rattle.std.specs.Io.KnownBytes.{prepend_known}
 use Rattle.std.proofs.lemmas.Grind.{flat_map-append}
-use Rattle.std.proofs.lemmas.List.{append-nil, length-map, length_push}
+use Rattle.std.proofs.lemmas.List.{length-map, length_push}
 use Rattle.std.proofs.lemmas.List.Elements.{All-head, All-tail, All-cons, All-nil}
 use Rattle.std.proofs.lemmas.Option.{slice_get_within, slice_get-get_or, get_or_from_slice_get}
 use Rattle.port_io.specs.Lines.{ReaderState, IsLine, HasNoLf, with_lf}
@@ -14,7 +13,6 @@ use Rattle.items.specs.Multiset.{sizes_of}
 use Rattle.strategy_text.specs.declared.node.AdvNode.{AdvNode}
 use Rattle.strategy_text.specs.declared.node.Side.TheVariants.{Adversary, Algorithm}
 use Rattle.strategy_text.specs.declared.rule.Rule.{Rule}
-use Rattle.strategy_text.specs.declared.rule.Rule.TheVariants as rules
 use Rattle.strategy_text.specs.Text.{first_line, game_line, side_line, count_line, end_line, adversary_line, adversary_lines, text_of_lines}
 use Rattle.strategy_text.specs.Spelling.{IsSpellable, SpellsAdversary, SpellsGame, SpellsCount}
 use Rattle.strategy_text.specs.Words.{words_left}
@@ -27,7 +25,7 @@ use Rattle.checker.specs.declared.fault.CheckFault.{CheckFault}
 use Rattle.checker.specs.declared.fault.CheckFault.TheVariants.{Rejected, Read, Memory}
 use Rattle.checker.specs.declared.fault.Why.{Why}
 use Rattle.checker.specs.declared.fault.Why.TheVariants as why
-use Rattle.checker.specs.FirstFault.{HasLine, HasForm, HasBytesPast, IsGameLine, IsSideLine, IsCountLine, IsNodeLine, HasHead, HasNodes, LineFault, first_syntax, game_syntax, game_rule, side_syntax, side_rule, count_syntax, node_syntax, node_rule, end_syntax, past_syntax, FirstFault, HasNoFault, IfRejected}
+use Rattle.checker.specs.FirstFault.{HasLine, HasForm, HasBytesPast, IsGameLine, IsSideLine, IsCountLine, IsNodeLine, HasHead, HasNodes, LineFault, first_syntax, game_syntax, game_rule, side_syntax, side_rule, count_syntax, node_syntax, node_rule, end_syntax, past_syntax, FirstFault, IfRejected}
 use Rattle.checker.specs.Progress.{StoodNext, ReadsNodes, HasNext, HasMore, RefusesNext, RefusesNode, RefusesEnd, NoRule, BreaksGame, BreaksSide, BreaksNode}
 use Rattle.checker.proofs.ProgressLemmas.{StoodNext-then, StoodNext-none, length-adversary_lines}
 use Rattle.checker.proofs.RefusalLemmas.{StoodNext-one}

@@ -19,7 +19,7 @@ use Rattle.checker.specs.declared.fault.CheckFault.{CheckFault}
 use Rattle.checker.specs.declared.fault.CheckFault.TheVariants.{Rejected, Read, Memory}
 use Rattle.checker.specs.declared.fault.Why.TheVariants as why
 use Rattle.checker.specs.FirstFault.{IsNodeLine}
-use Rattle.checker.specs.Progress.{StoodNext, ReadsLines, HasNext, HasMore, RefusesNext, RefusesEnd, AnyLine, NoRule, BreaksNode}
+use Rattle.checker.specs.Progress.{StoodNext, ReadsLines, HasMore, RefusesNext, RefusesEnd, AnyLine, NoRule, BreaksNode}
 
 pub both_ways : (b : Bool) → b ≡ false → b ≡ true → ⊥
 both_ways true e f = absurd cc

@@ -1,4 +1,4 @@
-use Rattle.std.proofs.Common.{rules, ◌≡◌, ◌∙◌, true, arith, Ok, ap, sym, Result}
+use Rattle.std.proofs.Common.{rules, arith}
 use Rattle.checker.proofs.RefusalLemmas.{both_ways, refuses_end_form, refuses_end_past}
 use Rattle.checker.proofs.reading.read_end.Goals as goal
 

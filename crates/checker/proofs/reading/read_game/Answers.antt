@@ -1,5 +1,3 @@
-use Rattle.std.proofs.Common.{◌∙◌, subst, List, ℕ}
-use Rattle.strategy_text.specs.Spelling.{SpellsGame}
 use Rattle.checker.specs.FirstFault.{IsGameLine}
 use Rattle.checker.specs.Progress.{BreaksGame}
 use Rattle.checker.proofs.RefusalLemmas.{refuses_form}

@@ -1,4 +1,4 @@
-use Rattle.std.proofs.Common.{ℕ, subst, Option, IfSome, IfNone}
+use Rattle.std.proofs.Common.{subst, Option, IfSome}
 use Rattle.strategy_text.specs.declared.node.AdvNode.{AdvNode}
 use Rattle.strategy_text.specs.Spelling.{SpellsAdversary}
 use Rattle.checker.proofs.RefusalLemmas.{refuses_node_form, refuses_node_rule}
