@@ -1,1 +1,3 @@
 pub mod ProgressLemmas
+pub mod RefusalLemmas
+pub mod FaultLemmas

@@ -2,11 +2,11 @@
 use Rattle.std.proofs.Common.{◌≡◌, ◌==◌, ◌∙◌, ℕ, ◌+◌, ◌<◌, ◌≤◌, ◌++◌, ◌∷◌, [], List, Option, Some, None, length, map, take, get_or, sym, ap, subst, refl, arith, ⊎_elim, suc, IfSome}
 use Rattle.std.specs.Io.KnownBytes.{prepend_known}
 use Rattle.std.proofs.lemmas.List.{take-append-le, take_at, get_or_append_left, get_or_at, length-map, length_push, map_push}
-use Rattle.std.proofs.lemmas.List.Elements.{All-push}
+use Rattle.std.proofs.lemmas.List.Elements.{All-append, All-nil, All-push}
 use Rattle.std.proofs.lemmas.Grind.{flat_map-append}
 use Rattle.std.proofs.lemmas.Option.{slice_get_within, slice_get-get_or, get_or_from_slice_get, none-some}
 use Rattle.std.proofs.lemmas.Bool.{cases_lt}
-use Rattle.port_io.specs.Lines.{ReaderState}
+use Rattle.port_io.specs.Lines.{ReaderState, IsLine}
 use Rattle.port_io.proofs.ToldLemmas.{prepend_known-prepend, prepend_known-nil}
 use Rattle.items.specs.Game.{GameNumbers, IsGame}
 use Rattle.items.specs.Multiset.{sizes_of}
@@ -15,16 +15,23 @@ use Rattle.loads.specs.declared.position.Position.{Position}
 use Rattle.strategy_text.specs.declared.node.AdvNode.{AdvNode}
 use Rattle.strategy_text.specs.declared.node.Side.TheVariants.{Adversary}
 use Rattle.strategy_text.specs.Text.{first_line, game_line, side_line, count_line, end_line, adversary_line, adversary_lines, text_of_lines}
+use Rattle.strategy_text.specs.Spelling.{IsSpellable}
 use Rattle.adversary_graph.specs.Rules.{position_of, MeetsRules}
 use Rattle.adversary_graph.specs.Legal.{EachMeetsRules}
 use Rattle.checker.specs.Accepted.{Accepts}
 use Rattle.checker.specs.declared.fault.Accepted.{Accepted}
-use Rattle.checker.specs.Progress.{ReadsLines, ReadsNodes, EndsWith, ArePositionsOf}
+use Rattle.checker.specs.Progress.{StoodNext, ReadsLines, ReadsNodes, EndsWith, ArePositionsOf}
+
+pub StoodNext-then : (first next : List (List ℕ)) (old mid new : Option (List ℕ)) → StoodNext first old mid → StoodNext next mid new → StoodNext (first ++ next) old new
+StoodNext-then first next old mid new a b = record {
+  whole = All-append IsLine first next a.whole b.whole;
+  came = a.came ∙ ap (prepend_known (text_of_lines first)) b.came ∙ prepend_known-prepend (text_of_lines first) (text_of_lines next) new ∙ ap (λ bytes. prepend_known bytes new) (sym (flat_map-append (λ line. line ++ 10 ∷ []) first next));
+}
 
 pub ReadsLines-then : (first next : List (List ℕ)) (mid_reader reader : ReaderState) (old mid new : Option (List ℕ)) → ReadsLines first mid_reader old mid → ReadsLines next reader mid new → ReadsLines (first ++ next) reader old new
 ReadsLines-then first next mid_reader reader old mid new a b = record {
   open_still = b.open_still;
-  came = a.came ∙ ap (prepend_known (text_of_lines first)) b.came ∙ prepend_known-prepend (text_of_lines first) (text_of_lines next) new ∙ ap (λ bytes. prepend_known bytes new) (sym (flat_map-append (λ line. line ++ 10 ∷ []) first next));
+  stood = StoodNext-then first next old mid new a.stood b.stood;
 }
 
 -- the lines of nodes with one more node
@@ -49,8 +56,9 @@ EachMeetsRules-push game sizes count nodes node each meets k other e =
     (cases_lt k (length nodes))
 
 -- the positions of nodes with one more node
-pub ArePositionsOf-push : (game : GameNumbers) (count : ℕ) (nodes : List AdvNode) (node : AdvNode) (positions kept : List Position) → ArePositionsOf game count nodes positions → MeetsRules game (sizes_of game) positions (length positions + 1 == count) node → kept ≡ positions ++ position_of node ∷ [] → ArePositionsOf game count (nodes ++ node ∷ []) kept
-ArePositionsOf-push game count nodes node positions kept are meets put = record {
+pub ArePositionsOf-push : (game : GameNumbers) (count : ℕ) (nodes : List AdvNode) (node : AdvNode) (positions kept : List Position) → ArePositionsOf game count nodes positions → MeetsRules game (sizes_of game) positions (length positions + 1 == count) node → IsSpellable node → kept ≡ positions ++ position_of node ∷ [] → ArePositionsOf game count (nodes ++ node ∷ []) kept
+ArePositionsOf-push game count nodes node positions kept are meets spellable put = record {
+  spellable = All-push IsSpellable nodes node are.spellable spellable;
   kept = put ∙ ap (λ ps. ps ++ position_of node ∷ []) are.kept ∙ sym (map_push position_of nodes node);
   each = EachMeetsRules-push game (sizes_of game) count nodes node are.each
       (subst (λ (n : ℕ). MeetsRules game (sizes_of game) (map position_of nodes) (n + 1 == count) node) (length-map nodes position_of)
@@ -62,11 +70,15 @@ pub ArePositionsOf-none : (game : GameNumbers) (count : ℕ) (positions : List P
 ArePositionsOf-none game count positions e = record {
   kept = e;
   each = λ k node is. absurd (none-some node is);
+  spellable = All-nil IsSpellable;
   loads = rw e (λ k d l. absurd (omega arith));
 }
 
+pub StoodNext-none : (come : Option (List ℕ)) → StoodNext [] come come
+StoodNext-none come = record { whole = All-nil IsLine; came = sym (prepend_known-nil come) }
+
 pub ReadsLines-none : (reader : ReaderState) (come : Option (List ℕ)) → reader.ending ≡ None → ReadsLines [] reader come come
-ReadsLines-none reader come e = record { open_still = e; came = sym (prepend_known-nil come) }
+ReadsLines-none reader come e = record { open_still = e; stood = StoodNext-none come }
 
 -- the lines of nodes were read, and then that of one more
 pub ReadsLines-push : (nodes : List AdvNode) (node : AdvNode) (number : ℕ) (mid_reader reader : ReaderState) (old mid new : Option (List ℕ)) → number ≡ length nodes → ReadsLines (adversary_lines 0 nodes) mid_reader old mid → ReadsLines (adversary_line number node ∷ []) reader mid new → ReadsLines (adversary_lines 0 (nodes ++ node ∷ [])) reader old new
@@ -104,6 +116,6 @@ Accepts-from_parts accepted r1 r2 r3 r4 r5 left come t1 t2 t3 t4 t5 new_left fre
       };
       side = adversary;
       number = sym nodes.number;
-      spelled = subst (λ (n : ℕ). IfSome left (λ bytes. bytes ≡ text_of_lines ((first_line ∷ game_line accepted.game ∷ side_line Adversary ∷ count_line n ∷ lines) ++ end_line ∷ []))) number (text_read (first_line ∷ game_line accepted.game ∷ side_line Adversary ∷ count_line accepted.nodes ∷ lines) end_line left t5 (sym fresh ∙ head.came) end.last);
+      spelled = subst (λ (n : ℕ). IfSome left (λ bytes. bytes ≡ text_of_lines ((first_line ∷ game_line accepted.game ∷ side_line Adversary ∷ count_line n ∷ lines) ++ end_line ∷ []))) number (text_read (first_line ∷ game_line accepted.game ∷ side_line Adversary ∷ count_line accepted.nodes ∷ lines) end_line left t5 (sym fresh ∙ head.stood.came) end.last);
       whole = end.whole;
     }

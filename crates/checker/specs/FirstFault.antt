@@ -3,12 +3,15 @@ use Rattle.port_io.specs.Lines.{HasNoLf, IsLine, with_lf}
 use Rattle.items.specs.Game.{GameNumbers, IsGame}
 use Rattle.items.specs.Multiset.{sizes_of}
 use Rattle.strategy_text.specs.declared.node.AdvNode.{AdvNode}
+use Rattle.strategy_text.specs.declared.node.Side.{Side}
 use Rattle.strategy_text.specs.declared.node.Side.TheVariants.{Adversary, Algorithm}
 use Rattle.strategy_text.specs.declared.rule.Rule.{Rule}
 use Rattle.strategy_text.specs.declared.rule.Rule.TheVariants as rules
 use Rattle.strategy_text.specs.Text.{first_line, side_line, end_line, text_of_lines}
 use Rattle.strategy_text.specs.Spelling.{SpellsAdversary, SpellsGame, SpellsCount}
 use Rattle.adversary_graph.specs.Rules.{position_of, Breaks}
+use Rattle.checker.specs.declared.fault.CheckFault.{CheckFault}
+use Rattle.checker.specs.declared.fault.CheckFault.TheVariants.{Rejected, Read, Memory}
 use Rattle.checker.specs.declared.fault.Why.{Why}
 use Rattle.checker.specs.declared.fault.Why.TheVariants as why
 
@@ -39,7 +42,7 @@ abbrev pub IsGameLine : List ℕ → Type 0
 IsGameLine line = (game : GameNumbers) × SpellsGame line game
 
 abbrev pub IsSideLine : List ℕ → Type 0
-IsSideLine line = (side : _) × (line ≡ side_line side)
+IsSideLine line = (side : Side) × (line ≡ side_line side)
 
 abbrev pub IsCountLine : List ℕ → Type 0
 IsCountLine line = (count : ℕ) × SpellsCount line count
@@ -60,7 +63,7 @@ abbrev pub HasNodes : List ℕ → List AdvNode → Type 0
 HasNodes bytes nodes =
     (k : ℕ) (node : AdvNode) → slice_get nodes k ≡ Some node → HasForm bytes (5 + k) (λ line. SpellsAdversary line k node)
 
--- What is wrong with a line, where the adversary's side is wanted. A line has a syntax fault where it is missing, unfinished, too long, or not of the form of its place; a line of its form may break a rule. Lines from 5 on are judged only where lines 1 to 4 have no fault.
+-- What is wrong with a line, where the adversary's side is wanted. A line has a syntax fault where it is missing, unfinished, too long, or not of the form of its place; a line of its form may break a rule. Lines from 5 on are judged only where lines 1 to 4 have no fault, and a rule of a node only where all earlier node lines are of their form: it cannot matter, since the least faulty line wins.
 pub data LineFault (bytes : List ℕ) : ℕ → Why → Type 0 where
   first_syntax : ¬ (HasForm bytes 1 (λ line. line ≡ first_line)) → LineFault bytes 1 why.Syntax
   game_syntax : ¬ (HasForm bytes 2 IsGameLine) → LineFault bytes 2 why.Syntax
@@ -77,3 +80,13 @@ pub data LineFault (bytes : List ℕ) : ℕ → Why → Type 0 where
 pub record FirstFault (bytes : List ℕ) (line : ℕ) (fault : Why) : Type 0 where
   pub has : LineFault bytes line fault
   pub first : (earlier : ℕ) (other : Why) → earlier < line → LineFault bytes earlier other → ⊥
+
+-- no line has a fault
+abbrev pub HasNoFault : List ℕ → Type 0
+HasNoFault bytes = (line : ℕ) (fault : Why) → LineFault bytes line fault → ⊥
+
+-- P of the line and of what is wrong with it, where the text was rejected
+abbrev pub IfRejected : CheckFault → (ℕ → Why → Type 0) → Type 0
+IfRejected (Rejected line why) P = P line why
+IfRejected Read P = Unit {0}
+IfRejected Memory P = Unit {0}

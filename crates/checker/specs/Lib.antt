@@ -1,3 +1,3 @@
 pub mod Accepted
-pub mod Progress
 pub mod FirstFault
+pub mod Progress

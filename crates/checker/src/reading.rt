@@ -1,6 +1,6 @@
 //! Reading with judgement.
 
-ghost use Rattle.std.specs.Prelude.{◌≡◌, ◌∷◌, [], ◌<◌, ◌≤◌, None, Err, IfOk, OnOk, length, All};
+ghost use Rattle.std.specs.Prelude.{◌≡◌, ◌∷◌, [], ◌+◌, ◌<◌, ◌≤◌, None, Err, IfOk, IfErr, IfSome, OnOk, length, All};
 ghost use Rattle.port_io.specs.Faults.{Rose};
 ghost use Rattle.port_io.specs.Lines.{to_come, IsLine};
 ghost use Rattle.loads.specs.Loads.{IsLoads};
@@ -8,7 +8,8 @@ ghost use Rattle.strategy_text.specs.Text.{first_line, game_line, side_line, cou
 ghost use Rattle.items.specs.Game.{IsGame};
 ghost use Rattle.strategy_text.specs.declared.node.Side.TheVariants.{Adversary};
 ghost use Rattle.checker.specs.Accepted.{Accepts};
-ghost use Rattle.checker.specs.Progress.{ReadsLines, ReadsNode, ReadsNodes, EndsWith};
+ghost use Rattle.checker.specs.FirstFault.{FirstFault, IfRejected, IsGameLine, IsSideLine, IsCountLine, IsNodeLine};
+ghost use Rattle.checker.specs.Progress.{ReadsLines, ReadsNode, ReadsNodes, EndsWith, RefusesNext, RefusesNode, RefusesEnd, AnyLine, NoRule, BreaksGame, BreaksSide, BreaksNode};
 ghost use Rattle.checker.specs.declared.fault.CheckFault.TheVariants.{Rejected, Read};
 ghost use Rattle.checker.specs.declared.fault.Why.TheVariants.{Syntax};
 ghost use Rattle.checker.specs.declared.fault.Why.TheVariants as why;
@@ -48,6 +49,7 @@ fn next_text<S: Source>(lines: &mut LineReader, source: &mut S, line: u64) -> Re
     ensures ok { OnOk result (ReadsLines (lines.new.text ∷ []) lines.new (to_come lines.old (S.left source.old)) (to_come lines.new (S.left source.new))) }
     ensures line { OnOk result (IsLine lines.new.text) }
     ensures read { result ≡ Err Read → Rose (S.faults source.old) (S.faults source.new) }
+    ensures refused { IfErr result (RefusesNext line AnyLine NoRule (to_come lines.old (S.left source.old))) }
 {
     match lines.next_line(source) {
         Ok(Line::Text) => Ok(()),
@@ -61,6 +63,7 @@ fn read_first<S: Source>(lines: &mut LineReader, source: &mut S) -> Result<(), C
     ensures count { S.faults source.old ≤ S.faults source.new }
     ensures ok { OnOk result (ReadsLines (first_line ∷ []) lines.new (to_come lines.old (S.left source.old)) (to_come lines.new (S.left source.new))) }
     ensures read { result ≡ Err Read → Rose (S.faults source.old) (S.faults source.new) }
+    ensures refused { IfErr result (RefusesNext 1 (λ text. text ≡ first_line) NoRule (to_come lines.old (S.left source.old))) }
 {
     next_text(lines, source, 1)?;
     if !parse_first(lines.text()) {
@@ -75,6 +78,7 @@ fn read_game<S: Source>(lines: &mut LineReader, source: &mut S) -> Result<Game, 
     ensures ok { IfOk result (λ game. ReadsLines (game_line game ∷ []) lines.new (to_come lines.old (S.left source.old)) (to_come lines.new (S.left source.new))) }
     ensures legal { IfOk result IsGame }
     ensures read { result ≡ Err Read → Rose (S.faults source.old) (S.faults source.new) }
+    ensures refused { IfErr result (RefusesNext 2 IsGameLine BreaksGame (to_come lines.old (S.left source.old))) }
 {
     next_text(lines, source, 2)?;
     let Some((m, g, t)) = parse_game(lines.text()) else {
@@ -91,6 +95,7 @@ fn read_side<S: Source>(lines: &mut LineReader, source: &mut S) -> Result<(), Ch
     ensures count { S.faults source.old ≤ S.faults source.new }
     ensures ok { OnOk result (ReadsLines (side_line Adversary ∷ []) lines.new (to_come lines.old (S.left source.old)) (to_come lines.new (S.left source.new))) }
     ensures read { result ≡ Err Read → Rose (S.faults source.old) (S.faults source.new) }
+    ensures refused { IfErr result (RefusesNext 3 IsSideLine BreaksSide (to_come lines.old (S.left source.old))) }
 {
     next_text(lines, source, 3)?;
     match parse_side(lines.text()) {
@@ -106,9 +111,13 @@ fn read_count<S: Source>(lines: &mut LineReader, source: &mut S) -> Result<u32, 
     ensures ok { IfOk result (λ nodes. ReadsLines (count_line nodes ∷ []) lines.new (to_come lines.old (S.left source.old)) (to_come lines.new (S.left source.new))) }
     ensures range { IfOk result (λ nodes. (1 ≤ nodes) × (nodes ≤ 4000000000)) }
     ensures read { result ≡ Err Read → Rose (S.faults source.old) (S.faults source.new) }
+    ensures refused { IfErr result (RefusesNext 4 IsCountLine NoRule (to_come lines.old (S.left source.old))) }
 {
     next_text(lines, source, 4)?;
-    parse_nodes(lines.text()).ok_or(syntax(4))
+    let Some(nodes) = parse_nodes(lines.text()) else {
+        return Err(syntax(4));
+    };
+    Ok(nodes)
 }
 
 // Reads the node that follows the earlier ones, judges it, and keeps its position.
@@ -126,6 +135,7 @@ fn read_node<S: Source>(
     ensures count { S.faults source.old ≤ S.faults source.new }
     ensures ok { OnOk result (ReadsNode game.now nodes earlier.old earlier.new lines.new (to_come lines.old (S.left source.old)) (to_come lines.new (S.left source.new))) }
     ensures read { result ≡ Err Read → Rose (S.faults source.old) (S.faults source.new) }
+    ensures refused { IfErr result (RefusesNext (5 + length earlier.old) (IsNodeLine (length earlier.old)) (BreaksNode game.now nodes earlier.old) (to_come lines.old (S.left source.old))) }
 {
     let number = earlier.len() as u32;
     let line = 5 + u64::from(number);
@@ -152,6 +162,7 @@ fn read_nodes<S: Source>(
     ensures count { S.faults source.old ≤ S.faults source.new }
     ensures ok { OnOk result (ReadsNodes game.now nodes lines.new (to_come lines.old (S.left source.old)) (to_come lines.new (S.left source.new))) }
     ensures read { result ≡ Err Read → Rose (S.faults source.old) (S.faults source.new) }
+    ensures refused { IfErr result (RefusesNode game.now nodes (to_come lines.old (S.left source.old))) }
 {
     let mut positions = Positions::new(alloc);
     for k in 0..nodes {
@@ -166,6 +177,7 @@ fn read_end<S: Source>(lines: &mut LineReader, source: &mut S, nodes: u32) -> Re
     ensures count { S.faults source.old ≤ S.faults source.new }
     ensures ok { OnOk result (EndsWith end_line (to_come lines.old (S.left source.old)) (S.left source.new)) }
     ensures read { result ≡ Err Read → Rose (S.faults source.old) (S.faults source.new) }
+    ensures refused { IfErr result (RefusesEnd nodes (to_come lines.old (S.left source.old))) }
 {
     let line = 5 + u64::from(nodes);
     next_text(lines, source, line)?;
@@ -189,6 +201,7 @@ pub fn check<S: Source>(alloc: Global, source: &mut S) -> Result<Accepted, Check
     ensures count { S.faults source.old ≤ S.faults source.new }
     ensures accepted { IfOk result (λ accepted. Accepts accepted (S.left source.old) (S.left source.new)) }
     ensures read { result ≡ Err Read → Rose (S.faults source.old) (S.faults source.new) }
+    ensures rejected { IfErr result (λ fault. IfRejected fault (λ line why. IfSome (S.left source.old) (λ bytes. FirstFault bytes line why))) }
 {
     let mut lines = LineReader::new(alloc)?;
     read_first(&mut lines, source)?;

@@ -17,7 +17,7 @@ loop-k-preserved g c =
       (
         nodes ++ step.node ∷ [],
         omega (arith, length_push nodes step.node, i.0.1),
-        ArePositionsOf-push _ _ nodes step.node _ _ i.0.2 step.meets step.put,
+        ArePositionsOf-push _ _ nodes step.node _ _ i.0.2 step.meets step.spellable step.put,
         ReadsLines-push nodes step.node _ _ _ _ _ _ number i.0.3 step.lines,
       ),
       omega (arith, i.1, c.read_node.ensures.count),
