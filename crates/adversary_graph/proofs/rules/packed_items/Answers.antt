@@ -2,7 +2,8 @@ use Rattle.std.proofs.Common.{◌≡◌, ◌*◌, ◌++◌, ◌∷◌, [], ◌�
 use Rattle.std.proofs.lemmas.List.Sums.{sum_by_push}
 use Rattle.std.proofs.lemmas.Bool.{false≢true}
 use Rattle.items.proofs.MultisetLemmas.{Same-push_put}
-use Rattle.adversary_graph.proofs.RuleLemmas.{packing_total, packing_of_same, put_is_push}
+use Rattle.items.proofs.SameLemmas.{Same-sym}
+use Rattle.packing_witness.proofs.PackableLemmas.{sum-packing-le, IsPacking-Same}
 use Rattle.adversary_graph.proofs.rules.packed_items.Goals as goal
 
 pub returns-then-volume-send : goal.returns-then-volume-send
@@ -10,13 +11,13 @@ returns-then-volume-send c =
     let game = c.args.game.now in
     let all = c.args.items.now ++ c.args.send ∷ [] in
     let bins : c.m.result * c.g.result ≡ game.bins * game.capacity = cc in
-    record { exact = λ p. let total : sum all ≤ game.bins * game.capacity = packing_total game c.args.pack.now all p in omega (arith, total, bins, sum_by_push (λ x. x) c.args.items.now c.args.send, c.volume.ensures.value, c.if-volume-send.true) }
+    record { exact = λ p. let total : sum all ≤ game.bins * game.capacity = sum-packing-le game c.args.pack.now all p in omega (arith, total, bins, sum_by_push (λ x. x) c.args.items.now c.args.send, c.volume.ensures.value, c.if-volume-send.true) }
 
 pub returns-then-holds : goal.returns-then-holds
 returns-then-holds c =
     let held = rw c.add-made.ensures.added at (c.if-holds.ensures.exact.0 refl) in
-    record { exact = (c.add-made.ensures.added, packing_of_same c.args.game.now c.args.pack.now _ _ (put_is_push c.args.send c.args.items.now) held) }
+    record { exact = (c.add-made.ensures.added, IsPacking-Same c.args.game.now c.args.pack.now _ _ (Same-sym _ _ (Same-push_put c.args.send c.args.items.now)) held) }
 
 pub returns-else-holds : goal.returns-else-holds
 returns-else-holds c =
-    record { exact = λ p. let held = packing_of_same c.args.game.now c.args.pack.now _ _ (Same-push_put c.args.send c.args.items.now) p in false≢true (c.if-holds.ensures.exact.1 (rw c.add-made.ensures.added held)) }
+    record { exact = λ p. let held = IsPacking-Same c.args.game.now c.args.pack.now _ _ (Same-push_put c.args.send c.args.items.now) p in false≢true (c.if-holds.ensures.exact.1 (rw c.add-made.ensures.added held)) }
