@@ -1,3 +1,4 @@
 pub mod ProgressLemmas
 pub mod RefusalLemmas
 pub mod FaultLemmas
+pub mod LegalText

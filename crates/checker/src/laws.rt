@@ -1,0 +1,12 @@
+//! Laws of the definitions, each as the contract of a function that does nothing.
+ghost use Rattle.std.specs.Prelude.{List};
+ghost use Rattle.items.specs.Game.{GameNumbers};
+ghost use Rattle.strategy_text.specs.declared.node.AdvNode.{AdvNode};
+ghost use Rattle.strategy_text.specs.Text.{adversary_text};
+ghost use Rattle.adversary_graph.specs.Legal.{IsLegal};
+ghost use Rattle.checker.specs.FirstFault.{HasNoFault};
+
+/// No line of the text of a legal strategy has a fault.
+pub fn legal_text_has_no_fault()
+    ensures { (game : GameNumbers) (nodes : List AdvNode) → IsLegal game nodes → HasNoFault (adversary_text game nodes) }
+{}
