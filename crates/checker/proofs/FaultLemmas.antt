@@ -49,21 +49,21 @@ HasLine-same bytes n a b h k =
     let rest : with_lf a ++ h.rest ≡ with_lf b ++ k.rest = same_rest h.before k.before (with_lf a ++ h.rest) (with_lf b ++ k.rest) h.lines k.lines (omega arith) (sym h.split ∙ k.split) in
     (with_lf-only a b h.rest k.rest h.whole.no_lf k.whole.no_lf rest).0
 
-game_same : (bytes : List ℕ) (n : ℕ) (g h : GameNumbers) → HasForm bytes n (λ line. SpellsGame line g) → HasForm bytes n (λ line. SpellsGame line h) → g ≡ h
+pub game_same : (bytes : List ℕ) (n : ℕ) (g h : GameNumbers) → HasForm bytes n (λ line. SpellsGame line g) → HasForm bytes n (λ line. SpellsGame line h) → g ≡ h
 game_same bytes n g h a b =
     let x = game_again a.0 g a.2 in
     let y = game_again b.0 h b.2 in
     let z = ap (λ (l : List ℕ). game_at (words_left (Some l))) (HasLine-same bytes n a.0 b.0 a.1 b.1) in
     cc
 
-count_same : (bytes : List ℕ) (n : ℕ) (g h : ℕ) → HasForm bytes n (λ line. SpellsCount line g) → HasForm bytes n (λ line. SpellsCount line h) → g ≡ h
+pub count_same : (bytes : List ℕ) (n : ℕ) (g h : ℕ) → HasForm bytes n (λ line. SpellsCount line g) → HasForm bytes n (λ line. SpellsCount line h) → g ≡ h
 count_same bytes n g h a b =
     let x = count_again a.0 g a.2 in
     let y = count_again b.0 h b.2 in
     let z = ap (λ (l : List ℕ). count_at (words_left (Some l))) (HasLine-same bytes n a.0 b.0 a.1 b.1) in
     cc
 
-node_same : (bytes : List ℕ) (n k : ℕ) (g h : AdvNode) → k ≤ 4294967295 → HasForm bytes n (λ line. SpellsAdversary line k g) → HasForm bytes n (λ line. SpellsAdversary line k h) → g ≡ h
+pub node_same : (bytes : List ℕ) (n k : ℕ) (g h : AdvNode) → k ≤ 4294967295 → HasForm bytes n (λ line. SpellsAdversary line k g) → HasForm bytes n (λ line. SpellsAdversary line k h) → g ≡ h
 node_same bytes n k g h le a b =
     let x = node_again a.0 k g le a.2 in
     let y = node_again b.0 k h le b.2 in
@@ -73,10 +73,10 @@ node_same bytes n k g h le a b =
 sides_differ : side_line Adversary ≡ side_line Algorithm → ⊥
 sides_differ e = let d : ◌≡◌ {A = ℕ} 100 108 = ap (λ (l : List ℕ). get_or l 6 0) e in absurd (omega arith)
 
-count_high : (bytes : List ℕ) (game : GameNumbers) (count : ℕ) → HasHead bytes game count → count ≤ 4000000000
+pub count_high : (bytes : List ℕ) (game : GameNumbers) (count : ℕ) → HasHead bytes game count → count ≤ 4000000000
 count_high bytes game count head = head.nodes.2.high
 
-front_same : (a b : List AdvNode) → length a ≤ length b → ((k : ℕ) (x y : AdvNode) → slice_get a k ≡ Some x → slice_get b k ≡ Some y → x ≡ y) → take (length a) b ≡ a
+pub front_same : (a b : List AdvNode) → length a ≤ length b → ((k : ℕ) (x y : AdvNode) → slice_get a k ≡ Some x → slice_get b k ≡ Some y → x ≡ y) → take (length a) b ≡ a
 front_same [] b le h = refl
 front_same (x ∷ a) [] le h = absurd (omega arith)
 front_same (x ∷ a) (y ∷ b) le h =

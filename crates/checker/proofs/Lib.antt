@@ -2,3 +2,4 @@ pub mod ProgressLemmas
 pub mod RefusalLemmas
 pub mod FaultLemmas
 pub mod LegalText
+pub mod OneFault
