@@ -297,8 +297,7 @@ front_get (l ∷ ls) more (suc k) line e = front_get ls more k line e
 pub nodes_from : (game : GameNumbers) (count : ℕ) (nodes : List AdvNode) (lines : List (List ℕ)) (bytes : List ℕ) (mid : Option (List ℕ)) → All IsSpellable nodes → ((k : ℕ) (line : List ℕ) → slice_get (adversary_lines 0 nodes) k ≡ Some line → slice_get lines k ≡ Some line) → StoodNext (head_lines game count lines) (Some bytes) mid → HasNodes bytes nodes
 nodes_from game count nodes lines bytes mid spellable front stood k node e =
     let at : 0 + k ≡ k = omega arith in
-    let get : slice_get lines k ≡ Some (adversary_line k node) = front k (adversary_line k node) (lines_get 0 nodes k node e ∙ ap (λ (i : ℕ). Some (adversary_line i node)) at) in
-    (
+    let get : slice_get lines k ≡ Some (adversary_line k node) = front k (adversary_line k node) (lines_get 0 nodes k node e ∙ ap (λ (i : ℕ). Some (adversary_line i node)) at) in (
       adversary_line k node,
       line_at (head_lines game count lines) bytes mid (suc (suc (suc (suc k)))) (5 + k) (adversary_line k node) stood get (omega arith),
       record {

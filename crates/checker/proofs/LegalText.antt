@@ -1,5 +1,5 @@
 -- The text of a legal strategy has no fault: its lines are whole, and spell what they are to spell.
-use Rattle.std.proofs.Common.{◌≡◌, ◌≢◌, ◌==◌, Bool, true, false, not, ◌&&◌, ℕ, suc, zero, ◌+◌, ◌*◌, ◌^◌, ◌<◌, ◌≤◌, List, [], ◌∷◌, ◌++◌, length, get_or, take, map, decimal, codes, All, Contains, Option, Some, None, sym, ap, ◌∙◌, subst, refl, arith, length-append, length-take, IfSome}
+use Rattle.std.proofs.Common.{◌≡◌, ◌≢◌, ◌==◌, Bool, true, not, ℕ, suc, ◌+◌, ◌*◌, ◌<◌, ◌≤◌, List, [], ◌∷◌, ◌++◌, length, get_or, take, map, decimal, codes, All, Contains, Option, Some, None, sym, ap, ◌∙◌, subst, refl, arith, length-append, length-take, IfSome}
 use Rattle.std.specs.List.{slice_get, AllByRecursion, flat_map, join_with_byte, concat}
 use Rattle.std.specs.Prelude.{sum, Result, Ok, Err, IfErr}
 use Rattle.std.proofs.Math.ListN.{get_or-map}
@@ -11,7 +11,7 @@ use Rattle.std.proofs.lemmas.List.Elements.{All-nil, All-cons, All-append, recur
 use Rattle.std.proofs.lemmas.Option.{slice_get_within, slice_get-get_or}
 use Rattle.port_io.specs.Lines.{IsLine, HasNoLf}
 use Rattle.items.specs.Game.{GameNumbers, IsGame}
-use Rattle.items.specs.Multiset.{sizes_of, IsSize, IsMultiset, Same}
+use Rattle.items.specs.Multiset.{sizes_of, IsSize, IsMultiset}
 use Rattle.items.specs.Packable.{IsPacking}
 use Rattle.items.proofs.MultisetLemmas.{length-Same}
 use Rattle.loads.specs.Loads.{IsLoads}
@@ -24,11 +24,11 @@ use Rattle.strategy_text.specs.declared.node.Then.{Then}
 use Rattle.strategy_text.specs.declared.node.Then.TheVariants.{Over, To}
 use Rattle.strategy_text.specs.declared.node.Side.TheVariants.{Adversary}
 use Rattle.strategy_text.specs.Text.{first_line, game_line, side_line, count_line, end_line, adversary_lines, adversary_text, list_words, pack_words, then_words, placement_words, adversary_words, adversary_line}
-use Rattle.strategy_text.specs.Spelling.{IsNumber, IsThen, IsPlacement, IsSpellable}
+use Rattle.strategy_text.specs.Spelling.{IsNumber, IsThen, IsSpellable}
 use Rattle.strategy_text.proofs.Numerals.{and_parts}
 use Rattle.strategy_text.proofs.Lines.{is_line, words_line, decimal_word}
 use Rattle.strategy_text.proofs.NodeLines.{node_words}
-use Rattle.adversary_graph.specs.Rules.{position_of, position, MeetsRules, AreItemsOf, LeadsTo}
+use Rattle.adversary_graph.specs.Rules.{position_of, MeetsRules, LeadsTo}
 use Rattle.adversary_graph.proofs.RuleLemmas.{size_from_Contains, multiset_from_items, placed_load}
 use Rattle.adversary_graph.specs.Legal.{EachMeetsRules, IsLegal}
 use Rattle.checker.specs.declared.fault.CheckFault.{CheckFault}
@@ -221,8 +221,7 @@ pub node_is_spelled : (game : GameNumbers) (earlier : List Position) (last : Boo
 unfolding adversary_line
 node_is_spelled game earlier last number node of_game le low m =
     let j = judged_from game earlier last node of_game le m in
-    let s = spellable_from game earlier node of_game j in
-    (
+    let s = spellable_from game earlier node of_game j in (
       s,
       record {
         no_lf = HasNoLf-is_line (adversary_line number node) (words_line (adversary_words number node) (node_words number node (omega arith) s));
