@@ -32,11 +32,11 @@ use Rattle.checker.proofs.RefusalLemmas.{StoodNext-one}
 
 -- ---- one line stands in a place
 
-no_lf : (lines : List (List ℕ)) → All IsLine lines → All HasNoLf lines
+pub no_lf : (lines : List (List ℕ)) → All IsLine lines → All HasNoLf lines
 no_lf lines each k d within = (each k d within).no_lf
 
 -- bytes are cut at line feeds in one way
-same_rest : (a b : List (List ℕ)) (x y : List ℕ) → All HasNoLf a → All HasNoLf b → length a ≡ length b → text_of_lines a ++ x ≡ text_of_lines b ++ y → x ≡ y
+pub same_rest : (a b : List (List ℕ)) (x y : List ℕ) → All HasNoLf a → All HasNoLf b → length a ≡ length b → text_of_lines a ++ x ≡ text_of_lines b ++ y → x ≡ y
 same_rest [] [] x y p q e is = is
 same_rest [] (m ∷ ms) x y p q e is = absurd (omega arith)
 same_rest (l ∷ ls) [] x y p q e is = absurd (omega arith)
@@ -49,21 +49,21 @@ HasLine-same bytes n a b h k =
     let rest : with_lf a ++ h.rest ≡ with_lf b ++ k.rest = same_rest h.before k.before (with_lf a ++ h.rest) (with_lf b ++ k.rest) h.lines k.lines (omega arith) (sym h.split ∙ k.split) in
     (with_lf-only a b h.rest k.rest h.whole.no_lf k.whole.no_lf rest).0
 
-game_same : (bytes : List ℕ) (n : ℕ) (g h : GameNumbers) → HasForm bytes n (λ line. SpellsGame line g) → HasForm bytes n (λ line. SpellsGame line h) → g ≡ h
+pub game_same : (bytes : List ℕ) (n : ℕ) (g h : GameNumbers) → HasForm bytes n (λ line. SpellsGame line g) → HasForm bytes n (λ line. SpellsGame line h) → g ≡ h
 game_same bytes n g h a b =
     let x = game_again a.0 g a.2 in
     let y = game_again b.0 h b.2 in
     let z = ap (λ (l : List ℕ). game_at (words_left (Some l))) (HasLine-same bytes n a.0 b.0 a.1 b.1) in
     cc
 
-count_same : (bytes : List ℕ) (n : ℕ) (g h : ℕ) → HasForm bytes n (λ line. SpellsCount line g) → HasForm bytes n (λ line. SpellsCount line h) → g ≡ h
+pub count_same : (bytes : List ℕ) (n : ℕ) (g h : ℕ) → HasForm bytes n (λ line. SpellsCount line g) → HasForm bytes n (λ line. SpellsCount line h) → g ≡ h
 count_same bytes n g h a b =
     let x = count_again a.0 g a.2 in
     let y = count_again b.0 h b.2 in
     let z = ap (λ (l : List ℕ). count_at (words_left (Some l))) (HasLine-same bytes n a.0 b.0 a.1 b.1) in
     cc
 
-node_same : (bytes : List ℕ) (n k : ℕ) (g h : AdvNode) → k ≤ 4294967295 → HasForm bytes n (λ line. SpellsAdversary line k g) → HasForm bytes n (λ line. SpellsAdversary line k h) → g ≡ h
+pub node_same : (bytes : List ℕ) (n k : ℕ) (g h : AdvNode) → k ≤ 4294967295 → HasForm bytes n (λ line. SpellsAdversary line k g) → HasForm bytes n (λ line. SpellsAdversary line k h) → g ≡ h
 node_same bytes n k g h le a b =
     let x = node_again a.0 k g le a.2 in
     let y = node_again b.0 k h le b.2 in
@@ -73,10 +73,10 @@ node_same bytes n k g h le a b =
 sides_differ : side_line Adversary ≡ side_line Algorithm → ⊥
 sides_differ e = let d : ◌≡◌ {A = ℕ} 100 108 = ap (λ (l : List ℕ). get_or l 6 0) e in absurd (omega arith)
 
-count_high : (bytes : List ℕ) (game : GameNumbers) (count : ℕ) → HasHead bytes game count → count ≤ 4000000000
+pub count_high : (bytes : List ℕ) (game : GameNumbers) (count : ℕ) → HasHead bytes game count → count ≤ 4000000000
 count_high bytes game count head = head.nodes.2.high
 
-front_same : (a b : List AdvNode) → length a ≤ length b → ((k : ℕ) (x y : AdvNode) → slice_get a k ≡ Some x → slice_get b k ≡ Some y → x ≡ y) → take (length a) b ≡ a
+pub front_same : (a b : List AdvNode) → length a ≤ length b → ((k : ℕ) (x y : AdvNode) → slice_get a k ≡ Some x → slice_get b k ≡ Some y → x ≡ y) → take (length a) b ≡ a
 front_same [] b le h = refl
 front_same (x ∷ a) [] le h = absurd (omega arith)
 front_same (x ∷ a) (y ∷ b) le h =
@@ -93,7 +93,7 @@ exclusive IsMet (r ∷ rs) rule all (inr h) = exclusive IsMet rs rule all.1 h.1
 -- ---- no fault before a line
 
 -- nodes stand there, among them one of this number, and each meets every rule
-record FaultlessNode (bytes : List ℕ) (game : GameNumbers) (count k : ℕ) : Type 0 where
+pub record FaultlessNode (bytes : List ℕ) (game : GameNumbers) (count k : ℕ) : Type 0 where
   nodes : List AdvNode
   node : AdvNode
   at : slice_get nodes k ≡ Some node
@@ -123,7 +123,7 @@ node_meets bytes game count earlier node rule f head few stand form breaks =
     (subst (λ (ns : List AdvNode). MeetsRules game (sizes_of game) (map position_of ns) (length earlier + 1 == count) f.node) front meets) in
     exclusive (Meets game (sizes_of game) (map position_of earlier) (length earlier + 1 == count) node) node_rules rule here breaks
 
-none_below : (bytes : List ℕ) (n : ℕ) → Faultless bytes n → (line : ℕ) (fault : Why) → line < n → LineFault bytes line fault → ⊥
+pub none_below : (bytes : List ℕ) (n : ℕ) → Faultless bytes n → (line : ℕ) (fault : Why) → line < n → LineFault bytes line fault → ⊥
 none_below bytes n h line fault low (first_syntax never) = never (h.first low)
 none_below bytes n h line fault low (game_syntax never) = let g = h.game low in never (g.1.0, g.1.1, (g.0, g.1.2))
 none_below bytes n h line fault low (game_rule game form never) = let g = h.game low in never (subst IsGame (game_same bytes 2 g.0 game g.1 form) g.2)
@@ -158,7 +158,7 @@ Faultless-head bytes n low first game side count = record {
 }
 
 -- the lines behind the head
-Faultless-nodes : (bytes : List ℕ) (n : ℕ) (game : GameNumbers) (count : ℕ) (nodes : List AdvNode) → HasHead bytes game count → HasNodes bytes nodes → EachMeetsRules game (sizes_of game) count nodes → ((k : ℕ) → k < count → 5 + k < n → k < length nodes) → (5 + count < n → HasForm bytes (5 + count) (λ line. line ≡ end_line)) → (6 + count < n → HasBytesPast bytes (5 + count) → ⊥) → Faultless bytes n
+pub Faultless-nodes : (bytes : List ℕ) (n : ℕ) (game : GameNumbers) (count : ℕ) (nodes : List AdvNode) → HasHead bytes game count → HasNodes bytes nodes → EachMeetsRules game (sizes_of game) count nodes → ((k : ℕ) → k < count → 5 + k < n → k < length nodes) → (5 + count < n → HasForm bytes (5 + count) (λ line. line ≡ end_line)) → (6 + count < n → HasBytesPast bytes (5 + count) → ⊥) → Faultless bytes n
 Faultless-nodes bytes n game count nodes head stand each reach end past =
     let game_is = λ (g : GameNumbers) (c : ℕ) (other : HasHead bytes g c). game_same bytes 2 game g head.numbers other.numbers in
     let count_is = λ (g : GameNumbers) (c : ℕ) (other : HasHead bytes g c). count_same bytes 4 count c head.nodes other.nodes in
@@ -184,7 +184,7 @@ Faultless-nodes bytes n game count nodes head stand each reach end past =
 
 -- ---- from what stood next
 
-stood_bytes : (given : List (List ℕ)) (bytes rest : List ℕ) → StoodNext given (Some bytes) (Some rest) → bytes ≡ text_of_lines given ++ rest
+pub stood_bytes : (given : List (List ℕ)) (bytes rest : List ℕ) → StoodNext given (Some bytes) (Some rest) → bytes ≡ text_of_lines given ++ rest
 stood_bytes given bytes rest stood = let e : Some bytes ≡ Some (text_of_lines given ++ rest) = stood.came in cc
 
 stood_none : (given : List (List ℕ)) (bytes : List ℕ) → StoodNext given (Some bytes) None → ⊥
@@ -243,7 +243,7 @@ All-behind P [] ys h = h
 All-behind P (x ∷ xs) ys h = All-behind P xs ys (All-tail P x (xs ++ ys) h)
 
 -- the lines that stood next stand in their places
-line_at : (lines : List (List ℕ)) (bytes : List ℕ) (mid : Option (List ℕ)) (k n : ℕ) (line : List ℕ) → StoodNext lines (Some bytes) mid → slice_get lines k ≡ Some line → k + 1 ≡ n → HasLine bytes n line
+pub line_at : (lines : List (List ℕ)) (bytes : List ℕ) (mid : Option (List ℕ)) (k n : ℕ) (line : List ℕ) → StoodNext lines (Some bytes) mid → slice_get lines k ≡ Some line → k + 1 ≡ n → HasLine bytes n line
 line_at lines bytes None k n line stood at place = absurd (stood_none lines bytes stood)
 line_at lines bytes (Some rest) k n line stood at place =
     let s = split_at lines k line at in
@@ -267,10 +267,10 @@ game_spelled game of_game = record {
 }
 
 -- the lines of a head, with some lines behind them
-abbrev head_lines : GameNumbers → ℕ → List (List ℕ) → List (List ℕ)
+abbrev pub head_lines : GameNumbers → ℕ → List (List ℕ) → List (List ℕ)
 head_lines game count lines = first_line ∷ game_line game ∷ side_line Adversary ∷ count_line count ∷ lines
 
-head_from : (game : GameNumbers) (count : ℕ) (lines : List (List ℕ)) (bytes : List ℕ) (mid : Option (List ℕ)) → IsGame game → (1 ≤ count) × (count ≤ 4000000000) → StoodNext (head_lines game count lines) (Some bytes) mid → HasHead bytes game count
+pub head_from : (game : GameNumbers) (count : ℕ) (lines : List (List ℕ)) (bytes : List ℕ) (mid : Option (List ℕ)) → IsGame game → (1 ≤ count) × (count ≤ 4000000000) → StoodNext (head_lines game count lines) (Some bytes) mid → HasHead bytes game count
 head_from game count lines bytes mid of_game range stood = record {
   first = (first_line, line_at (head_lines game count lines) bytes mid 0 1 first_line stood refl (omega arith), refl);
   numbers = (game_line game, line_at (head_lines game count lines) bytes mid 1 2 (game_line game) stood refl (omega arith), game_spelled game of_game);
@@ -289,12 +289,12 @@ lines_get number (first ∷ nodes) (suc k) node e =
     let at : (number + 1) + k ≡ number + suc k = omega arith in
     lines_get (number + 1) nodes k node e ∙ ap (λ (i : ℕ). Some (adversary_line i node)) at
 
-front_get : (lines more : List (List ℕ)) (k : ℕ) (line : List ℕ) → slice_get lines k ≡ Some line → slice_get (lines ++ more) k ≡ Some line
+pub front_get : (lines more : List (List ℕ)) (k : ℕ) (line : List ℕ) → slice_get lines k ≡ Some line → slice_get (lines ++ more) k ≡ Some line
 front_get [] more k line e = let none : None ≡ Some line = e in absurd cc
 front_get (l ∷ ls) more zero line e = e
 front_get (l ∷ ls) more (suc k) line e = front_get ls more k line e
 
-nodes_from : (game : GameNumbers) (count : ℕ) (nodes : List AdvNode) (lines : List (List ℕ)) (bytes : List ℕ) (mid : Option (List ℕ)) → All IsSpellable nodes → ((k : ℕ) (line : List ℕ) → slice_get (adversary_lines 0 nodes) k ≡ Some line → slice_get lines k ≡ Some line) → StoodNext (head_lines game count lines) (Some bytes) mid → HasNodes bytes nodes
+pub nodes_from : (game : GameNumbers) (count : ℕ) (nodes : List AdvNode) (lines : List (List ℕ)) (bytes : List ℕ) (mid : Option (List ℕ)) → All IsSpellable nodes → ((k : ℕ) (line : List ℕ) → slice_get (adversary_lines 0 nodes) k ≡ Some line → slice_get lines k ≡ Some line) → StoodNext (head_lines game count lines) (Some bytes) mid → HasNodes bytes nodes
 nodes_from game count nodes lines bytes mid spellable front stood k node e =
     let at : 0 + k ≡ k = omega arith in
     let get : slice_get lines k ≡ Some (adversary_line k node) = front k (adversary_line k node) (lines_get 0 nodes k node e ∙ ap (λ (i : ℕ). Some (adversary_line i node)) at) in (

@@ -4,7 +4,7 @@ use Rattle.std.specs.Io.KnownBytes.{prepend_known}
 use Rattle.std.proofs.lemmas.List.{append-nil}
 use Rattle.std.proofs.lemmas.List.Elements.{All-head, All-cons, All-nil}
 use Rattle.port_io.specs.declared.lines.Line.{Line}
-use Rattle.port_io.specs.declared.lines.Line.TheVariants.{Text, End}
+use Rattle.port_io.specs.declared.lines.Line.TheVariants.{End}
 use Rattle.port_io.specs.Lines.{ReaderState, IsLine, with_lf, OnlyStandsNext}
 use Rattle.port_io.proofs.NextLemmas.{with_lf-only}
 use Rattle.items.specs.Game.{GameNumbers}
@@ -16,29 +16,14 @@ use Rattle.strategy_text.specs.Spelling.{SpellsAdversary}
 use Rattle.strategy_text.specs.Text.{end_line}
 use Rattle.adversary_graph.specs.Rules.{Breaks}
 use Rattle.checker.specs.declared.fault.CheckFault.{CheckFault}
-use Rattle.checker.specs.declared.fault.CheckFault.TheVariants.{Rejected, Read, Memory}
+use Rattle.checker.specs.declared.fault.CheckFault.TheVariants.{Rejected}
 use Rattle.checker.specs.declared.fault.Why.TheVariants as why
 use Rattle.checker.specs.FirstFault.{IsNodeLine}
-use Rattle.checker.specs.Progress.{StoodNext, ReadsLines, HasMore, RefusesNext, RefusesEnd, AnyLine, NoRule, BreaksNode}
+use Rattle.checker.specs.Progress.{StoodNext, ReadsLines, HasMore, RefusesNext, RefusesEnd, NoRule, BreaksNode}
 
 pub both_ways : (b : Bool) → b ≡ false → b ≡ true → ⊥
 both_ways true e f = absurd cc
 both_ways false e f = absurd cc
-
--- what stood next was no whole line
-pub refuses_other : (number : ℕ) (come : Option (List ℕ)) (other : Line) → (other ≡ Text → ⊥) → IfSome come (OnlyStandsNext other) → RefusesNext number AnyLine NoRule come (Rejected number why.Syntax)
-refuses_other number None other differs only = (refl, tt)
-refuses_other number (Some bytes) other differs only = (refl, λ next. differs (only Text (next.line, next.rest, next.whole, next.split)))
-
--- a line that is not whole is of never form, and breaks no rule
-pub RefusesNext-any : (number : ℕ) (Form : List ℕ → Type 0) (Breaking : Rule → List ℕ → Type 0) (come : Option (List ℕ)) (fault : CheckFault) → RefusesNext number AnyLine NoRule come fault → RefusesNext number Form Breaking come fault
-RefusesNext-any number Form Breaking None (Rejected line why.Syntax) h = (h.0, tt)
-RefusesNext-any number Form Breaking (Some bytes) (Rejected line why.Syntax) h =
-    (h.0, λ next. h.1 (record { line = next.line; rest = next.rest; whole = next.whole; split = next.split; form = tt }))
-RefusesNext-any number Form Breaking None (Rejected line (why.Rule rule)) h = (h.0, tt)
-RefusesNext-any number Form Breaking (Some bytes) (Rejected line (why.Rule rule)) h = absurd (h.1.form)
-RefusesNext-any number Form Breaking come Read h = tt
-RefusesNext-any number Form Breaking come Memory h = tt
 
 -- one line stood next
 pub stood_split : (text bytes : List ℕ) (new : Option (List ℕ)) → StoodNext (text ∷ []) (Some bytes) new → (rest : List ℕ) × (new ≡ Some rest) × (bytes ≡ with_lf text ++ rest)

@@ -1,5 +1,6 @@
 use Rattle.std.specs.Prelude.{◌≡◌, ℕ, List, length, Option, IfSome}
 use Rattle.std.specs.Io.KnownBytes.{IsAtEnd}
+use Rattle.items.specs.Game.{GameNumbers}
 use Rattle.strategy_text.specs.declared.node.AdvNode.{AdvNode}
 use Rattle.strategy_text.specs.declared.node.Side.TheVariants.{Adversary}
 use Rattle.strategy_text.specs.Text.{adversary_text}
@@ -14,3 +15,7 @@ pub record Accepts (accepted : Accepted) (left new_left : Option (List ℕ)) : T
   pub number : accepted.nodes ≡ length nodes
   pub spelled : IfSome left (λ bytes. bytes ≡ adversary_text accepted.game nodes)
   pub whole : IsAtEnd new_left
+
+-- the bytes are the text of a legal strategy of the adversary
+abbrev pub IsLegalText : List ℕ → Type 0
+IsLegalText bytes = (game : GameNumbers) × (nodes : List AdvNode) × IsLegal game nodes × (bytes ≡ adversary_text game nodes)

@@ -85,6 +85,11 @@ pub record FirstFault (bytes : List ℕ) (line : ℕ) (fault : Why) : Type 0 whe
 abbrev pub HasNoFault : List ℕ → Type 0
 HasNoFault bytes = (line : ℕ) (fault : Why) → LineFault bytes line fault → ⊥
 
+-- a text has at most one first fault
+abbrev pub OneFirstFault : Type 0
+OneFirstFault =
+    (bytes : List ℕ) (line other : ℕ) (fault another : Why) → FirstFault bytes line fault → FirstFault bytes other another → (line ≡ other) × (fault ≡ another)
+
 -- P of the line and of what is wrong with it, where the text was rejected
 abbrev pub IfRejected : CheckFault → (ℕ → Why → Type 0) → Type 0
 IfRejected (Rejected line why) P = P line why

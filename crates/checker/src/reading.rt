@@ -7,7 +7,7 @@ ghost use Rattle.loads.specs.Loads.{IsLoads};
 ghost use Rattle.strategy_text.specs.Text.{first_line, game_line, side_line, count_line, end_line};
 ghost use Rattle.items.specs.Game.{IsGame};
 ghost use Rattle.strategy_text.specs.declared.node.Side.TheVariants.{Adversary};
-ghost use Rattle.checker.specs.Accepted.{Accepts};
+ghost use Rattle.checker.specs.Accepted.{Accepts, IsLegalText};
 ghost use Rattle.checker.specs.FirstFault.{FirstFault, IfRejected, IsGameLine, IsSideLine, IsCountLine, IsNodeLine};
 ghost use Rattle.checker.specs.Progress.{ReadsLines, ReadsNode, ReadsNodes, EndsWith, RefusesNext, RefusesNode, RefusesEnd, AnyLine, NoRule, BreaksGame, BreaksSide, BreaksNode};
 ghost use Rattle.checker.specs.declared.fault.CheckFault.TheVariants.{Rejected, Read};
@@ -202,6 +202,7 @@ pub fn check<S: Source>(alloc: Global, source: &mut S) -> Result<Accepted, Check
     ensures accepted { IfOk result (λ accepted. Accepts accepted (S.left source.old) (S.left source.new)) }
     ensures read { result ≡ Err Read → Rose (S.faults source.old) (S.faults source.new) }
     ensures rejected { IfErr result (λ fault. IfRejected fault (λ line why. IfSome (S.left source.old) (λ bytes. FirstFault bytes line why))) }
+    ensures complete { IfErr result (λ fault. IfRejected fault (λ line why. IfSome (S.left source.old) (λ bytes. IsLegalText bytes → ⊥))) }
 {
     let mut lines = LineReader::new(alloc)?;
     read_first(&mut lines, source)?;
