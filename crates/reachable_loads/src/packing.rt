@@ -13,8 +13,9 @@ use loads::Loads;
 use packing_witness::Packing;
 use std::alloc::{AllocError, Global};
 
-/// A packing of the items; None exactly where they do not fit into the bins of the capacity. Which
-/// packing it is, is free. The time is near linear in the sorted loads of all prefixes of the items.
+/// A packing of the items; None exactly where they do not fit offline. Which packing it is, is free.
+/// Keeps the sorted loads of all prefixes of the items, in time near linear in their number. Fails only
+/// for want of memory.
 pub fn pack(alloc: Global, game: &Game, items: &Items) -> Result<Option<Packing>, AllocError>
     ensures exact { IfOk result (λ found. MatchOption found (¬ Packable game.now items.now) (λ packing. IsPacking game.now packing items.now)) }
 {

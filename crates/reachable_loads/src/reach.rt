@@ -10,8 +10,10 @@ use std::alloc::{AllocError, Global};
 use std::collections::BTreeSet;
 use std::marker::Model;
 
-/// A list of items of a game, with the sorted loads of all its assignments to bins of the capacity.
-/// Clauses see the game and the list.
+/// A list of items of a game, with the sorted loads of all its assignments to the bins of the capacity.
+/// It answers what the rule of the game asks, that the items so far always fit offline (Böhm and Simon,
+/// "Discovering and certifying lower bounds for the online bin stretching problem"). Sizes and loads are
+/// whole numbers on the scale of the capacity. Clauses see the game and the list of items.
 #[derive(Drop)]
 pub struct Reach {
     game: Game,
@@ -30,7 +32,7 @@ impl Model for Reach {
 }
 
 impl Reach {
-    /// No items.
+    /// The list of no items, whose one member is the load 0 of each bin. Fails only for want of memory.
     pub fn start(alloc: Global, game: &Game) -> Result<Reach, AllocError>
         ensures ok { IfOk result (λ made. made ≡ sent game.now []) }
     {
@@ -43,8 +45,8 @@ impl Reach {
         })
     }
 
-    /// The list with one more item, of size `s`, at its end. The time is near linear in the number of
-    /// sorted loads that are kept.
+    /// The list with one more item, of size `s`, at its end; the items may then fit no longer. The time is
+    /// near linear in the number of members, each of which is kept once. Fails only for want of memory.
     pub fn add(&self, s: u16) -> Result<Reach, AllocError>
         requires low { 1 ≤ s }
         requires high { s ≤ self.now.game.capacity }
