@@ -1,11 +1,13 @@
 -- What follows from a text that is due.
 use Rattle.std.proofs.Common.{◌≡◌, ℕ, List, [], ◌++◌, get_or, take, drop, Option, Some, None, refl, ap, sym, subst, ◌∙◌, arith, append_assoc, append-nil, take-append-drop}
 use Rattle.std.proofs.lemmas.List.{append_cancel_left}
-use Rattle.std.specs.Prelude.{unwrap_or}
+use Rattle.std.specs.Prelude.{unwrap_or, IfSome}
 use Rattle.std.specs.Io.KnownBytes.{append_known}
 use Rattle.port_io.specs.Told.{AppendsSome}
 use Rattle.checker.specs.declared.fault.Accepted.{Accepted}
-use Rattle.checker.specs.Accepted.{Accepts}
+use Rattle.checker.specs.Accepted.{Accepts, IsLegalText}
+use Rattle.checker.specs.FirstFault.{LineFault}
+use Rattle.checker.proofs.LegalText.{HasNoFault-from_legal}
 use Rattle.stretch_bench.specs.declared.command.Command.TheVariants.{Check}
 use Rattle.stretch_bench.specs.declared.status.Status.{Status}
 use Rattle.stretch_bench.specs.declared.status.Status.TheVariants.{Done, Rejected, Usage, Undecided, ReadFault, WriteFault, OutOfMemory, Unpackable}
@@ -82,3 +84,21 @@ behind_front words left new_left status text piece old new accepted due same som
     let found = first_of old new (take n piece) (accepted_line accepted) some.2 first in
     stands_behind words left new_left status text accepted (found.0 ++ drop n piece) due numbers
     (sym same ∙ sym (take-append-drop n piece) ∙ ap (λ l. l ++ drop n piece) found.1 ∙ append_assoc (accepted_line accepted) found.0 (drop n piece))
+
+-- a status other than Rejected is none over a legal text either
+pub never_rejected : (status : Status) → (status ≡ Rejected → ⊥) → (left : Option (List ℕ)) → IfSome left (λ bytes. IsLegalText bytes → status ≡ Rejected → ⊥)
+never_rejected status other None = tt
+never_rejected status other (Some bytes) = λ legal e. other e
+
+-- a rejection is due only over a text that is no legal strategy's
+pub not_rejected : (words : List (List ℕ)) (left new_left : Option (List ℕ)) (status : Status) (text : List ℕ) → IsDue words left new_left status text → IfSome left (λ bytes. IsLegalText bytes → status ≡ Rejected → ⊥)
+not_rejected words None new_left status text due = tt
+not_rejected words (Some bytes) new_left Rejected text due = λ legal e.
+    HasNoFault-from_legal legal.0 legal.1 legal.2 due.at due.why (subst (λ (b : List ℕ). LineFault b due.at due.why) legal.3 due.first.has)
+not_rejected words (Some bytes) new_left Done text due = λ legal e. cc
+not_rejected words (Some bytes) new_left Usage text due = λ legal e. cc
+not_rejected words (Some bytes) new_left Undecided text due = absurd due
+not_rejected words (Some bytes) new_left ReadFault text due = absurd due
+not_rejected words (Some bytes) new_left WriteFault text due = absurd due
+not_rejected words (Some bytes) new_left OutOfMemory text due = absurd due
+not_rejected words (Some bytes) new_left Unpackable text due = absurd due

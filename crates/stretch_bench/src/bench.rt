@@ -1,9 +1,9 @@
 //! The top call.
 
-ghost use Rattle.std.specs.Prelude.{◌≡◌, ◌≢◌, ◌≤◌, ◌⊎◌};
+ghost use Rattle.std.specs.Prelude.{◌≡◌, ◌≢◌, ◌≤◌, ◌⊎◌, IfSome};
 ghost use Rattle.port_io.specs.Faults.{Rose};
 ghost use Rattle.checker.specs.declared.fault.Accepted.{Accepted};
-ghost use Rattle.checker.specs.Accepted.{Accepts};
+ghost use Rattle.checker.specs.Accepted.{Accepts, IsLegalText};
 ghost use Rattle.stretch_bench.specs.Words.{spelling_of, SpellsNone};
 ghost use Rattle.stretch_bench.specs.Lines.{accepted_line};
 ghost use Rattle.stretch_bench.specs.Due.{IsDue, IsDueText};
@@ -39,6 +39,9 @@ pub fn run_bench<S: Source, K: Sink>(
     ensures rejected { result ≡ Status.Rejected → WritesWhole (K.written sink.old) (K.written sink.new) (IsDue (spelling_of words.now) (S.left source.old) (S.left source.new) Status.Rejected) }
     ensures usage { result ≡ Status.Usage → WritesWhole (K.written sink.old) (K.written sink.new) (IsDue (spelling_of words.now) (S.left source.old) (S.left source.new) Status.Usage) }
     ensures no_command { SpellsNone (spelling_of words.now) → (source.new ≡ source.old) × ((result ≡ Status.Usage) ⊎ (result ≡ Status.WriteFault) ⊎ (result ≡ Status.OutOfMemory)) }
+
+    // The text of a legal strategy is not rejected.
+    ensures legal { IfSome (S.left source.old) (λ bytes. IsLegalText bytes → result ≢ Status.Rejected) }
 
     // Where the text could not be made or written whole.
     ensures read_fault { result ≡ Status.ReadFault → Rose (S.faults source.old) (S.faults source.new) × (sink.new ≡ sink.old) }
