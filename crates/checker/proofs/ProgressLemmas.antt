@@ -96,6 +96,11 @@ pub length-adversary_lines : (number : ℕ) (nodes : List AdvNode) → length (a
 length-adversary_lines number [] = refl
 length-adversary_lines number (node ∷ nodes) = ap suc (length-adversary_lines (number + 1) nodes)
 
+-- what was left behind the last lines is what is left behind all
+whole_read : (old mid new : Option (List ℕ)) (bytes : List ℕ) → old ≡ prepend_known bytes mid → IfSome mid (λ _. new ≡ Some []) → IfSome old (λ _. new ≡ Some [])
+whole_read old None new bytes e h = rw e tt
+whole_read old (Some more) new bytes e h = rw e h
+
 -- a whole text was read: its head, its nodes, and its end
 pub Accepts-from_parts : (accepted : Accepted) (first_reader game_reader side_reader count_reader reader : ReaderState) (left come first game side count nodes new_left : Option (List ℕ)) → come ≡ left → IsGame accepted.game → (1 ≤ accepted.nodes) × (accepted.nodes ≤ 4000000000) → accepted.side ≡ Adversary → ReadsLines (first_line ∷ []) first_reader come first → ReadsLines (game_line accepted.game ∷ []) game_reader first game → ReadsLines (side_line Adversary ∷ []) side_reader game side → ReadsLines (count_line accepted.nodes ∷ []) count_reader side count → ReadsNodes accepted.game accepted.nodes reader count nodes → EndsWith end_line nodes new_left → Accepts accepted left new_left
 Accepts-from_parts accepted r1 r2 r3 r4 r5 left come t1 t2 t3 t4 t5 new_left fresh of_game range adversary first game side count nodes end =
@@ -117,5 +122,5 @@ Accepts-from_parts accepted r1 r2 r3 r4 r5 left come t1 t2 t3 t4 t5 new_left fre
       side = adversary;
       number = sym nodes.number;
       spelled = subst (λ (n : ℕ). IfSome left (λ bytes. bytes ≡ text_of_lines ((first_line ∷ game_line accepted.game ∷ side_line Adversary ∷ count_line n ∷ lines) ++ end_line ∷ []))) number (text_read (first_line ∷ game_line accepted.game ∷ side_line Adversary ∷ count_line accepted.nodes ∷ lines) end_line left t5 (sym fresh ∙ head.stood.came) end.last);
-      whole = end.whole;
+      whole = whole_read left t5 new_left (text_of_lines (first_line ∷ game_line accepted.game ∷ side_line Adversary ∷ count_line accepted.nodes ∷ lines)) (sym fresh ∙ head.stood.came) end.whole;
     }

@@ -1,5 +1,4 @@
-use Rattle.std.specs.Prelude.{◌≡◌, ℕ, List, length, Option, IfSome}
-use Rattle.std.specs.Io.KnownBytes.{IsAtEnd}
+use Rattle.std.specs.Prelude.{◌≡◌, ℕ, List, [], length, Option, Some, IfSome}
 use Rattle.items.specs.Game.{GameNumbers}
 use Rattle.strategy_text.specs.declared.node.AdvNode.{AdvNode}
 use Rattle.strategy_text.specs.declared.node.Side.TheVariants.{Adversary}
@@ -14,7 +13,7 @@ pub record Accepts (accepted : Accepted) (left new_left : Option (List ℕ)) : T
   pub side : accepted.side ≡ Adversary
   pub number : accepted.nodes ≡ length nodes
   pub spelled : IfSome left (λ bytes. bytes ≡ adversary_text accepted.game nodes)
-  pub whole : IsAtEnd new_left
+  pub whole : IfSome left (λ _. new_left ≡ Some [])
 
 -- the bytes are the text of a legal strategy of the adversary
 abbrev pub IsLegalText : List ℕ → Type 0

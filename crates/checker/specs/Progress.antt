@@ -1,5 +1,5 @@
-use Rattle.std.specs.Prelude.{◌≡◌, ◌≢◌, ◌==◌, ℕ, ◌+◌, ◌<◌, List, [], ◌∷◌, ◌++◌, ◌⊎◌, length, All, Option, None, IfSome, map}
-use Rattle.std.specs.Io.KnownBytes.{prepend_known, IsAtEnd}
+use Rattle.std.specs.Prelude.{◌≡◌, ◌≢◌, ◌==◌, ℕ, ◌+◌, ◌<◌, List, [], ◌∷◌, ◌++◌, ◌⊎◌, length, All, Option, None, Some, IfSome, map}
+use Rattle.std.specs.Io.KnownBytes.{prepend_known}
 use Rattle.port_io.specs.Lines.{ReaderState, IsLine, with_lf}
 use Rattle.items.specs.Game.{GameNumbers, IsGame}
 use Rattle.items.specs.Multiset.{sizes_of}
@@ -47,7 +47,7 @@ pub record ReadsNodes (game : GameNumbers) (count : ℕ) (reader : ReaderState) 
 -- this line stood next, nothing stood behind it, and all was read
 pub record EndsWith (line : List ℕ) (old left : Option (List ℕ)) : Type 0 where
   pub last : IfSome old (λ bytes. bytes ≡ text_of_lines (line ∷ []))
-  pub whole : IsAtEnd left
+  pub whole : IfSome old (λ _. left ≡ Some [])
 
 -- the positions of the nodes read so far, each of which meets every rule
 pub record ArePositionsOf (game : GameNumbers) (count : ℕ) (nodes : List AdvNode) (positions : List Position) : Type 0 where
