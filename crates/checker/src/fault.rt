@@ -22,7 +22,12 @@ pub enum Why {
 pub enum CheckFault {
     /// The text has this first fault, in this line, counted from 1.
     #[error("line {line} has a fault")]
-    Rejected { line: u64, why: Why },
+    Rejected {
+        /// The line, counted from 1.
+        line: u64,
+        /// What is wrong with it.
+        why: Why,
+    },
     /// A read failed.
     #[error("a read failed")]
     Read,
@@ -50,7 +55,10 @@ impl<T: Drop> From<AllocFailed<T>> for CheckFault {
 /// A legal strategy that was read: its game, its side, and how many nodes it has.
 #[derive(Clone, Copy)]
 pub struct Accepted {
+    /// The game.
     pub game: Game,
+    /// Whose strategy it is.
     pub side: Side,
+    /// How many nodes it has.
     pub nodes: u32,
 }

@@ -3,7 +3,7 @@
 
 mod adversary;
 mod head;
-mod laws;
+pub mod laws;
 mod node;
 mod rule;
 mod stop;
@@ -11,7 +11,6 @@ mod words;
 
 pub use adversary::parse_adversary;
 pub use head::{parse_end, parse_first, parse_game, parse_nodes, parse_side};
-pub use laws::text_is_unique;
 pub use node::{AdvNode, AdvNodes, Placement, Placements, Side, Then};
 pub use rule::Rule;
 
