@@ -10,7 +10,8 @@ use Rattle.items.specs.Multiset.{count, Same}
 use Rattle.loads.specs.Descending.{IsDescending, put_descending, take_out}
 use Rattle.loads.specs.Loads.{IsLoads, IsLowestBin, loads_after}
 use Rattle.loads.proofs.DescendingLemmas.{IsDescending-tail, IsDescending-head, IsDescending-put, IsDescending-take_out, All-put, All-take_out, length-put, length-take_out, take_out-remove, put_descending-insert, unwrap_or-position}
-use Rattle.loads.proofs.CountLemmas.{count-sum_by, Contains-Same, sum_by-put, sum_by-take_out, equal_from_Same}
+use Rattle.items.proofs.MultisetLemmas.{count-sum_by}
+use Rattle.loads.proofs.CountLemmas.{Contains-Same, sum_by-put, sum_by-take_out, equal_from_Same}
 
 -- an item in a bin that stays below the target leaves loads of the game
 pub IsLoads-after : (game : GameNumbers) (loads : List ℕ) (load size : ℕ) → IsLoads game loads → Contains loads load → load + size < game.target → IsLoads game (loads_after loads load size)

@@ -9,10 +9,10 @@ use Rattle.std.proofs.lemmas.List.Elements.{All-cons, All-nil, All-from_get_or, 
 use Rattle.items.specs.Game.{GameNumbers}
 use Rattle.items.specs.Multiset.{IsSize, IsMultiset, Same, largest_of}
 use Rattle.items.specs.Packable.{IsAssignment, Packable, bin_total}
-use Rattle.items.proofs.MultisetLemmas.{length-Same, RisesFrom-zero, largest_of_bound, largest_of_last}
+use Rattle.items.proofs.MultisetLemmas.{count-sum_by, length-Same, RisesFrom-zero, largest_of_bound, largest_of_last}
 use Rattle.items.proofs.SameLemmas.{Same-sym, Same-trans}
 use Rattle.loads.specs.Descending.{IsDescending}
-use Rattle.loads.proofs.CountLemmas.{count-sum_by, Contains-Same}
+use Rattle.loads.proofs.CountLemmas.{Contains-Same}
 use Rattle.reachable_loads.specs.Reached.{ItemsSent, sent, totals, HasTotals, IsReached, IsReachOf}
 use Rattle.reachable_loads.specs.Pack.{CanTakeOut, prefixes_of}
 use Rattle.reachable_loads.proofs.AssignmentLemmas.{length-totals, get_or-totals, totals-push, PutsLast, puts_last}

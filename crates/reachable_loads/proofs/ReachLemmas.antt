@@ -7,12 +7,12 @@ use Rattle.std.proofs.lemmas.List.Elements.{All-from_get_or, All-weaker, All-con
 use Rattle.items.specs.Game.{GameNumbers, IsGame}
 use Rattle.items.specs.Multiset.{IsSize, Same, count}
 use Rattle.items.specs.Packable.{IsAssignment, Packable, IsRoom, bin_total}
-use Rattle.items.proofs.MultisetLemmas.{length-Same}
+use Rattle.items.proofs.MultisetLemmas.{count-sum_by, length-Same}
 use Rattle.items.proofs.SameLemmas.{Same-sym}
 use Rattle.loads.specs.Descending.{IsDescending, put_descending}
 use Rattle.loads.specs.Loads.{IsLoads, loads_after}
 use Rattle.loads.proofs.DescendingLemmas.{IsDescending-put, IsDescending-nil, IsDescending-take_out}
-use Rattle.loads.proofs.CountLemmas.{count-sum_by, sum_by-put, equal_from_Same, Contains-Same}
+use Rattle.loads.proofs.CountLemmas.{sum_by-put, equal_from_Same, Contains-Same}
 use Rattle.loads.proofs.LoadsLemmas.{Same-loads_after}
 use Rattle.reachable_loads.specs.Reached.{totals, AreLoadsOf, IsReached, ItemsSent, sent, IsReachOf, FitOffline, AnyOf, HasRoom, IsAfter, IsLeast}
 use Rattle.reachable_loads.proofs.AssignmentLemmas.{length-totals, get_or-totals, totals-push, IsAssignment-push, PutsLast, puts_last, IsAssignment-nil, totals-nil}
