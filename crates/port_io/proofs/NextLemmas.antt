@@ -1,14 +1,16 @@
 -- What stands next is one thing, and it is what a search found.
 use Rattle.std.proofs.Common.{◌≡◌, ◌≢◌, ◌⊎◌, inl, inr, true, false, eqb, ℕ, ◌+◌, ◌<◌, ◌≤◌, List, [], ◌∷◌, ◌++◌, length, get_or, take, drop, Contains, Option, None, Some, IfSome, IfNone, refl, ap, sym, ◌∙◌, subst, arith, append_assoc, length-append, length-take}
+use Rattle.std.specs.Prelude.{Ok}
 use Rattle.std.proofs.lemmas.List.{append-nil, get_or_at, get_or_append_left, get_or-take, take-append-drop, drop_more, nil_from_length}
 use Rattle.std.proofs.lemmas.List.Elements.{All-contains, All-from_get_or, All-nil, All-cons, All-head, All-tail, Contains-append_left, Contains-push}
 use Rattle.std.proofs.lemmas.Bool.{cases_lt}
 use Rattle.std.proofs.lemmas.Bool.Decides.{eqb_tells}
 use Rattle.std.specs.Io.KnownBytes.{prepend_known}
+use Rattle.port_io.specs.declared.sources.Failed.{Failed}
 use Rattle.port_io.specs.declared.lines.Line.{Line}
 use Rattle.port_io.specs.declared.lines.Line.TheVariants.{Text, End, TooLong, Unfinished}
 use Rattle.port_io.specs.declared.lines.Found.TheVariants.{Ending}
-use Rattle.port_io.specs.Lines.{lf, longest_line, HasNoLf, IsLine, with_lf, StandsNext}
+use Rattle.port_io.specs.Lines.{lf, longest_line, HasNoLf, IsLine, with_lf, StandsNext, line_given}
 use Rattle.port_io.specs.Found.{NoLfBelow, EndsAt, IsFound}
 
 -- bytes with a line in front have an LF
@@ -121,6 +123,22 @@ Ending-found TooLong held (Some rest) found = (
 Ending-found Unfinished held (Some rest) found =
     let same : held ≡ held ++ rest = sym (ap (λ xs. held ++ xs) found.3 ∙ append-nil held) in
     subst (StandsNext Unfinished) same (record { no_lf = HasNoLf-all held found.0; short = found.2 }, found.1)
+
+-- where an ending was found, the bytes held show it
+ending_shown : (ending : Line) (held : List ℕ) (left : Option (List ℕ)) → IsFound (Ending ending) held left → StandsNext ending held
+ending_shown Text held left found = absurd found
+ending_shown End held left found = nil_from_length held found.0
+ending_shown TooLong held left found = subst (StandsNext TooLong) (append-nil held) (Ending-found TooLong held (Some []) found)
+ending_shown Unfinished held left found = (record { no_lf = HasNoLf-all held found.0; short = found.2 }, found.1)
+
+pub text_is_shown : (n : ℕ) (held : List ℕ) → EndsAt n held → StandsNext Text (with_lf (take n held) ++ drop (n + 1) held)
+text_is_shown n held found = (take n held, drop (n + 1) held, IsLine-found n held found, refl)
+
+pub ending_is_shown : (ending : Line) (held text : List ℕ) (left : Option (List ℕ)) → IsFound (Ending ending) held left → StandsNext ending (line_given {E = Failed} (Ok ending) text ++ held)
+ending_is_shown Text held text left found = absurd found
+ending_is_shown End held text left found = ending_shown End held left found
+ending_is_shown TooLong held text left found = ending_shown TooLong held left found
+ending_is_shown Unfinished held text left found = ending_shown Unfinished held left found
 
 -- a line and its LF are in front, or there is no LF
 abbrev HasFirst : List ℕ → Type 0

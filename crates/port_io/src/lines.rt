@@ -106,6 +106,10 @@ impl LineReader {
             IfSome (to_come self.old (S.left source.old)) (OnlyStandsNext line))) }
         ensures ending { IfOk result (λ line. self.new.ending ≡ ending_of line) }
 
+        // The bytes that were read show it: it stands next in what was held and what was read in this call.
+        ensures shown { IfNone self.old.ending (IfOk result (λ line.
+            StandsNext line (line_given result self.new.text ++ self.new.held))) }
+
         // After an ending.
         ensures again { IfSome self.old.ending (λ ending. result ≡ Ok ending) }
         ensures again_kept { IfSome self.old.ending (λ ending. (source.new ≡ source.old) × (self.new.held ≡ self.old.held)) }

@@ -2,7 +2,7 @@ use Rattle.std.proofs.Common.{◌+◌, take, drop, ap, sym, ◌∙◌}
 use Rattle.port_io.specs.Reading.{Ahead}
 use Rattle.port_io.specs.Lines.{ReaderState, StandsNext, with_lf}
 use Rattle.port_io.specs.declared.lines.Line.TheVariants.{Text}
-use Rattle.port_io.proofs.NextLemmas.{only-told, IfNone-any, Text-found, Ending-found, IsLine-found, with_lf-found}
+use Rattle.port_io.proofs.NextLemmas.{only-told, IfNone-any, Text-found, Ending-found, IsLine-found, with_lf-found, ending_is_shown, text_is_shown}
 use Rattle.port_io.proofs.ReadingLemmas.{IfSome-read, prepend_known-given}
 use Rattle.port_io.proofs.lines.LineReader.next_line.Goals as goal
 
@@ -53,3 +53,13 @@ returns-in-Ending-clause-only g c =
     let ending = c.in-Ending.ending in
     let found = rw c.in-Ending.is at c.in_ok-length.ensures.found in
     IfNone-any _ (only-told _ ending (IfSome-read (StandsNext ending) c.args.self.now.held c.forget.new.self.held now.ahead.held _ (g.S.Source.left now.source) (sym (ap held_of c.self.view_is) ∙ sym (ap ahead_of c.forget.ensures)) c.find_next.ensures.reads (Ending-found ending now.ahead.held (g.S.Source.left now.source) found)))
+
+pub returns-in-Whole-clause-shown : goal.returns-in-Whole-clause-shown
+returns-in-Whole-clause-shown g c =
+    let found = rw c.in-Whole.is at c.in_ok-length.ensures.found in
+    rw c.give.ensures (IfNone-any _ (text_is_shown c.in-Whole.length c.find_next.new.ahead.held found))
+
+pub returns-in-Ending-clause-shown : goal.returns-in-Ending-clause-shown
+returns-in-Ending-clause-shown g c =
+    let found = rw c.in-Ending.is at c.in_ok-length.ensures.found in
+    IfNone-any _ (ending_is_shown c.in-Ending.ending c.find_next.new.ahead.held _ (g.S.Source.left c.find_next.new.source) found)
