@@ -2,6 +2,7 @@
 #![tactic(auto)]
 
 mod bins;
+mod bytes;
 mod earlier;
 pub mod laws;
 mod position;
