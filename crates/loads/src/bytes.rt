@@ -4,10 +4,11 @@ ghost use Rattle.std.specs.Prelude.{◌≡◌, ◌↔◌, ◌++◌, IsTrue, IfOk
 ghost use Rattle.items.specs.Multiset.{IsMultiset};
 ghost use Rattle.loads.specs.Loads.{AreLoads};
 ghost use Rattle.loads.specs.Position.{position};
-ghost use Rattle.loads.specs.Packed.{ArePositionBytes, bytes_of, position_in};
+ghost use Rattle.loads.specs.Packed.{ArePositionBytes, position_in};
 
 use crate::sorted_loads::Loads;
 use items::Items;
+use items::laws::items_are_a_multiset;
 use smallvec::SmallVec;
 use std::alloc::{AllocError, Global};
 
@@ -16,8 +17,10 @@ pub(crate) type Bytes = SmallVec<u8, 24>;
 
 /// The bytes of the position of these loads and items.
 pub(crate) fn pack(alloc: Global, loads: &Loads, items: &Items) -> Result<Bytes, AllocError>
-    ensures { IfOk result (λ bytes. bytes.items ≡ bytes_of (position loads.now items.now)) }
+    ensures value { IfOk result (λ bytes. position_in bytes.items ≡ position loads.now items.now) }
+    ensures legal { IfOk result (λ bytes. ArePositionBytes bytes.items) }
 {
+    items_are_a_multiset(items);
     let loads = loads.as_slice();
     let mut bytes = SmallVec::new(alloc);
     bytes.push(loads.len() as u8)?;

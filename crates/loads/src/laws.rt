@@ -3,11 +3,18 @@
 ghost use Rattle.std.specs.Prelude.{◌≡◌, ◌↔◌, ◌+◌, ◌<◌, ◌≤◌, ℕ, Contains, IsTrue, length, slice_index, slice_set, sum};
 ghost use Rattle.items.specs.Multiset.{Same};
 ghost use Rattle.loads.specs.Descending.{IsStrictlyDescending, distinct};
-ghost use Rattle.loads.specs.Loads.{loads_after};
+ghost use Rattle.loads.specs.Loads.{AreLoads, loads_after};
 
 use crate::position::Position;
 use crate::sorted_loads::Loads;
 use std::hash::Hash;
+
+/// Loads are at most 8, descending, each below 240.
+pub fn loads_are_of_some_game(loads: &Loads)
+    ensures { AreLoads loads.now }
+{
+    let _loads = loads.as_slice();
+}
 
 /// Two values of loads are equal exactly where they are the same multiset.
 pub fn loads_are_their_multiset(first: &Loads, second: &Loads)
