@@ -1,5 +1,6 @@
 -- Serves private contracts: how packed positions lie in memory.
-use Rattle.std.specs.Prelude.{◌≡◌, ℕ, ◌+◌, ◌≤◌, List, [], ◌∷◌, ◌++◌, All, length, map, take, drop, slice_range}
+use Rattle.std.specs.Prelude.{◌≡◌, ◌==◌, ◌&&◌, Bool, ℕ, ◌+◌, ◌≤◌, List, [], ◌∷◌, ◌++◌, All, length, map, take, drop, slice_range}
+use Rattle.std.specs.Cmp.Lexicographic.{pointwise}
 use Rattle.items.specs.Multiset.{IsMultiset}
 use Rattle.loads.specs.Loads.{AreLoads}
 use Rattle.loads.specs.Position.{position}
@@ -19,6 +20,10 @@ pub record ArePositionBytes (bytes : List ℕ) : Type 0 where
   pub kept : bytes_of (position_in bytes) ≡ bytes
   pub loads : AreLoads (position_in bytes).loads
   pub items : IsMultiset 120 (position_in bytes).items
+
+-- whether two positions have the same loads and the same items
+abbrev pub are_equal : Position → Position → Bool
+are_equal first second = pointwise ◌==◌ first.loads second.loads && pointwise ◌==◌ first.items second.items
 
 -- the pieces of a list of bytes that end at these places, the first from a given place on
 abbrev pub pieces : List ℕ → ℕ → List ℕ → List (List ℕ)

@@ -7,6 +7,7 @@ use crate::bytes::{Bytes, items_of, pack, parts, stand_for};
 use crate::sorted_loads::Loads;
 use items::Items;
 use std::alloc::{AllocError, Global};
+use std::hash::{Hash, Hasher};
 use std::marker::Model;
 
 /// A position in one byte for each load and each item and one more, seen by clauses as the position. Up to 24 bytes
@@ -65,5 +66,41 @@ impl PackedPosition {
         Ok(PackedPosition {
             bytes: Bytes::from_slice(*self.bytes.allocator(), self.bytes.as_slice())?,
         })
+    }
+}
+
+impl PartialEq for PackedPosition {
+    ghost use Rattle.loads.specs.Packed.{are_equal};
+    ghost use Rattle.std.specs.Cmp.Rules.{comparing};
+    ghost use Rattle.std.proofs.Common.{rules};
+
+    ghost eq = { are_equal };
+
+    ghost laws = { Prim.search (comparing, rules) };
+
+    fn eq(&self, other: &PackedPosition) -> bool {
+        self.bytes.as_slice() == other.bytes.as_slice()
+    }
+}
+
+impl Eq for PackedPosition {
+    ghost use Rattle.std.specs.Cmp.Rules.{comparing};
+    ghost use Rattle.std.proofs.Common.{rules};
+
+    ghost laws = { Prim.search (comparing, rules) };
+}
+
+impl Hash for PackedPosition {
+    ghost use Rattle.std.specs.Prelude.{◌∷◌, []};
+    ghost use Rattle.std.specs.Cmp.Rules.{hashing};
+    ghost use Rattle.std.proofs.Common.{rules};
+    ghost use Rattle.loads.specs.Packed.{bytes_of};
+
+    ghost hash_input = { λ position. bytes_of position ∷ [] };
+
+    ghost respects_eq = { Prim.search (hashing, rules) };
+
+    fn hash<H: Hasher>(&self, state: &mut H) {
+        state.write(self.bytes.as_slice());
     }
 }
