@@ -1,11 +1,10 @@
 -- Bytes that are cut into pieces: how one more piece is put at their end, and how a piece is found by its number.
-use Rattle.std.proofs.Common.{◌≡◌, ℕ, zero, suc, ◌+◌, ◌-◌, ◌<◌, ◌≤◌, ◌↔◌, Bool, true, IsTrue, List, [], ◌∷◌, ◌++◌, All, Some, length, map, take, drop, get_or, refl, sym, ap, ◌∙◌, subst, arith}
+use Rattle.std.proofs.Common.{◌≡◌, ℕ, zero, suc, ◌+◌, ◌-◌, ◌<◌, ◌≤◌, List, [], ◌∷◌, ◌++◌, All, Some, length, map, take, drop, get_or, refl, sym, ap, ◌∙◌, subst, arith}
 use Rattle.std.specs.Prelude.{slice_get, slice_range}
 use Rattle.std.specs.Option.{option_map}
 use Rattle.std.proofs.lemmas.List.{length-append, length-drop, take_all, take-append-le, drop_at, drop-append-le, length-map, map_push}
 use Rattle.std.proofs.lemmas.List.Elements.{All-get_or, All-push}
-use Rattle.std.proofs.lemmas.Option.{slice_get-map, get_or_from_slice_get, slice_get_within}
-use Rattle.loads.specs.declared.position.Position.{Position}
+use Rattle.std.proofs.lemmas.Option.{slice_get-map, get_or_from_slice_get}
 use Rattle.loads.specs.Packed.{ArePositionBytes, AreCut, LeadTo, pieces, position_in, positions_in}
 
 pub LeadTo-le : (start : ℕ) (ends : List ℕ) (total : ℕ) → LeadTo start ends total → start ≤ total
@@ -41,7 +40,7 @@ pieces-append bytes more start (end ∷ ends) total h l =
     let below : end ≤ total = LeadTo-le end ends total h.1 in
     let rest : end - start ≤ length (drop start bytes) = omega (arith, h.0, length-drop start bytes) in
     let same : slice_range (bytes ++ more) start end ≡ slice_range bytes start end =
-      ap (take (end - start)) (drop-append-le start bytes more (omega (arith, h.0))) ∙ take-append-le (end - start) (drop start bytes) more rest in
+    ap (take (end - start)) (drop-append-le start bytes more (omega (arith, h.0))) ∙ take-append-le (end - start) (drop start bytes) more rest in
     ap (λ piece. piece ∷ pieces (bytes ++ more) end ends) same ∙ ap (λ others. slice_range bytes start end ∷ others) (pieces-append bytes more end ends total h.1 l)
 
 -- one more end is one more piece

@@ -4,8 +4,9 @@ ghost use Rattle.std.specs.Prelude.{◌≡◌, ◌++◌, ◌∷◌, ◌<◌, ◌
 ghost use Rattle.loads.specs.Position.{position};
 ghost use Rattle.loads.specs.Packed.{ArePositionBytes, AreCut, LeadTo, position_in, positions_in};
 
-use crate::bytes::{pack, stand_for};
+use crate::bytes::{pack, position_of, stand_for};
 use crate::earlier::EarlierPositions;
+use crate::position::Position;
 use crate::sorted_loads::Loads;
 use items::Items;
 use std::alloc::{AllocError, Global};
@@ -47,6 +48,20 @@ impl PackedPositions {
         ensures value { result ≡ length self.now }
     {
         self.ends.len()
+    }
+
+    /// The position of this number, counted from 0; None exactly where there is none. Takes no memory.
+    pub fn get(&self, i: usize) -> Option<Position>
+        ensures value { result ≡ slice_get self.now i }
+    {
+        let ends = self.ends.as_slice();
+        if i >= ends.len() {
+            return None;
+        }
+        Some(position_of(
+            *self.bytes.allocator(),
+            piece(self.bytes.as_slice(), ends, i),
+        ))
     }
 
     /// Puts the position of these loads and items at the end. Where memory is refused, the list stays as it was.

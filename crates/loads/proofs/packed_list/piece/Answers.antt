@@ -1,4 +1,3 @@
-use Rattle.std.proofs.Common.{rules}
 use Rattle.loads.proofs.PackedLemmas.{slice_get-positions, piece-legal}
 use Rattle.loads.proofs.packed_list.piece.Goals as goal
 

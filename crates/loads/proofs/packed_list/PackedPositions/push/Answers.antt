@@ -1,7 +1,7 @@
-use Rattle.std.proofs.Common.{◌≡◌, ◌+◌, ◌++◌, ◌∷◌, [], length, List, ap, ◌∙◌, rules}
+use Rattle.std.proofs.Common.{◌≡◌, ◌+◌, ◌++◌, ◌∷◌, [], length, ap, ◌∙◌, rules}
 use Rattle.std.specs.Vec.{vec_len}
 use Rattle.std.proofs.lemmas.List.{length-append}
-use Rattle.loads.specs.Packed.{AreCut, ArePositionBytes, position_in, positions_in}
+use Rattle.loads.specs.Packed.{position_in, positions_in}
 use Rattle.loads.proofs.PackedLemmas.{AreCut-push, positions_in-push}
 use Rattle.loads.proofs.packed_list.PackedPositions.push.Goals as goal
 use Rattle.loads.proofs.packed_list.PackedPositions.push.Goals.{After-push_reserved}
@@ -27,5 +27,5 @@ pub returns-clause-ok : goal.returns-clause-ok
 returns-clause-ok c =
     let d = (goal.at.returns-clause-ok c).After-push_reserved in
     let put : positions_in d.extend_from_slice.new.self.items d.push_reserved.new.self.items ≡ positions_in d.self.inside.bytes.items d.self.inside.ends.items ++ position_in d.in_ok-packed.packed.items ∷ [] =
-      rw (bytes_after d, ends_after d) (positions_in-push d.self.inside.bytes.items d.in_ok-packed.packed.items d.self.inside.ends.items d.len.result d.self.invariant (total d)) in
+    rw (bytes_after d, ends_after d) (positions_in-push d.self.inside.bytes.items d.in_ok-packed.packed.items d.self.inside.ends.items d.len.result d.self.invariant (total d)) in
     put ∙ ap (λ positions. positions ++ position_in d.in_ok-packed.packed.items ∷ []) d.self.view_is ∙ ap (λ last. d.args.self.now ++ last ∷ []) d.in_ok-packed.ensures.value
