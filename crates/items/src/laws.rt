@@ -7,6 +7,7 @@ ghost use Rattle.items.specs.Multiset.{IsMultiset, Same, count, put_ascending};
 
 use crate::game::Game;
 use crate::items::Items;
+use crate::limits::MOST_SIZE;
 use std::hash::Hash;
 
 /// The numbers of a game are within their ranges.
@@ -18,7 +19,7 @@ pub fn game_is_legal(game: &Game)
 
 /// Items are an ascending list of sizes, with a total within the limit.
 pub fn items_are_a_multiset(items: &Items)
-    ensures { IsMultiset 120 items.now }
+    ensures { IsMultiset MOST_SIZE items.now }
 {
     let _volume = items.volume();
 }
