@@ -9,7 +9,7 @@ mod list;
 
 pub use game::{Game, GameFault};
 pub use items::Items;
-pub use limits::{MOST_BINS, MOST_SIZE, MOST_VOLUME};
+pub use limits::{MOST_BINS, MOST_NUMBER, MOST_SIZE, MOST_VOLUME};
 pub use list::{Nums, Sequence};
 
 #[cfg(test)]

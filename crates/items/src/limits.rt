@@ -8,3 +8,6 @@ pub const MOST_SIZE: u16 = 120;
 
 /// The greatest total of the items of a position: eight loads of 239, each below the greatest target.
 pub const MOST_VOLUME: u16 = 1912;
+
+/// The greatest number that a list of numbers can hold.
+pub const MOST_NUMBER: u16 = 65535;
