@@ -13,7 +13,7 @@ use Rattle.items.proofs.MultisetLemmas.{count-append, count_this, count_other, s
 use Rattle.packing_witness.specs.Edits.{first_out, without}
 use Rattle.packing_witness.specs.Sublist.{IsSublistOf}
 use Rattle.packing_witness.specs.Sublist.IsSublistOf.{empty, kept, left_out}
-use Rattle.packing_witness.proofs.CountLemmas.{count-concat}
+use Rattle.items.proofs.MemberLemmas.{count-concat}
 
 -- a list without the first such number
 pub record IsFirstOut (item : ℕ) (xs rest : List ℕ) : Type 0 where

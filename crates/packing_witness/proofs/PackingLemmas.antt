@@ -12,7 +12,7 @@ use Rattle.items.specs.Multiset.{count, Same, IsSize}
 use Rattle.items.specs.Packable.{Packable, IsPacking, IsRoom}
 use Rattle.items.proofs.MultisetLemmas.{count-append, count_this, sum_by-Same}
 use Rattle.packing_witness.specs.Edits.{without, scaled}
-use Rattle.packing_witness.proofs.CountLemmas.{count-concat}
+use Rattle.items.proofs.MemberLemmas.{count-concat}
 use Rattle.packing_witness.proofs.PackableLemmas.{at_count, first_out_none, without_here, IsTakenFrom, Packable-smaller_last}
 
 -- nothing is taken out where no bin has the item, and only there

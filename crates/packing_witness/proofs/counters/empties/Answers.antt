@@ -5,7 +5,7 @@ use Rattle.std.proofs.lemmas.List.{take_all, get_or_read, get_or_past}
 use Rattle.std.proofs.lemmas.Bool.{false≢true, cases_lt}
 use Rattle.items.specs.Multiset.{count}
 use Rattle.packing_witness.specs.Counters.{TakesOut, CannotTakeOut, Empties}
-use Rattle.packing_witness.proofs.CountLemmas.{count-concat-more, count-concat-take-le}
+use Rattle.items.proofs.MemberLemmas.{count-concat-more, count-concat-take-le}
 use Rattle.packing_witness.proofs.counters.empties.Goals as goal
 
 -- what is left after the first bins

@@ -3,7 +3,7 @@ use Rattle.std.proofs.lemmas.List.{get_or-set_same, get_or-set_other}
 use Rattle.std.proofs.lemmas.List.Sums.{sum_by_more, sum_by-take-le, get_or-le-sum_by}
 use Rattle.std.proofs.lemmas.Bool.{cases_eq}
 use Rattle.packing_witness.specs.Counters.{CannotTakeOut, AreCountedDown}
-use Rattle.packing_witness.proofs.CountLemmas.{count_more, count-take-le, mark_same, mark_other}
+use Rattle.items.proofs.MemberLemmas.{count_more, count-take-le, mark_same, mark_other}
 use Rattle.packing_witness.proofs.counters.take_bin.Goals as goal
 use Rattle.packing_witness.proofs.counters.take_bin.Goals.{then-item-most-via-then-item-most, then-item-most-via-else-item-most+then-left-item-eq0}
 
