@@ -1,19 +1,21 @@
 -- Assignments from packings, packings from assignments, and what follows for packable lists.
-use Rattle.std.proofs.Common.{◌≡◌, ◌≢◌, ℕ, zero, suc, ◌+◌, ◌*◌, ◌<◌, ◌≤◌, Some, None, List, [], ◌∷◌, ◌++◌, length, get_or, set, replicate, sum, cond, eqb, refl, sym, ap, ◌∙◌, inl, inr, subst, arith}
+use Rattle.std.proofs.Common.{◌≡◌, ◌≢◌, ℕ, zero, suc, ◌+◌, ◌*◌, ◌<◌, ◌≤◌, Some, None, List, [], ◌∷◌, ◌++◌, length, get_or, sum, cond, eqb, refl, sym, ap, ◌∙◌, inl, inr, subst, arith}
 use Rattle.std.specs.Prelude.{All}
 use Rattle.std.specs.List.{concat, sum_by, count_by}
 use Rattle.std.proofs.lemmas.Bool.{cases_eq, cases_lt, cond-true, cond-false, eq-eqb, ne_eqb, lt-ltb, le-ltb}
-use Rattle.std.proofs.lemmas.List.{length-append, length-set, get_or-set_same, get_or-set_other, get_or_default}
-use Rattle.std.proofs.lemmas.List.Sums.{sum_by-cons, sum_by-append, sum_by-set, sum_by-le}
+use Rattle.std.proofs.lemmas.List.{length-append}
+use Rattle.std.proofs.lemmas.List.Sums.{sum_by-cons, sum_by-append, sum_by-le}
 use Rattle.std.proofs.lemmas.List.Elements.{All-nil, All-cons, All-head, All-tail, All-get_or, All-weaker}
 use Rattle.items.specs.Game.{GameNumbers}
 use Rattle.items.specs.Multiset.{count, Same, IsSize, is_big, put_ascending}
-use Rattle.items.specs.Packable.{Packable, IsAssignment, IsPacking, bin_total}
+use Rattle.items.specs.Packable.{Packable, IsPacking, bin_total}
 use Rattle.items.proofs.MultisetLemmas.{count-append, count_this, count_other, sum_by-Same, sum-Same, Same-push_put}
 use Rattle.packing_witness.specs.Edits.{first_out, without}
 use Rattle.packing_witness.specs.Sublist.{IsSublistOf}
 use Rattle.packing_witness.specs.Sublist.IsSublistOf.{empty, kept, left_out}
-use Rattle.items.proofs.MemberLemmas.{count-concat}
+pub use Rattle.items.proofs.MemberLemmas.{at_count, all_from_counts}
+use Rattle.packing_witness.specs.Contents.{contents_of}
+use Rattle.packing_witness.proofs.ContentsLemmas.{IsPacking-contents}
 
 -- a list without the first such number
 pub record IsFirstOut (item : ℕ) (xs rest : List ℕ) : Type 0 where
@@ -163,86 +165,8 @@ pub Packable-from_packing : (game : GameNumbers) (bins : List (List ℕ)) (items
 Packable-from_packing game bins items sizes p =
     Packable-from_bins game bins items sizes p.one_each p.fits (λ x. omega (arith, p.together x))
 
--- the bins of an assignment: each item in the bin that its entry names
-unfoldable pub bins_of : ℕ → List ℕ → List ℕ → List (List ℕ)
-bins_of number [] places = replicate number []
-bins_of number (item ∷ items) [] = replicate number []
-bins_of number (item ∷ items) (place ∷ places) =
-    set (bins_of number items places) place (item ∷ get_or (bins_of number items places) place [])
-
-length_empties : (number : ℕ) → length (replicate {A = List ℕ} number []) ≡ number
-length_empties zero = refl
-length_empties (suc number) = ap suc (length_empties number)
-
-pub length-bins_of : (number : ℕ) (items places : List ℕ) → length (bins_of number items places) ≡ number
-unfolding bins_of
-length-bins_of number [] places = length_empties number
-length-bins_of number (item ∷ items) [] = length_empties number
-length-bins_of number (item ∷ items) (place ∷ places) =
-    length-set (bins_of number items places) place (item ∷ get_or (bins_of number items places) place []) ∙ length-bins_of number items places
-
-count_empties : (x number : ℕ) → sum_by (count x) (replicate number []) ≡ 0
-count_empties x zero = refl
-count_empties x (suc number) = omega (arith, sum_by-cons (count x) [] (replicate number []), count_empties x number)
-
-sum_empties : (number bin : ℕ) → sum (get_or (replicate number []) bin []) ≡ 0
-sum_empties zero bin = refl
-sum_empties (suc number) zero = refl
-sum_empties (suc number) (suc bin) = sum_empties number bin
-
-counts_of : (number : ℕ) (items places : List ℕ) → length places ≡ length items → All (λ place. place < number) places → (x : ℕ) → sum_by (count x) (bins_of number items places) ≡ count x items
-unfolding bins_of
-counts_of number [] places same within x = count_empties x number
-counts_of number (item ∷ items) [] same within x = absurd (omega (arith, same))
-counts_of number (item ∷ items) (place ∷ places) same within x =
-    let here : place < number = All-head (λ place. place < number) place places within in
-    let r = counts_of number items places (omega (arith, same)) (All-tail (λ place. place < number) place places within) x in
-    let bins : List (List ℕ) = bins_of number items places in
-    omega (arith, r, sum_by-set (count x) bins place (item ∷ get_or bins place []) [] (omega (arith, here, length-bins_of number items places)))
-
-sums_of : (number : ℕ) (items places : List ℕ) → length places ≡ length items → All (λ place. place < number) places → (bin : ℕ) → sum (get_or (bins_of number items places) bin []) ≡ bin_total bin items places
-unfolding bins_of
-sums_of number [] places same within bin = sum_empties number bin
-sums_of number (item ∷ items) [] same within bin = absurd (omega (arith, same))
-sums_of number (item ∷ items) (place ∷ places) same within bin =
-    let here : place < number = All-head (λ place. place < number) place places within in
-    let r = sums_of number items places (omega (arith, same)) (All-tail (λ place. place < number) place places within) bin in
-    let bins : List (List ℕ) = bins_of number items places in
-    elim (cases_eq bin place) [
-      | inl e ↦
-          let more = sum_by-cons (λ n. n) item (get_or bins place []) in
-          let set_here = get_or-set_same bins place (item ∷ get_or bins place []) [] (omega (arith, here, length-bins_of number items places)) in
-          omega (arith, r, more, ap sum set_here, bin_total_this bin place item items places e, ap (λ k. sum (get_or bins k [])) e, ap (λ k. sum (get_or (set bins place (item ∷ get_or bins place [])) k [])) e)
-      | inr ne ↦
-          let set_other = get_or-set_other bins place bin (item ∷ get_or bins place []) [] ne in
-          omega (arith, r, ap sum set_other, bin_total_other bin place item items places ne)
-    ]
-
--- the packing that an assignment makes
-pub IsPacking-bins_of : (game : GameNumbers) (items places : List ℕ) → IsAssignment game items places → IsPacking game (bins_of game.bins items places) items
-IsPacking-bins_of game items places a =
-    let bins : List (List ℕ) = bins_of game.bins items places in
-    record {
-      one_each = length-bins_of game.bins items places;
-      fits = λ bin d l. omega (arith, ap sum (get_or_default bins bin d [] l), sums_of game.bins items places a.one_each a.of_game bin, a.fits bin (omega (arith, l, length-bins_of game.bins items places)));
-      together = λ x. count-concat x bins ∙ counts_of game.bins items places a.one_each a.of_game x;
-    }
-
 pub packing-from_Packable : (game : GameNumbers) (items : List ℕ) → Packable game items → (bins : List (List ℕ)) × IsPacking game bins items
-packing-from_Packable game items p = (bins_of game.bins items p.0, IsPacking-bins_of game items p.0 p.1)
-
--- a number that stands in a list has what each number of the list has
-pub at_count : (P : ℕ → Type 0) (x : ℕ) (xs : List ℕ) → All P xs → 0 < count x xs → P x
-at_count P x [] all some = absurd (omega arith)
-at_count P x (y ∷ ys) all some = elim (cases_eq x y) [
-  | inl e ↦ subst P (sym e) (All-head P y ys all)
-  | inr ne ↦ at_count P x ys (All-tail P y ys all) (omega (arith, some, count_other x y (count x ys) ne))
-]
-
-pub all_from_counts : (P : ℕ → Type 0) (xs : List ℕ) → ((x : ℕ) → 0 < count x xs → P x) → All P xs
-all_from_counts P [] each = All-nil P
-all_from_counts P (x ∷ xs) each =
-    All-cons P x xs (each x (omega (arith, count_this x x (count x xs) refl))) (all_from_counts P xs (λ y some. each y (omega (arith, some))))
+packing-from_Packable game items p = (contents_of items p.0 game.bins, IsPacking-contents game items p.0 p.1)
 
 -- a list that has no item more often than a packable one is packable
 pub Packable-part : (game : GameNumbers) (part items : List ℕ) → ((x : ℕ) → count x part ≤ count x items) → Packable game items → Packable game part
