@@ -1,5 +1,6 @@
 -- Assignments from packings, packings from assignments, and what follows for packable lists.
-use Rattle.std.proofs.Common.{◌≡◌, ◌≢◌, ℕ, zero, suc, ◌+◌, ◌*◌, ◌<◌, ◌≤◌, Some, None, List, [], ◌∷◌, ◌++◌, length, get_or, sum, cond, eqb, refl, sym, ap, ◌∙◌, inl, inr, subst, arith}
+use Rattle.std.proofs.Common.{◌≡◌, ◌≢◌, ℕ, zero, suc, ◌+◌, ◌*◌, ◌<◌, ◌≤◌, Some, None, List, [], ◌∷◌}
+use Rattle.std.proofs.Common.{◌++◌, length, get_or, sum, cond, eqb, refl, sym, ap, ◌∙◌, inl, inr, subst, arith}
 use Rattle.std.specs.Prelude.{All}
 use Rattle.std.specs.List.{concat, sum_by, count_by}
 use Rattle.std.proofs.lemmas.Bool.{cases_eq, cases_lt, cond-true, cond-false, eq-eqb, ne_eqb, lt-ltb, le-ltb}
@@ -71,7 +72,8 @@ other_places : (rest bin : List ℕ) (bins : List (List ℕ)) (place : ℕ) → 
 other_places rest bin bins zero ne = absurd (ne refl)
 other_places rest bin bins (suc place) ne = refl
 
-later_places : (bin : List ℕ) (rest bins : List (List ℕ)) (place : ℕ) → ((k : ℕ) → k ≢ place → get_or rest k [] ≡ get_or bins k []) → (k : ℕ) → k ≢ suc place → get_or (bin ∷ rest) k [] ≡ get_or (bin ∷ bins) k []
+later_places : (bin : List ℕ) (rest bins : List (List ℕ)) (place : ℕ) → ((k : ℕ) → k ≢ place → get_or rest k [] ≡ get_or bins k []) → (k : ℕ) → k ≢ suc place
+    → get_or (bin ∷ rest) k [] ≡ get_or (bin ∷ bins) k []
 later_places bin rest bins place others zero ne = refl
 later_places bin rest bins place others (suc k) ne = others k (λ e. ne (ap suc e))
 
@@ -120,7 +122,8 @@ pub record IsWithin (bins : List (List ℕ)) (items places : List ℕ) : Type 0 
   pub in_range : All (λ place. place < length bins) places
   pub totals : (bin : ℕ) → bin_total bin items places ≤ sum (get_or bins bin [])
 
-totals_with : (item place : ℕ) (items places : List ℕ) (bins rest : List (List ℕ)) → IsTakenFrom item place bins rest → ((bin : ℕ) → bin_total bin items places ≤ sum (get_or rest bin [])) → (bin : ℕ) → bin_total bin (item ∷ items) (place ∷ places) ≤ sum (get_or bins bin [])
+totals_with : (item place : ℕ) (items places : List ℕ) (bins rest : List (List ℕ)) → IsTakenFrom item place bins rest
+    → ((bin : ℕ) → bin_total bin items places ≤ sum (get_or rest bin [])) → (bin : ℕ) → bin_total bin (item ∷ items) (place ∷ places) ≤ sum (get_or bins bin [])
 totals_with item place items places bins rest taken totals bin = elim (cases_eq bin place) [
   | inl e ↦ omega (arith, bin_total_this bin place item items places e, totals bin, taken.here, ap (λ k. sum (get_or rest k [])) e, ap (λ k. sum (get_or bins k [])) e)
   | inr ne ↦ omega (arith, bin_total_other bin place item items places ne, totals bin, ap sum (taken.others bin ne))
@@ -149,7 +152,8 @@ assigned (item ∷ items) bins fewer =
     )
 
 -- a list of items that stand in bins of at most the capacity is packable
-pub Packable-from_bins : (game : GameNumbers) (bins : List (List ℕ)) (items : List ℕ) → All (IsSize game.capacity) items → length bins ≡ game.bins → All (λ bin. sum bin ≤ game.capacity) bins → ((x : ℕ) → count x items ≤ count x (concat bins)) → Packable game items
+pub Packable-from_bins : (game : GameNumbers) (bins : List (List ℕ)) (items : List ℕ) → All (IsSize game.capacity) items → length bins ≡ game.bins
+    → All (λ bin. sum bin ≤ game.capacity) bins → ((x : ℕ) → count x items ≤ count x (concat bins)) → Packable game items
 Packable-from_bins game bins items sizes one_each fits fewer =
     let r = assigned items bins fewer in (
       r.0,
@@ -172,7 +176,8 @@ packing-from_Packable game items p = (contents_of items p.0 game.bins, IsPacking
 pub Packable-part : (game : GameNumbers) (part items : List ℕ) → ((x : ℕ) → count x part ≤ count x items) → Packable game items → Packable game part
 Packable-part game part items fewer p =
     let packing = packing-from_Packable game items p in
-    let sizes : All (IsSize game.capacity) part = all_from_counts (IsSize game.capacity) part (λ x some. at_count (IsSize game.capacity) x items p.1.item_list (omega (arith, some, fewer x))) in
+    let sizes : All (IsSize game.capacity) part = all_from_counts (IsSize game.capacity) part
+    (λ x some. at_count (IsSize game.capacity) x items p.1.item_list (omega (arith, some, fewer x))) in
     Packable-from_bins game packing.0 part sizes packing.1.one_each packing.1.fits (λ x. omega (arith, fewer x, packing.1.together x))
 
 pub Packable-Same : (game : GameNumbers) (xs ys : List ℕ) → Same xs ys → Packable game xs → Packable game ys
@@ -202,7 +207,8 @@ pub Packable-from_put_ascending : (game : GameNumbers) (items : List ℕ) (item 
 Packable-from_put_ascending game items item p = Packable-Same game (put_ascending item items) (items ++ item ∷ []) (λ x. sym (Same-push_put item items x)) p
 
 -- one item replaced by a smaller one
-total_smaller : (before after places : List ℕ) (larger smaller : ℕ) → smaller ≤ larger → (bin : ℕ) → bin_total bin (before ++ smaller ∷ after) places ≤ bin_total bin (before ++ larger ∷ after) places
+total_smaller : (before after places : List ℕ) (larger smaller : ℕ) → smaller ≤ larger → (bin : ℕ)
+    → bin_total bin (before ++ smaller ∷ after) places ≤ bin_total bin (before ++ larger ∷ after) places
 total_smaller [] after [] larger smaller le bin = omega arith
 total_smaller [] after (place ∷ places) larger smaller le bin = elim (cases_eq bin place) [
   | inl e ↦ omega (arith, bin_total_this bin place smaller after places e, bin_total_this bin place larger after places e)
@@ -211,14 +217,17 @@ total_smaller [] after (place ∷ places) larger smaller le bin = elim (cases_eq
 total_smaller (x ∷ before) after [] larger smaller le bin = omega arith
 total_smaller (x ∷ before) after (place ∷ places) larger smaller le bin = omega (arith, total_smaller before after places larger smaller le bin)
 
-sizes_smaller : (most : ℕ) (before after : List ℕ) (larger smaller : ℕ) → 1 ≤ smaller → smaller ≤ larger → All (IsSize most) (before ++ larger ∷ after) → All (IsSize most) (before ++ smaller ∷ after)
+sizes_smaller : (most : ℕ) (before after : List ℕ) (larger smaller : ℕ) → 1 ≤ smaller → smaller ≤ larger → All (IsSize most) (before ++ larger ∷ after)
+    → All (IsSize most) (before ++ smaller ∷ after)
 sizes_smaller most [] after larger smaller some le all =
     let size = All-head (IsSize most) larger after all in
     All-cons (IsSize most) smaller after (record { low = some; high = omega (arith, size.high) }) (All-tail (IsSize most) larger after all)
 sizes_smaller most (x ∷ before) after larger smaller some le all =
-    All-cons (IsSize most) x (before ++ smaller ∷ after) (All-head (IsSize most) x (before ++ larger ∷ after) all) (sizes_smaller most before after larger smaller some le (All-tail (IsSize most) x (before ++ larger ∷ after) all))
+    All-cons (IsSize most) x (before ++ smaller ∷ after) (All-head (IsSize most) x (before ++ larger ∷ after) all)
+    (sizes_smaller most before after larger smaller some le (All-tail (IsSize most) x (before ++ larger ∷ after) all))
 
-pub Packable-smaller : (game : GameNumbers) (before after : List ℕ) (larger smaller : ℕ) → 1 ≤ smaller → smaller ≤ larger → Packable game (before ++ larger ∷ after) → Packable game (before ++ smaller ∷ after)
+pub Packable-smaller : (game : GameNumbers) (before after : List ℕ) (larger smaller : ℕ) → 1 ≤ smaller → smaller ≤ larger → Packable game (before ++ larger ∷ after)
+    → Packable game (before ++ smaller ∷ after)
 Packable-smaller game before after larger smaller some le p = (
   p.0,
   record {
@@ -229,7 +238,8 @@ Packable-smaller game before after larger smaller some le p = (
   },
 )
 
-pub Packable-smaller_last : (game : GameNumbers) (items : List ℕ) (larger smaller : ℕ) → 1 ≤ smaller → smaller ≤ larger → Packable game (items ++ larger ∷ []) → Packable game (items ++ smaller ∷ [])
+pub Packable-smaller_last : (game : GameNumbers) (items : List ℕ) (larger smaller : ℕ) → 1 ≤ smaller → smaller ≤ larger → Packable game (items ++ larger ∷ [])
+    → Packable game (items ++ smaller ∷ [])
 Packable-smaller_last game items larger smaller some le p = Packable-smaller game items [] larger smaller some le p
 
 -- sums over lists that are joined
@@ -274,9 +284,16 @@ one_big capacity (x ∷ xs) l =
 pub count_big-Packable-le : (game : GameNumbers) (items : List ℕ) → Packable game items → count_by (is_big game.capacity) items ≤ game.bins
 count_big-Packable-le game items p =
     let packing = packing-from_Packable game items p in
-    let one : All (λ bin. count_by (is_big game.capacity) bin ≤ 1) packing.0 = All-weaker (λ bin. sum bin ≤ game.capacity) (λ bin. count_by (is_big game.capacity) bin ≤ 1) (one_big game.capacity) packing.0 packing.1.fits in
+    let one : All (λ bin. count_by (is_big game.capacity) bin ≤ 1) packing.0 = All-weaker (λ bin. sum bin ≤ game.capacity)
+    (λ bin. count_by (is_big game.capacity) bin ≤ 1) (one_big game.capacity) packing.0 packing.1.fits in
     let most = sum_by-le (count_by (is_big game.capacity)) 1 packing.0 one in
-    omega (arith, most, packing.1.one_each, sum_by-concat (λ y. cond (is_big game.capacity y) 1 0) packing.0, sum_by-Same (λ y. cond (is_big game.capacity y) 1 0) (concat packing.0) items packing.1.together)
+    omega (
+      arith,
+      most,
+      packing.1.one_each,
+      sum_by-concat (λ y. cond (is_big game.capacity y) 1 0) packing.0,
+      sum_by-Same (λ y. cond (is_big game.capacity y) 1 0) (concat packing.0) items packing.1.together,
+    )
 
 -- a packing of items is one of any list with the same items
 pub IsPacking-Same : (game : GameNumbers) (bins : List (List ℕ)) (xs ys : List ℕ) → Same xs ys → IsPacking game bins xs → IsPacking game bins ys
