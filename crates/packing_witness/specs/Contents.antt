@@ -1,3 +1,4 @@
+-- Serves private contracts and proofs: the packing that an assignment makes.
 use Rattle.std.specs.Prelude.{◌==◌, ℕ, List, [], ◌∷◌, if◌then◌else◌, map}
 use Rattle.std.specs.List.{range_with_len}
 
