@@ -1,0 +1,5 @@
+use Rattle.good_situations.proofs.OrderLemmas.{Same-ordered_bins}
+use Rattle.good_situations.proofs.laws.orders_go_by_load.Goals as goal
+
+pub returns-clause-each : goal.returns-clause-each
+returns-clause-each c = Same-ordered_bins
