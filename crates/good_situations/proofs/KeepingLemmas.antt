@@ -1,11 +1,11 @@
 -- What a kept order keeps while items come: every load stays below the target.
-use Rattle.std.proofs.Common.{◌≡◌, ◌≢◌, ℕ, zero, suc, ◌+◌, ◌-◌, ◌*◌, ◌/◌, ◌<◌, ◌≤◌, max, true, false, cond, eqb, ltb, List, [], ◌∷◌, ◌++◌, length, get_or, set, take, drop, map, refl, sym, ap, ◌∙◌, inl, inr, subst, arith}
-use Rattle.std.specs.Prelude.{All, unwrap_or, find, sum, ◌⊎◌, count_by}
+use Rattle.std.proofs.Common.{◌≡◌, ◌≢◌, ℕ, zero, suc, ◌+◌, ◌-◌, ◌*◌, ◌/◌, ◌<◌, ◌≤◌, max, false, cond, eqb, ltb, List, [], ◌∷◌, ◌++◌, length, get_or, set, take, drop, map, refl, sym, ap, ◌∙◌, inl, inr, subst, arith}
+use Rattle.std.specs.Prelude.{All, sum, ◌⊎◌, count_by}
 use Rattle.std.specs.List.{sum_by, range_with_len}
 use Rattle.std.proofs.lemmas.Bool.{cases_Bool, cases_eq, ltb-true, ltb-false, cond-true, cond-false}
 use Rattle.std.proofs.lemmas.List.{length-set, length-drop, drop_all, get_or-set_same, get_or-set_other, take-map, drop-map}
 use Rattle.std.proofs.lemmas.List.Sums.{sum_by-cons, sum_by-append, sum_by-set, sum_by-le-sum_by, sum_by-take-drop, sum_by-drop_more}
-use Rattle.std.proofs.lemmas.List.Elements.{All-nil, All-cons, All-head, All-tail, All-get_or, All-set, All-drop, All-weaker}
+use Rattle.std.proofs.lemmas.List.Elements.{All-head, All-tail, All-get_or, All-set, All-drop, All-weaker}
 use Rattle.items.specs.Game.{GameNumbers}
 use Rattle.items.specs.Multiset.{count, Same, IsSize, is_big}
 use Rattle.items.proofs.MultisetLemmas.{count_this, count_other, count-sum_by, sum_by-Same, sum-Same, length-Same}
@@ -15,7 +15,7 @@ use Rattle.loads.specs.Loads.{IsLoads, loads_after}
 use Rattle.loads.proofs.LoadsLemmas.{length-loads_after, loads_after-rises}
 use Rattle.packing_witness.proofs.PackableLemmas.{all_from_counts, at_count, sum-Packable-le, count_big-Packable-le}
 use Rattle.good_situations.specs.Laws.{IsPlayed, FinishStaysBelowTarget, BigFinishStaysBelowTarget, FinishesAfterEachItem}
-use Rattle.good_situations.specs.KeptOrder.{KeptOrder, ordered_bins, kept_order, IsOrderOf, finish_bin, big_bin, big_order_after}
+use Rattle.good_situations.specs.KeptOrder.{KeptOrder, ordered_bins, kept_order, IsOrderOf, finish_bin}
 use Rattle.good_situations.specs.KeptPlays.{with_item, loads_under_finish, loads_under_big}
 use Rattle.good_situations.proofs.ListLemmas.{sum_by-map, All-from_map, sum_by-le-terms, find_cases, IsFound, IsDefault}
 use Rattle.good_situations.proofs.OrderLemmas.{finish_bin-lt, sum_by-bins, Same-ordered_bins, length-ordered_bins, loads_in_order, IsOrderOf-kept_order}
@@ -53,7 +53,7 @@ next_stays_below : (game : GameNumbers) (start actual : List ℕ) (order : KeptO
     → All (λ bin. ltb (get_or actual bin 0 + size) game.target ≡ false) order.first → get_or actual order.next 0 + size < game.target
 next_stays_below game start actual order last most size k split covers le fits some full =
     let terms = sum_by-le-terms (λ bin. max (get_or start bin 0) (game.target - most)) (λ bin. get_or actual bin 0) order.first
-      (All-weaker (λ bin. ltb (get_or actual bin 0 + size) game.target ≡ false) (λ bin. max (get_or start bin 0) (game.target - most) ≤ get_or actual bin 0) (λ bin e. lower_terms game start actual most size bin le (k.rising bin) e) order.first full) in
+    (All-weaker (λ bin. ltb (get_or actual bin 0 + size) game.target ≡ false) (λ bin. max (get_or start bin 0) (game.target - most) ≤ get_or actual bin 0) (λ bin e. lower_terms game start actual most size bin le (k.rising bin) e) order.first full) in
     let lasts = sum_by-le-sum_by (λ bin. get_or start bin 0) (λ bin. get_or actual bin 0) last k.rising in
     let total = total_of_bins actual order.first last order.next game.bins k.one_each split in
     omega (arith, covers.total, terms, lasts, total, fits)
@@ -130,7 +130,7 @@ finish_keeps game start order last (size ∷ sizes) actual some split covers k f
     let more = sum_by-cons (λ n. n) size sizes in
     let k' = small_step game start actual order last game.capacity size k split covers size_of.high (omega (arith, fits, more)) some in
     finish_keeps game start order last sizes (with_item actual bin size) some split covers k'
-      (omega (arith, fits, more, sum-with_item actual bin size within)) (All-tail (IsSize game.capacity) size sizes all)
+    (omega (arith, fits, more, sum-with_item actual bin size within)) (All-tail (IsSize game.capacity) size sizes all)
 
 -- the first of the reserved bins
 count_first : (x : ℕ) (xs : List ℕ) → 0 < length xs → count x xs ≡ cond (eqb x (get_or xs 0 0)) 1 0 + count x (drop 1 xs)
@@ -151,8 +151,8 @@ big_step game start actual order size k some le =
     let none : count bin (drop 1 order.reserved) ≡ 0 = omega (arith, counts bin, this, k.apart bin) in
     let below : get_or actual bin 0 + size < game.target = omega (arith, k.takes_any bin (omega (arith, counts bin, this)), le) in
     Keeps-with_item game start actual order (record order { reserved = drop 1 order.reserved }) bin size k (All-get_or (λ b. b < game.bins) order.reserved 0 0 some k.of_game.reserved) below
-      (record { first = k.of_game.first; next = k.of_game.next; reserved = All-drop (λ b. b < game.bins) 1 order.reserved k.of_game.reserved })
-      (λ b. omega (arith, k.apart b, counts b)) none (λ b. omega (arith, counts b))
+    (record { first = k.of_game.first; next = k.of_game.next; reserved = All-drop (λ b. b < game.bins) 1 order.reserved k.of_game.reserved })
+    (λ b. omega (arith, k.apart b, counts b)) none (λ b. omega (arith, counts b))
 
 -- under an order kept at `big`
 pub big_keeps : (game : GameNumbers) (start last sizes actual : List ℕ) (order : KeptOrder) → 0 < game.target
@@ -172,28 +172,36 @@ big_keeps game start last (size ∷ sizes) actual order some split covers k fits
           let bin : ℕ = get_or order.reserved 0 0 in
           let within : bin < length actual = omega (arith, All-get_or (λ b. b < game.bins) order.reserved 0 0 left k.of_game.reserved, k.one_each) in
           big_keeps game start last sizes (with_item actual bin size) (record order { reserved = drop 1 order.reserved }) some split covers
-            (big_step game start actual order size k left size_of.high) (omega (arith, fits, more, sum-with_item actual bin size within)) (All-tail (IsSize game.capacity) size sizes all)
-            (omega (arith, enough, bigs, one, length-drop_one order.reserved left)))
+          (big_step game start actual order size k left size_of.high) (omega (arith, fits, more, sum-with_item actual bin size within)) (All-tail (IsSize game.capacity) size sizes all)
+          (omega (arith, enough, bigs, one, length-drop_one order.reserved left)))
       | inr e ↦ rw e (
           let none = cond-false {A = ℕ} (is_big game.capacity size) 1 0 e in
           let half : size ≤ game.capacity / 2 = omega (arith, ltb-false game.capacity (2 * size) e) in
           let bin : ℕ = finish_bin game order actual size in
           let within : bin < length actual = omega (arith, finish_bin-lt game order actual size game.bins k.of_game, k.one_each) in
           big_keeps game start last sizes (with_item actual bin size) order some split covers
-            (small_step game start actual order last (game.capacity / 2) size k split covers half (omega (arith, fits, more)) some) (omega (arith, fits, more, sum-with_item actual bin size within)) (All-tail (IsSize game.capacity) size sizes all)
-            (omega (arith, enough, bigs, none)))
+          (small_step game start actual order last (game.capacity / 2) size k split covers half (omega (arith, fits, more)) some) (omega (arith, fits, more, sum-with_item actual bin size within)) (All-tail (IsSize game.capacity) size sizes all)
+          (omega (arith, enough, bigs, none)))
     ]
 
 -- the order at the start
 IsSplit-kept_order : (game : GameNumbers) (actual : List ℕ) (reserved : ℕ) → length actual ≡ game.bins → reserved + 1 ≤ game.bins
     → IsSplit game.bins (kept_order game actual reserved).first (kept_order game actual reserved).next (kept_order game actual reserved).reserved
-IsSplit-kept_order game actual reserved len some = record { sums = λ f.
-  let order : List ℕ = ordered_bins actual in
-  let n : ℕ = game.bins - reserved - 1 in
-  let e : n + 1 ≡ game.bins - reserved = omega arith in
-  let from = sum_by-drop_more f order n 0 (omega (arith, length-ordered_bins actual, len)) in
-  omega (arith, sum_by-take-drop f order n, from, ap (λ j. sum_by f (drop j order)) e,
-    sum_by-Same f order (range_with_len 0 (length actual)) (Same-ordered_bins actual), ap (λ l. sum_by f (range_with_len 0 l)) len); }
+IsSplit-kept_order game actual reserved len some = record {
+  sums = λ f.
+      let order : List ℕ = ordered_bins actual in
+      let n : ℕ = game.bins - reserved - 1 in
+      let e : n + 1 ≡ game.bins - reserved = omega arith in
+      let from = sum_by-drop_more f order n 0 (omega (arith, length-ordered_bins actual, len)) in
+      omega (
+        arith,
+        sum_by-take-drop f order n,
+        from,
+        ap (λ j. sum_by f (drop j order)) e,
+        sum_by-Same f order (range_with_len 0 (length actual)) (Same-ordered_bins actual),
+        ap (λ l. sum_by f (range_with_len 0 l)) len,
+      );
+}
 
 count_below_range : (x a n : ℕ) → x < a → count x (range_with_len a n) ≡ 0
 count_below_range x a zero l = refl
@@ -218,8 +226,14 @@ Keeps-start game loads actual reserved legal same some any =
       below = all_from_counts (λ load. load < game.target) actual (λ x here. at_count (λ load. load < game.target) x loads legal.below_target (omega (arith, here, same x)));
       rising = λ bin. omega arith;
       of_game = IsOrderOf-kept_order game actual reserved len some;
-      apart = λ bin. omega (arith, (IsSplit-kept_order game actual reserved len some).sums (λ y. cond (eqb bin y) 1 0),
-        count-sum_by bin order.first, count-sum_by bin order.reserved, count-sum_by bin (range_with_len 0 game.bins), count_range-le bin 0 game.bins);
+      apart = λ bin. omega (
+        arith,
+        (IsSplit-kept_order game actual reserved len some).sums (λ y. cond (eqb bin y) 1 0),
+        count-sum_by bin order.first,
+        count-sum_by bin order.reserved,
+        count-sum_by bin (range_with_len 0 game.bins),
+        count_range-le bin 0 game.bins,
+      );
       takes_any = any;
     }
 
@@ -252,13 +266,19 @@ finish_stays_below game loads items actual more g played finishes p =
     let some : 0 + 1 ≤ game.bins = omega (arith, g.bins.low) in
     let floor : ℕ = game.target - game.capacity in
     let e : game.bins - 0 - 1 ≡ game.bins - 1 = omega arith in
-    let covers : CoversAt game actual order.first order.reserved game.capacity = record { total =
-      omega (arith, finishes, first_in_order (λ load. max load floor) actual loads (game.bins - 1) played.legal.descending played.renamed,
-        ap (λ n. sum_by (λ b. max (get_or actual b 0) floor) (take n (ordered_bins actual))) e); } in
+    let covers : CoversAt game actual order.first order.reserved game.capacity = record {
+      total =
+          omega (
+            arith,
+            finishes,
+            first_in_order (λ load. max load floor) actual loads (game.bins - 1) played.legal.descending played.renamed,
+            ap (λ n. sum_by (λ b. max (get_or actual b 0) floor) (take n (ordered_bins actual))) e,
+          );
+    } in
     let none : order.reserved ≡ [] = drop_all (game.bins - 0) (ordered_bins actual) (omega (arith, length-ordered_bins actual, len)) in
     finish_keeps game actual order order.reserved more actual (omega (arith, g.target.low)) (IsSplit-kept_order game actual 0 len some) covers
-      (Keeps-start game loads actual 0 played.legal played.renamed some (λ bin here. absurd (omega (arith, here, ap (count bin) none))))
-      (fits_beside game loads items actual more played p) (All-append_right (IsSize game.capacity) items more p.1.item_list)
+    (Keeps-start game loads actual 0 played.legal played.renamed some (λ bin here. absurd (omega (arith, here, ap (count bin) none))))
+    (fits_beside game loads items actual more played p) (All-append_right (IsSize game.capacity) items more p.1.item_list)
 
 pub big_finish_stays_below : BigFinishStaysBelowTarget
 big_finish_stays_below game loads items actual more reserved g played finishes p =
@@ -268,16 +288,31 @@ big_finish_stays_below game loads items actual more reserved g played finishes p
     let floor : ℕ = game.target - game.capacity / 2 in
     let from : ℕ = game.bins - reserved in
     let last = last_in_order actual loads from played.legal.descending played.renamed in
-    let covers : CoversAt game actual order.first order.reserved (game.capacity / 2) = record { total =
-      omega (arith, finishes.covers, first_in_order (λ load. max load floor) actual loads (from - 1) played.legal.descending played.renamed,
-        ap sum last, sum_by-map (λ n. n) (λ b. get_or actual b 0) order.reserved); } in
+    let covers : CoversAt game actual order.first order.reserved (game.capacity / 2) = record {
+      total =
+          omega (
+            arith,
+            finishes.covers,
+            first_in_order (λ load. max load floor) actual loads (from - 1) played.legal.descending played.renamed,
+            ap sum last,
+            sum_by-map (λ n. n) (λ b. get_or actual b 0) order.reserved,
+          );
+    } in
     let any : All (λ bin. get_or actual bin 0 + game.capacity < game.target) order.reserved =
-        All-from_map (λ load. load + game.capacity < game.target) (λ b. get_or actual b 0) order.reserved (subst (All (λ load. load + game.capacity < game.target)) last finishes.takes_any) in
+    All-from_map (λ load. load + game.capacity < game.target) (λ b. get_or actual b 0) order.reserved (subst (All (λ load. load + game.capacity < game.target)) last finishes.takes_any) in
     big_keeps game actual order.reserved more actual order (omega (arith, g.target.low)) (IsSplit-kept_order game actual reserved len some) covers
-      (Keeps-start game loads actual reserved played.legal played.renamed some (λ bin here. at_count (λ b. get_or actual b 0 + game.capacity < game.target) bin order.reserved any here))
-      (fits_beside game loads items actual more played p) (All-append_right (IsSize game.capacity) items more p.1.item_list)
-      (omega (arith, count_big-Packable-le game (items ++ more) p, sum_by-append (λ y. cond (is_big game.capacity y) 1 0) items more, finishes.enough,
-        length-drop from (ordered_bins actual), length-ordered_bins actual, len, some))
+    (Keeps-start game loads actual reserved played.legal played.renamed some (λ bin here. at_count (λ b. get_or actual b 0 + game.capacity < game.target) bin order.reserved any here))
+    (fits_beside game loads items actual more played p) (All-append_right (IsSize game.capacity) items more p.1.item_list)
+    (omega (
+      arith,
+      count_big-Packable-le game (items ++ more) p,
+      sum_by-append (λ y. cond (is_big game.capacity y) 1 0) items more,
+      finishes.enough,
+      length-drop from (ordered_bins actual),
+      length-ordered_bins actual,
+      len,
+      some,
+    ))
 
 -- sums over the first places rise with the places
 take_rises : (f : ℕ → ℕ) (xs ys : List ℕ) (n : ℕ) → ((x y : ℕ) → x ≤ y → f x ≤ f y) → length xs ≡ length ys → ((k : ℕ) → get_or xs k 0 ≤ get_or ys k 0)
@@ -291,5 +326,9 @@ take_rises f (x ∷ xs) (y ∷ ys) (suc n) mono len rise =
 pub finishes_after : FinishesAfterEachItem
 finishes_after game loads load size legal member below finishes =
     let floor : ℕ = game.target - game.capacity in
-    omega (arith, finishes, take_rises (λ l. max l floor) loads (loads_after loads load size) (game.bins - 1) (λ x y le. omega arith)
-      (sym (length-loads_after loads load size member)) (loads_after-rises loads load size legal.descending member))
+    omega (
+      arith,
+      finishes,
+      take_rises (λ l. max l floor) loads (loads_after loads load size) (game.bins - 1) (λ x y le. omega arith)
+          (sym (length-loads_after loads load size member)) (loads_after-rises loads load size legal.descending member),
+    )

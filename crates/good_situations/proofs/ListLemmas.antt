@@ -1,9 +1,9 @@
 -- Sums, parts and searches of lists of numbers.
-use Rattle.std.proofs.Common.{◌≡◌, ℕ, zero, suc, ◌+◌, ◌-◌, ◌*◌, max, ◌<◌, ◌≤◌, Bool, true, false, cond, eqb, List, [], ◌∷◌, ◌++◌, length, get_or, set, take, drop, map, refl, sym, ap, ◌∙◌, inl, inr, subst, arith}
+use Rattle.std.proofs.Common.{◌≡◌, ℕ, ◌+◌, ◌-◌, ◌*◌, max, ◌<◌, ◌≤◌, Bool, true, false, List, [], ◌∷◌, ◌++◌, length, get_or, take, drop, map, refl, ap, ◌∙◌, inl, inr, arith}
 use Rattle.std.specs.Prelude.{All, find, unwrap_or, insert, ◌⊎◌}
 use Rattle.std.specs.List.{sum_by}
 use Rattle.std.proofs.lemmas.Bool.{cases_Bool}
-use Rattle.std.proofs.lemmas.List.{take-append-le, take_more_set, take_all, take_at, drop_at, drop-append-le, length-append, length-set, length-take-le, append-nil, length-drop, drop_all}
+use Rattle.std.proofs.lemmas.List.{take-append-le, take_at, drop_at, drop-append-le, length-append, append-nil, length-drop, drop_all}
 use Rattle.std.proofs.lemmas.List.Sums.{sum_by-cons, sum_by-le}
 use Rattle.std.proofs.lemmas.List.Elements.{All-nil, All-cons, All-head, All-tail, All-from_get_or}
 use borrow.Rule.Slice.PartMut.{put_mid}
@@ -69,7 +69,7 @@ put_mid-turned xs place n x part turned len le p t k past =
     let w : turned ≡ x ∷ back = t ∙ ap (λ z. z ++ take (length part - 1) part) last ∙ ap (λ z. (x ∷ []) ++ z) others in
     let front : take place (xs ++ x ∷ []) ≡ take place xs = take-append-le place xs (x ∷ []) within in
     let rest : drop k (drop place (xs ++ x ∷ [])) ≡ [] =
-        drop_all k (drop place (xs ++ x ∷ [])) (omega (arith, length-drop place (xs ++ x ∷ []), length-append xs (x ∷ []), len)) in
+    drop_all k (drop place (xs ++ x ∷ [])) (omega (arith, length-drop place (xs ++ x ∷ []), length-append xs (x ∷ []), len)) in
     rw (front, w, rest) (ap (λ z. take place xs ++ x ∷ z) (append-nil back))
 
 -- a total of at most eight raised loads

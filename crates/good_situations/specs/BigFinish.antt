@@ -9,7 +9,7 @@ abbrev pub CoversWithReserved : GameNumbers → List ℕ → ℕ → Type 0
 CoversWithReserved game loads reserved =
     game.bins * game.capacity
     ≤ raised_total (game.target - game.capacity / 2) (take (game.bins - reserved - 1) loads)
-      + sum (drop (game.bins - reserved) loads) + (game.target - 1)
+    + sum (drop (game.bins - reserved) loads) + (game.target - 1)
 
 -- the rule `big` for descending loads: the bins of the last ones are reserved, each for one big item
 pub record BigFinishes (game : GameNumbers) (loads items : List ℕ) (reserved : ℕ) : Type 0 where

@@ -61,4 +61,4 @@ abbrev pub NamedBinsAreOfTheGame : Type 0
 NamedBinsAreOfTheGame =
     (game : GameNumbers) (order : KeptOrder) (actual : List ℕ) (size : ℕ) → IsOrderOf game.bins order
     → (finish_bin game order actual size < game.bins) × (big_bin game order actual size < game.bins)
-      × IsOrderOf game.bins (big_order_after game order size)
+    × IsOrderOf game.bins (big_order_after game order size)

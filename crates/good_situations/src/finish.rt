@@ -75,8 +75,5 @@ pub(crate) fn raised_total(loads: &[u16], floor: u16) -> u32
     ensures value { result ≡ raised_total floor loads.now }
     ensures small { result ≤ 8 * 65535 }
 {
-    loads
-        .iter()
-        .map(|load| u32::from((*load).max(floor)))
-        .sum()
+    loads.iter().map(|load| u32::from((*load).max(floor))).sum()
 }

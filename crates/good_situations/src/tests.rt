@@ -7,7 +7,12 @@ use std::alloc::Global;
 use std::test::Fail;
 
 // A position of a game.
-fn position(alloc: Global, game: &Game, loads: &[u16], items: &[u16]) -> Result<(Loads, Items), Fail> {
+fn position(
+    alloc: Global,
+    game: &Game,
+    loads: &[u16],
+    items: &[u16],
+) -> Result<(Loads, Items), Fail> {
     let loads = Loads::from_slice(alloc, game, loads).ok_or("no loads")?;
     let items = Items::from_slice(game, items).ok_or("no items")?;
     Ok((loads, items))
@@ -17,7 +22,9 @@ fn position(alloc: Global, game: &Game, loads: &[u16], items: &[u16]) -> Result<
 fn fits(actual: &[u16], s: u16) -> bool
     ensures { IsTrue result ↔ All (λ load. load + s ≤ 65535) actual.now }
 {
-    actual.iter().all(|load| u32::from(*load) + u32::from(s) <= 65535)
+    actual
+        .iter()
+        .all(|load| u32::from(*load) + u32::from(s) <= 65535)
 }
 
 // The bins of three items under an order kept at `finish`, in a game of three bins.
