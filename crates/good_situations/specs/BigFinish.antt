@@ -3,15 +3,15 @@ use Rattle.items.specs.Game.{GameNumbers}
 use Rattle.items.specs.Multiset.{is_big}
 use Rattle.good_situations.specs.Finish.{raised_total}
 
--- the bins that are filled first, each counted as at least the target less half the capacity, the reserved bins and a load
--- just below the target together cover what the bins hold offline
+-- the bins to be filled first, each counted as at least the target less half the capacity, the reserved bins, and a
+-- load just below the target together cover what the bins hold offline
 abbrev pub CoversWithReserved : GameNumbers → List ℕ → ℕ → Type 0
 CoversWithReserved game loads reserved =
     game.bins * game.capacity
     ≤ raised_total (game.target - game.capacity / 2) (take (game.bins - reserved - 1) loads)
     + sum (drop (game.bins - reserved) loads) + (game.target - 1)
 
--- the rule `big` for descending loads: the bins of the last ones are reserved, each for one big item
+-- the rule `big` for descending loads and for items: the bins of the last loads are reserved, each for one big item
 pub record BigFinishes (game : GameNumbers) (loads items : List ℕ) (reserved : ℕ) : Type 0 where
   -- not all bins are reserved
   pub some_left : reserved ≤ game.bins - 1

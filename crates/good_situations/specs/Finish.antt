@@ -9,4 +9,5 @@ raised_total floor loads = sum_by (λ load. max load floor) loads
 -- a load just below the target together cover what the bins hold offline
 abbrev pub Finishes : GameNumbers → List ℕ → Type 0
 Finishes game loads =
-    game.bins * game.capacity ≤ raised_total (game.target - game.capacity) (take (game.bins - 1) loads) + (game.target - 1)
+    game.bins * game.capacity
+    ≤ raised_total (game.target - game.capacity) (take (game.bins - 1) loads) + (game.target - 1)

@@ -16,4 +16,5 @@ loads_under_finish game order actual (size ∷ sizes) =
 abbrev pub loads_under_big : GameNumbers → KeptOrder → List ℕ → List ℕ → List ℕ
 loads_under_big game order actual [] = actual
 loads_under_big game order actual (size ∷ sizes) =
-    loads_under_big game (big_order_after game order size) (with_item actual (big_bin game order actual size) size) sizes
+    let placed = with_item actual (big_bin game order actual size) size in
+    loads_under_big game (big_order_after game order size) placed sizes

@@ -6,7 +6,8 @@ use Rattle.items.specs.Packable.{Packable}
 use Rattle.loads.specs.Loads.{IsLoads, loads_after}
 use Rattle.good_situations.specs.Finish.{Finishes}
 use Rattle.good_situations.specs.BigFinish.{BigFinishes}
-use Rattle.good_situations.specs.KeptOrder.{KeptOrder, kept_order, ordered_bins, IsOrderOf, finish_bin, big_bin, big_order_after}
+use Rattle.good_situations.specs.KeptOrder.{KeptOrder, kept_order, ordered_bins, IsOrderOf}
+use Rattle.good_situations.specs.KeptOrder.{finish_bin, big_bin, big_order_after}
 use Rattle.good_situations.specs.KeptPlays.{loads_under_finish, loads_under_big}
 
 -- loads of a game and items that sum to them, with the same loads by bin number
@@ -22,12 +23,12 @@ FinishStaysBelowTarget =
     → Finishes game loads → Packable game (items ++ more)
     → All (λ load. load < game.target) (loads_under_finish game (kept_order game actual 0) actual more)
 
--- from loads and items that finish with reserved bins, all loads stay below the target on every list with which the items
--- are packable
+-- from loads and items that finish with reserved bins, all loads stay below the target on every list with which the
+-- items are packable
 abbrev pub BigFinishStaysBelowTarget : Type 0
 BigFinishStaysBelowTarget =
-    (game : GameNumbers) (loads items actual more : List ℕ) (reserved : ℕ) → IsGame game → IsPlayed game loads items actual
-    → BigFinishes game loads items reserved → Packable game (items ++ more)
+    (game : GameNumbers) (loads items actual more : List ℕ) (reserved : ℕ) → IsGame game
+    → IsPlayed game loads items actual → BigFinishes game loads items reserved → Packable game (items ++ more)
     → All (λ load. load < game.target) (loads_under_big game (kept_order game actual reserved) actual more)
 
 -- loads that finish still finish after an item that leaves its bin below the target
@@ -51,12 +52,13 @@ OrderGoesByLoad =
     (actual : List ℕ) (k : ℕ) → k + 1 < length actual
     → StandsBefore actual (slice_index (ordered_bins actual) k) (slice_index (ordered_bins actual) (k + 1))
 
--- a kept order names bins of the game, and so does the order after an item
+-- a kept order has bins of the game
 abbrev pub KeptOrdersNameBins : Type 0
 KeptOrdersNameBins =
     (game : GameNumbers) (actual : List ℕ) (reserved : ℕ) → length actual ≡ game.bins → reserved + 1 ≤ game.bins
     → IsOrderOf game.bins (kept_order game actual reserved)
 
+-- the bins that a kept order names are bins of the game, and the order after an item has bins of the game
 abbrev pub NamedBinsAreOfTheGame : Type 0
 NamedBinsAreOfTheGame =
     (game : GameNumbers) (order : KeptOrder) (actual : List ℕ) (size : ℕ) → IsOrderOf game.bins order

@@ -2,7 +2,7 @@
 
 ghost use Rattle.std.specs.Prelude.{◌≡◌, ◌+◌, ◌-◌, ◌<◌, ◌≤◌, ◌↔◌, IsTrue, All, MatchOption, ℕ, length, drop, sum};
 ghost use Rattle.good_situations.specs.BigFinish.{BigFinishes, IsBigBound, CoversWithReserved};
-ghost use Rattle.good_situations.specs.KeptOrder.{kept_order, big_bin, big_order_after, IsOrderOf};
+ghost use Rattle.good_situations.specs.KeptOrder.{kept_order, big_bin, big_order_after, CanAdd, IsOrderOf};
 
 use crate::finish::{first_loads, raised_total};
 use crate::kept_order::BinOrder;
@@ -10,7 +10,9 @@ use items::{Game, Items};
 use loads::Loads;
 use std::marker::Model;
 
-/// Whether the position finishes with the `b` least loaded bins reserved, each for one item larger than half the capacity.
+/// Whether the position finishes with the `b` least loaded bins reserved, each for one big item: one larger than half
+/// the capacity. There are then at most `b` big items to come, a reserved bin stays below the target with any item, and
+/// the other bins finish with `g / 2` in place of `g`. Any `b` may be asked; none from `m` on meets the rule.
 pub fn big_finishes(game: &Game, loads: &Loads, items: &Items, b: u16) -> bool
     ensures exact { IsTrue result ↔ BigFinishes game.now loads.now items.now b }
 {
@@ -35,8 +37,8 @@ pub fn big_bound(game: &Game, loads: &Loads, items: &Items) -> Option<u16>
     None
 }
 
-/// The order of the bins that is made where a position finishes with reserved bins, and kept to the end of the play, with
-/// the reserved bins that no big item is in yet. Takes no memory.
+/// The order of the bins that is made where a position finishes with reserved bins and kept to the end of the play, and
+/// the reserved bins that have had no big item since. Takes no memory.
 #[derive(Drop)]
 pub struct BigFinish {
     order: BinOrder,
@@ -51,7 +53,7 @@ impl Model for BigFinish {
 }
 
 impl BigFinish {
-    /// The order at these loads by bin number, by load downwards and then by bin number, with the last `b` bins reserved.
+    /// The order at these loads by bin number: by load downwards and then by bin number, its last `b` bins reserved.
     pub fn begin(game: &Game, actual: &[u16], b: u16) -> BigFinish
         requires one_each { length actual.now ≡ game.now.bins }
         requires some_left { b ≤ game.now.bins - 1 }
@@ -64,12 +66,13 @@ impl BigFinish {
     }
 
     /// The bin of an item of size `s` at these loads by bin number. An item larger than half the capacity goes to the
-    /// first reserved bin that no such item is in, or to bin 0 where there is none. Every other goes to the first of the
-    /// bins to be filled first whose load with the item stays below the target, or else to the next bin.
+    /// first reserved bin that has had none, or to bin 0 where there is none. Every other goes to the first of the bins
+    /// before the last `b + 1` whose load with the item stays below the target, or else to the next bin in the order.
+    /// Each load with `s` is at most 65,535.
     pub fn place(&mut self, game: &Game, actual: &[u16], s: u16) -> u8
         requires of_game { IsOrderOf game.now.bins self.old }
         requires one_each { length actual.now ≡ game.now.bins }
-        requires fits { All (λ load. load + s ≤ 65535) actual.now }
+        requires fits { CanAdd actual.now s }
         ensures bin { result ≡ big_bin game.now self.old actual.now s }
         ensures in_range { result < game.now.bins }
         ensures order { self.new ≡ big_order_after game.now self.old s }
@@ -86,7 +89,8 @@ impl BigFinish {
 // Whether each of the last loads, so many, stays below the target with any item.
 fn take_any(game: &Game, loads: &Loads, reserved: u16) -> bool
     requires { reserved < game.now.bins }
-    ensures { IsTrue result ↔ All (λ load. load + game.now.capacity < game.now.target) (drop (game.now.bins - reserved) loads.now) }
+    ensures { IsTrue result
+        ↔ All (λ load. load + game.now.capacity < game.now.target) (drop (game.now.bins - reserved) loads.now) }
 {
     let most = game.t() - game.g();
     let last = loads_from(loads.as_slice(), usize::from(game.m() - reserved));

@@ -2,16 +2,16 @@
 
 ghost use Rattle.std.specs.Prelude.{◌≡◌, ◌+◌, ◌*◌, ◌<◌, ◌≤◌, ◌↔◌, IsTrue, All, length, take, max, sum_by};
 ghost use Rattle.good_situations.specs.Finish.{Finishes, raised_total};
-ghost use Rattle.good_situations.specs.KeptOrder.{kept_order, finish_bin};
+ghost use Rattle.good_situations.specs.KeptOrder.{kept_order, finish_bin, CanAdd};
 
 use crate::kept_order::BinOrder;
 use items::Game;
 use loads::Loads;
 use std::marker::Model;
 
-/// Whether the loads finish: from here on first fit on all bins but the least loaded one keeps every load below the
-/// target, whatever packable items come. The rule: all loads but the last, each counted as at least `t - g`, and `t - 1`
-/// add up to at least `m * g`.
+/// Whether the loads finish. All loads but the last, each counted as at least `t - g`, and `t - 1` then add up to at
+/// least `m * g`. From such loads the order that `Finish` keeps holds every load below the target, whatever packable
+/// items come. The rule is this project's.
 pub fn finishes(game: &Game, loads: &Loads) -> bool
     ensures exact { IsTrue result ↔ Finishes game.now loads.now }
 {
@@ -50,11 +50,11 @@ impl Finish {
         }
     }
 
-    /// The bin of an item of size `s` at these loads by bin number: the first of all bins but the last in the order whose
-    /// load with the item stays below the target, or else the last one.
+    /// The bin of an item of size `s` at these loads by bin number: of all bins but the last in the order, the first
+    /// whose load with the item stays below the target, or else the last one. Each load with `s` is at most 65,535.
     pub fn bin(&self, actual: &[u16], s: u16) -> u8
         requires one_each { length actual.now ≡ self.now.game.bins }
-        requires fits { All (λ load. load + s ≤ 65535) actual.now }
+        requires fits { CanAdd actual.now s }
         ensures bin { result ≡ finish_bin self.now.game self.now.order actual.now s }
         ensures in_range { result < self.now.game.bins }
     {

@@ -1,6 +1,7 @@
 //! Laws of the good situations, as contracts of functions that do nothing.
 
-ghost use Rattle.good_situations.specs.Laws.{FinishStaysBelowTarget, BigFinishStaysBelowTarget, FinishesAfterEachItem, OrderHasEachBin, OrderGoesByLoad, KeptOrdersNameBins, NamedBinsAreOfTheGame};
+ghost use Rattle.good_situations.specs.Laws.{FinishStaysBelowTarget, BigFinishStaysBelowTarget, FinishesAfterEachItem};
+ghost use Rattle.good_situations.specs.Laws.{OrderHasEachBin, OrderGoesByLoad, KeptOrdersNameBins, NamedBinsAreOfTheGame};
 
 /// From loads that finish, and that the items sum to, every load stays below the target on every list with which the
 /// items are packable.
@@ -8,8 +9,8 @@ pub fn a_finish_stays_below_the_target()
     ensures finish { FinishStaysBelowTarget }
 {}
 
-/// From a position that finishes with reserved bins, and whose items sum to its loads, every load stays below the target
-/// on every list with which the items are packable.
+/// From a position that finishes with reserved bins, and whose items sum to its loads, every load stays below the
+/// target on every list with which the items are packable.
 pub fn a_big_finish_stays_below_the_target()
     ensures big { BigFinishStaysBelowTarget }
 {}

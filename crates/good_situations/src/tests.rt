@@ -1,4 +1,5 @@
-ghost use Rattle.std.specs.Prelude.{◌+◌, ◌≤◌, ◌↔◌, IsTrue, All};
+ghost use Rattle.std.specs.Prelude.{◌↔◌, IsTrue};
+ghost use Rattle.good_situations.specs.KeptOrder.{CanAdd};
 
 use super::*;
 use items::{Game, Items};
@@ -20,7 +21,7 @@ fn position(
 
 // Whether an item can be added to each load.
 fn fits(actual: &[u16], s: u16) -> bool
-    ensures { IsTrue result ↔ All (λ load. load + s ≤ 65535) actual.now }
+    ensures { IsTrue result ↔ CanAdd actual.now s }
 {
     actual
         .iter()
