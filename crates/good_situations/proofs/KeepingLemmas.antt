@@ -1,5 +1,6 @@
 -- What a kept order keeps while items come: every load stays below the target.
-use Rattle.std.proofs.Common.{◌≡◌, ◌≢◌, ℕ, zero, suc, ◌+◌, ◌-◌, ◌*◌, ◌/◌, ◌<◌, ◌≤◌, max, false, cond, eqb, ltb, List, [], ◌∷◌, ◌++◌, length, get_or, set, take, drop, map, refl, sym, ap, ◌∙◌, inl, inr, subst, arith}
+use Rattle.std.proofs.Common.{◌≡◌, ◌≢◌, ℕ, zero, suc, ◌+◌, ◌-◌, ◌*◌, ◌/◌, ◌<◌, ◌≤◌, max, false, cond, eqb, ltb, List, [], ◌∷◌, ◌++◌, length}
+use Rattle.std.proofs.Common.{get_or, set, take, drop, map, refl, sym, ap, ◌∙◌, inl, inr, subst, arith}
 use Rattle.std.specs.Prelude.{All, sum, ◌⊎◌, count_by}
 use Rattle.std.specs.List.{sum_by, range_with_len}
 use Rattle.std.proofs.lemmas.Bool.{cases_Bool, cases_eq, ltb-true, ltb-false, cond-true, cond-false}
@@ -38,7 +39,8 @@ pub record Keeps (game : GameNumbers) (start actual : List ℕ) (order : KeptOrd
   pub takes_any : (bin : ℕ) → 0 < count bin order.reserved → get_or actual bin 0 + game.capacity < game.target
 
 -- an item of at most so much stays below the target in the bin that is named for it
-lower_terms : (game : GameNumbers) (start actual : List ℕ) (most size bin : ℕ) → size ≤ most → get_or start bin 0 ≤ get_or actual bin 0 → ltb (get_or actual bin 0 + size) game.target ≡ false
+lower_terms : (game : GameNumbers) (start actual : List ℕ) (most size bin : ℕ) → size ≤ most → get_or start bin 0 ≤ get_or actual bin 0
+    → ltb (get_or actual bin 0 + size) game.target ≡ false
     → max (get_or start bin 0) (game.target - most) ≤ get_or actual bin 0
 lower_terms game start actual most size bin le rise e = let past = ltb-false (get_or actual bin 0 + size) game.target e in omega arith
 
@@ -53,7 +55,8 @@ next_stays_below : (game : GameNumbers) (start actual : List ℕ) (order : KeptO
     → All (λ bin. ltb (get_or actual bin 0 + size) game.target ≡ false) order.first → get_or actual order.next 0 + size < game.target
 next_stays_below game start actual order last most size k split covers le fits some full =
     let terms = sum_by-le-terms (λ bin. max (get_or start bin 0) (game.target - most)) (λ bin. get_or actual bin 0) order.first
-    (All-weaker (λ bin. ltb (get_or actual bin 0 + size) game.target ≡ false) (λ bin. max (get_or start bin 0) (game.target - most) ≤ get_or actual bin 0) (λ bin e. lower_terms game start actual most size bin le (k.rising bin) e) order.first full) in
+    (All-weaker (λ bin. ltb (get_or actual bin 0 + size) game.target ≡ false) (λ bin. max (get_or start bin 0) (game.target - most) ≤ get_or actual bin 0)
+    (λ bin e. lower_terms game start actual most size bin le (k.rising bin) e) order.first full) in
     let lasts = sum_by-le-sum_by (λ bin. get_or start bin 0) (λ bin. get_or actual bin 0) last k.rising in
     let total = total_of_bins actual order.first last order.next game.bins k.one_each split in
     omega (arith, covers.total, terms, lasts, total, fits)
@@ -101,7 +104,12 @@ Keeps-with_item game start actual order order' bin size k within below of apart 
   rising = rising_set start actual bin size (omega (arith, within, k.one_each)) k.rising;
   of_game = of;
   apart = apart;
-  takes_any = λ b some. omega (arith, k.takes_any b (omega (arith, some, fewer b)), get_or-set_other actual bin b (get_or actual bin 0 + size) 0 (other_bin bin b order'.reserved none some));
+  takes_any = λ b some. omega (
+    arith,
+    k.takes_any b (omega (arith, some, fewer b)),
+    get_or-set_other actual bin b (get_or actual bin 0 + size) 0
+        (other_bin bin b order'.reserved none some),
+  );
 }
 
 sum-with_item : (actual : List ℕ) (bin size : ℕ) → bin < length actual → sum (with_item actual bin size) ≡ sum actual + size
@@ -114,8 +122,10 @@ small_step : (game : GameNumbers) (start actual : List ℕ) (order : KeptOrder) 
     → Keeps game start (with_item actual (finish_bin game order actual size) size) order
 small_step game start actual order last most size k split covers le fits some =
     let bin : ℕ = finish_bin game order actual size in
-    let good : IsGoodBin game actual order size bin = good_bin game start actual order last most size bin k split covers le fits some (find_cases (λ b. ltb (get_or actual b 0 + size) game.target) order.first order.next) in
-    Keeps-with_item game start actual order order bin size k (finish_bin-lt game order actual size game.bins k.of_game) good.below k.of_game k.apart good.not_reserved (λ b. omega arith)
+    let good : IsGoodBin game actual order size bin = good_bin game start actual order last most size bin k split covers le fits some
+    (find_cases (λ b. ltb (get_or actual b 0 + size) game.target) order.first order.next) in
+    Keeps-with_item game start actual order order bin size k
+    (finish_bin-lt game order actual size game.bins k.of_game) good.below k.of_game k.apart good.not_reserved (λ b. omega arith)
 
 -- under an order kept at `finish`
 pub finish_keeps : (game : GameNumbers) (start : List ℕ) (order : KeptOrder) (last sizes actual : List ℕ) → 0 < game.target
@@ -150,7 +160,8 @@ big_step game start actual order size k some le =
     let this = count_this bin bin (count bin (drop 1 order.reserved)) refl in
     let none : count bin (drop 1 order.reserved) ≡ 0 = omega (arith, counts bin, this, k.apart bin) in
     let below : get_or actual bin 0 + size < game.target = omega (arith, k.takes_any bin (omega (arith, counts bin, this)), le) in
-    Keeps-with_item game start actual order (record order { reserved = drop 1 order.reserved }) bin size k (All-get_or (λ b. b < game.bins) order.reserved 0 0 some k.of_game.reserved) below
+    Keeps-with_item game start actual order (record order { reserved = drop 1 order.reserved }) bin size k
+    (All-get_or (λ b. b < game.bins) order.reserved 0 0 some k.of_game.reserved) below
     (record { first = k.of_game.first; next = k.of_game.next; reserved = All-drop (λ b. b < game.bins) 1 order.reserved k.of_game.reserved })
     (λ b. omega (arith, k.apart b, counts b)) none (λ b. omega (arith, counts b))
 
@@ -172,7 +183,8 @@ big_keeps game start last (size ∷ sizes) actual order some split covers k fits
           let bin : ℕ = get_or order.reserved 0 0 in
           let within : bin < length actual = omega (arith, All-get_or (λ b. b < game.bins) order.reserved 0 0 left k.of_game.reserved, k.one_each) in
           big_keeps game start last sizes (with_item actual bin size) (record order { reserved = drop 1 order.reserved }) some split covers
-          (big_step game start actual order size k left size_of.high) (omega (arith, fits, more, sum-with_item actual bin size within)) (All-tail (IsSize game.capacity) size sizes all)
+          (big_step game start actual order size k left size_of.high) (omega (arith, fits, more, sum-with_item actual bin size within))
+          (All-tail (IsSize game.capacity) size sizes all)
           (omega (arith, enough, bigs, one, length-drop_one order.reserved left)))
       | inr e ↦ rw e (
           let none = cond-false {A = ℕ} (is_big game.capacity size) 1 0 e in
@@ -180,7 +192,8 @@ big_keeps game start last (size ∷ sizes) actual order some split covers k fits
           let bin : ℕ = finish_bin game order actual size in
           let within : bin < length actual = omega (arith, finish_bin-lt game order actual size game.bins k.of_game, k.one_each) in
           big_keeps game start last sizes (with_item actual bin size) order some split covers
-          (small_step game start actual order last (game.capacity / 2) size k split covers half (omega (arith, fits, more)) some) (omega (arith, fits, more, sum-with_item actual bin size within)) (All-tail (IsSize game.capacity) size sizes all)
+          (small_step game start actual order last (game.capacity / 2) size k split covers half (omega (arith, fits, more)) some)
+          (omega (arith, fits, more, sum-with_item actual bin size within)) (All-tail (IsSize game.capacity) size sizes all)
           (omega (arith, enough, bigs, none)))
     ]
 
@@ -299,9 +312,11 @@ big_finish_stays_below game loads items actual more reserved g played finishes p
           );
     } in
     let any : All (λ bin. get_or actual bin 0 + game.capacity < game.target) order.reserved =
-    All-from_map (λ load. load + game.capacity < game.target) (λ b. get_or actual b 0) order.reserved (subst (All (λ load. load + game.capacity < game.target)) last finishes.takes_any) in
+    All-from_map (λ load. load + game.capacity < game.target) (λ b. get_or actual b 0) order.reserved
+    (subst (All (λ load. load + game.capacity < game.target)) last finishes.takes_any) in
     big_keeps game actual order.reserved more actual order (omega (arith, g.target.low)) (IsSplit-kept_order game actual reserved len some) covers
-    (Keeps-start game loads actual reserved played.legal played.renamed some (λ bin here. at_count (λ b. get_or actual b 0 + game.capacity < game.target) bin order.reserved any here))
+    (Keeps-start game loads actual reserved played.legal played.renamed some
+    (λ bin here. at_count (λ b. get_or actual b 0 + game.capacity < game.target) bin order.reserved any here))
     (fits_beside game loads items actual more played p) (All-append_right (IsSize game.capacity) items more p.1.item_list)
     (omega (
       arith,

@@ -1,7 +1,8 @@
 //! Laws of the good situations, as contracts of functions that do nothing.
 
 ghost use Rattle.good_situations.specs.Laws.{FinishStaysBelowTarget, BigFinishStaysBelowTarget, FinishesAfterEachItem};
-ghost use Rattle.good_situations.specs.Laws.{OrderHasEachBin, OrderGoesByLoad, KeptOrdersNameBins, NamedBinsAreOfTheGame};
+ghost use Rattle.good_situations.specs.Laws.{OrderHasEachBin, OrderGoesByLoad};
+ghost use Rattle.good_situations.specs.Laws.{KeptOrdersNameBins, NamedBinsAreOfTheGame};
 
 /// From loads that finish, and that the items sum to, every load stays below the target on every list with which the
 /// items are packable.
