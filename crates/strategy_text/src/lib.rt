@@ -5,7 +5,10 @@ mod adversary;
 mod algorithm;
 mod head;
 mod node;
+mod position;
 mod rule;
+mod stop;
+mod words;
 
 pub use adversary::parse_adversary;
 pub use algorithm::parse_algorithm;

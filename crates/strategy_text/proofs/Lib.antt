@@ -1,0 +1,9 @@
+pub mod Split
+pub mod Numerals
+pub mod Lines
+pub mod Steps
+pub mod HeadLines
+pub mod Loops
+pub mod Taken
+pub mod StepsTaken
+pub mod ActsTaken
