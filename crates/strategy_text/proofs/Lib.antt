@@ -7,3 +7,8 @@ pub mod Loops
 pub mod Taken
 pub mod StepsTaken
 pub mod ActsTaken
+pub mod Again
+pub mod StepsAgain
+pub mod ActsAgain
+pub mod NodeWords
+pub mod NodeLines

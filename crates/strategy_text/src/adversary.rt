@@ -155,12 +155,7 @@ fn step(alloc: Global, format: Format, words: &mut Words) -> Result<Step, Stop>
 
 /// A node of the adversary of this number.
 #[tactic(auto, unfolding(crate::specs::Reading::adversary_at))]
-fn adversary(
-    alloc: Global,
-    format: Format,
-    words: &mut Words,
-    number: u32,
-) -> Result<AdvNode, Stop>
+fn adversary(alloc: Global, format: Format, words: &mut Words, number: u32) -> Result<AdvNode, Stop>
     ensures { Gives result (adversary_at format number words.old) }
 {
     let (loads, items) = position(alloc, words, number)?;

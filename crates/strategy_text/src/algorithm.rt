@@ -99,12 +99,7 @@ fn act(alloc: Global, format: Format, words: &mut Words) -> Result<Act, Stop>
 
 /// A node of the algorithm of this number.
 #[tactic(auto, unfolding(crate::specs::Reading::algorithm_at))]
-fn algorithm(
-    alloc: Global,
-    format: Format,
-    words: &mut Words,
-    number: u32,
-) -> Result<AlgNode, Stop>
+fn algorithm(alloc: Global, format: Format, words: &mut Words, number: u32) -> Result<AlgNode, Stop>
     ensures { Gives result (algorithm_at format number words.old) }
 {
     let (loads, items) = position(alloc, words, number)?;

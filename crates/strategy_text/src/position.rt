@@ -57,11 +57,7 @@ fn labelled(alloc: Global, words: &mut Words, label: &[u8]) -> Result<Nums, Stop
 
 /// The loads and the items of the node of this number.
 #[tactic(auto, unfolding(crate::specs::Reading::position_at))]
-pub(crate) fn position(
-    alloc: Global,
-    words: &mut Words,
-    number: u32,
-) -> Result<(Nums, Nums), Stop>
+pub(crate) fn position(alloc: Global, words: &mut Words, number: u32) -> Result<(Nums, Nums), Stop>
     ensures { Reads result words.new (position_at number words.old) }
 {
     if !is_numbered(words, number) {
