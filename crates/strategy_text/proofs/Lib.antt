@@ -12,3 +12,5 @@ pub mod StepsAgain
 pub mod ActsAgain
 pub mod NodeWords
 pub mod NodeLines
+pub mod NodesSame
+pub mod Texts

@@ -27,20 +27,24 @@ algorithm_line_takes format number line node short e =
     let t = algorithm_takes format number (words_left (Some line)) node e in
     record { spellable = t.1; short = short; spelled = line_takes line (decimal number ∷ position_words node.loads node.items ++ act_words node.act) t.0 }
 
--- a line that spells a node is read as it
-pub adversary_line_again : (format : Format) (number : ℕ) (line : List ℕ) (node : AdvNode) → number ≤ 4294967295 → IsSpellableAdversary format node → line ≡ adversary_line number node → adversary_at format number (words_left (Some line)) ≡ Some node
+-- a line that spells a node has the node's words, and is read as it
+pub adversary_line_words : (format : Format) (number : ℕ) (line : List ℕ) (node : AdvNode) → number ≤ 4294967295 → IsSpellableAdversary format node → line ≡ adversary_line number node
+    → words_left (Some line) ≡ decimal number ∷ position_words node.loads node.items ++ step_words node.step
 unfolding adversary_line
+adversary_line_words format number line node le h spelled = ap (λ (l : List ℕ). words_left (Some l)) spelled ∙ words_again (decimal number) _ (adversarys_words format number node le h)
+
+pub adversary_line_again : (format : Format) (number : ℕ) (line : List ℕ) (node : AdvNode) → number ≤ 4294967295 → IsSpellableAdversary format node → line ≡ adversary_line number node → adversary_at format number (words_left (Some line)) ≡ Some node
 adversary_line_again format number line node le h spelled =
-    let words = decimal number ∷ position_words node.loads node.items ++ step_words node.step in
-    let all : words_left (Some line) ≡ words = ap (λ (l : List ℕ). words_left (Some l)) spelled ∙ words_again (decimal number) _ (adversarys_words format number node le h) in
-    ap (adversary_at format number) all ∙ adversary_again format number node le h
+    ap (adversary_at format number) (adversary_line_words format number line node le h spelled) ∙ adversary_again format number node le h
+
+pub algorithm_line_words : (format : Format) (number : ℕ) (line : List ℕ) (node : AlgNode) → number ≤ 4294967295 → IsSpellableAlgorithm format node → line ≡ algorithm_line number node
+    → words_left (Some line) ≡ decimal number ∷ position_words node.loads node.items ++ act_words node.act
+unfolding algorithm_line
+algorithm_line_words format number line node le h spelled = ap (λ (l : List ℕ). words_left (Some l)) spelled ∙ words_again (decimal number) _ (algorithms_words format number node le h)
 
 pub algorithm_line_again : (format : Format) (number : ℕ) (line : List ℕ) (node : AlgNode) → number ≤ 4294967295 → IsSpellableAlgorithm format node → line ≡ algorithm_line number node → algorithm_at format number (words_left (Some line)) ≡ Some node
-unfolding algorithm_line
 algorithm_line_again format number line node le h spelled =
-    let words = decimal number ∷ position_words node.loads node.items ++ act_words node.act in
-    let all : words_left (Some line) ≡ words = ap (λ (l : List ℕ). words_left (Some l)) spelled ∙ words_again (decimal number) _ (algorithms_words format number node le h) in
-    ap (algorithm_at format number) all ∙ algorithm_again format number node le h
+    ap (algorithm_at format number) (algorithm_line_words format number line node le h spelled) ∙ algorithm_again format number node le h
 
 pub adversary_refused : (format : Format) (number : ℕ) (line : List ℕ) → number ≤ 4294967295 → adversary_at format number (words_left (Some line)) ≡ None → (node : AdvNode) → SpellsNode format number line (of_adversary node) → ⊥
 adversary_refused format number line le e node h =

@@ -22,6 +22,12 @@ pub test_some : {A : Type 0} (b : Bool) (x y : A) → cond b (Some x) None ≡ S
 test_some true x y e = (refl, cc)
 test_some false x y e = absurd cc
 
+-- words that differ at a test
+pub apart : (a b : List ℕ) → bytes_eq a b ≡ false → a ≢ b
+apart a b h e =
+    let t : bytes_eq a b ≡ true = (bytes_eq-Decides a b).1 e in
+    cc
+
 pub after_takes : (word : List ℕ) (words rest : List (List ℕ)) → after word words ≡ Some rest → words ≡ word ∷ rest
 unfolding after
 after_takes word [] rest e = absurd cc

@@ -4,6 +4,7 @@
 mod adversary;
 mod algorithm;
 mod head;
+pub mod laws;
 mod node;
 mod position;
 mod rule;
