@@ -14,3 +14,5 @@ pub mod NodeWords
 pub mod NodeLines
 pub mod NodesSame
 pub mod Texts
+pub mod Written
+pub mod Spaced

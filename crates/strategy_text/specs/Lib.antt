@@ -3,4 +3,5 @@ pub mod Spelling
 pub mod Rules
 pub mod Words
 pub mod Reading
+pub mod Writing
 pub mod Laws

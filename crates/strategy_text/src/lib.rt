@@ -3,13 +3,16 @@
 
 mod adversary;
 mod algorithm;
+mod buffer;
 mod head;
 pub mod laws;
 mod node;
 mod position;
 mod rule;
+mod spelled;
 mod stop;
 mod words;
+
 
 pub use adversary::parse_adversary;
 pub use algorithm::parse_algorithm;
