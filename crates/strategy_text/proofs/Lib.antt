@@ -3,8 +3,16 @@ pub mod Numerals
 pub mod Lines
 pub mod Steps
 pub mod HeadLines
-pub mod Taken
 pub mod Loops
+pub mod Taken
+pub mod StepsTaken
+pub mod ActsTaken
 pub mod Again
+pub mod StepsAgain
+pub mod ActsAgain
+pub mod NodeWords
 pub mod NodeLines
+pub mod NodesSame
 pub mod Texts
+pub mod Written
+pub mod Spaced

@@ -1,7 +1,9 @@
 -- The words of a line are the words that it was joined from.
-use Rattle.std.proofs.Common.{◌≡◌, ℕ, ◌<◌, ◌^◌, Bool, true, false, not, ◌&&◌, ◌==◌, List, [], ◌∷◌, ◌++◌, decimal, refl, sym, ap, ◌∙◌, arith, append_assoc}
+use Rattle.std.proofs.Common.{◌≡◌, ◌≢◌, ℕ, ◌<◌, ◌^◌, Bool, true, false, not, ◌&&◌, ◌==◌, List, [], ◌∷◌, ◌++◌, decimal, refl, sym, ap, ◌∙◌, arith, append_assoc}
 use Rattle.strategy_text.specs.Text.{text_of_lines}
-use Rattle.std.specs.List.{slice_split, join_with_byte}
+use Rattle.std.specs.List.{slice_split, join_with_byte, AllByRecursion}
+use Rattle.std.proofs.lemmas.List.Elements.{All-from_recursion}
+use Rattle.strategy_text.specs.Laws.{IsOneLine}
 use Rattle.std.specs.Char.{is_ascii_digit}
 use Rattle.std.specs.Str.{all_ascii_digits}
 use Rattle.std.proofs.lemmas.Fmt.{digits_decimal}
@@ -111,3 +113,16 @@ regroup l ls x = sym (append_assoc (l ++ 10 ∷ []) (text_of_lines ls) x ∙ app
 pub first_same : (l m : List ℕ) (ls ms : List (List ℕ)) (x y : List ℕ) → is_line l ≡ true → is_line m ≡ true → text_of_lines (l ∷ ls) ++ x ≡ text_of_lines (m ∷ ms) ++ y → (l ≡ m) × (text_of_lines ls ++ x ≡ text_of_lines ms ++ y)
 first_same l m ls ms x y p q e =
     cut l m (text_of_lines ls ++ x) (text_of_lines ms ++ y) p q (regroup l ls x ∙ e ∙ sym (regroup m ms y))
+
+-- no byte of a line is a line feed
+not_feed : (c : ℕ) → (c == 10) ≡ false → c ≢ 10
+not_feed c h e = is_feed c h (sym e)
+
+line_recursion : (line : List ℕ) → is_line line ≡ true → AllByRecursion (λ byte. byte ≢ 10) line
+line_recursion [] h = tt
+line_recursion (c ∷ cs) h =
+    let p = and_parts (not (c == 10)) (is_line cs) h in
+    (not_feed c (not_true (c == 10) p.0), line_recursion cs p.1)
+
+pub line_parts : (line : List ℕ) → is_line line ≡ true → IsOneLine line
+line_parts line h = All-from_recursion (λ byte. byte ≢ 10) line (line_recursion line h)

@@ -1,11 +1,12 @@
 -- Reading values one after the other, as a loop does.
-use Rattle.std.proofs.Common.{◌≡◌, ℕ, zero, suc, ◌<◌, ◌≤◌, List, [], ◌∷◌, ◌++◌, length, Option, Some, None, Result, Err, refl, sym, ap, ◌∙◌, arith, append_assoc}
+use Rattle.std.proofs.Common.{◌≡◌, ℕ, zero, suc, ◌<◌, ◌≤◌, true, false, ◌==◌, List, [], ◌∷◌, ◌++◌, length, Option, Some, None, Result, Err, refl, sym, ap, ◌∙◌, arith, append_assoc}
 use Rattle.std.specs.Option.{option_map}
 use Rattle.std.proofs.lemmas.List.{append-nil}
+use Rattle.std.proofs.lemmas.Bool.Decides.{nat_tests}
 use Rattle.strategy_text.specs.declared.stop.Stop.{Stop}
 use Rattle.strategy_text.specs.declared.stop.Stop.TheVariants.{Memory, Form}
 use Rattle.strategy_text.specs.Words.{number_of, after, number_at}
-use Rattle.strategy_text.specs.Reading.{Reads, numbers_at, with_front, many_at, each_at}
+use Rattle.strategy_text.specs.Reading.{Reads, numbers_at, with_front, many_at, each_at, more_words}
 use Rattle.strategy_text.proofs.Steps.{mapped, after_takes}
 
 -- ---- numbers
@@ -43,56 +44,63 @@ number_shrinks high (w ∷ ws) x e = omega (arith, ap length (mapped (number_of 
 pub after_shrinks : (word : List ℕ) (words rest : List (List ℕ)) → after word words ≡ Some rest → length rest < length words
 after_shrinks word words rest e = omega (arith, ap length (after_takes word words rest e))
 
--- ---- values of which each stands behind a word
+-- ---- values of which each has its beginning
+
+-- what is left of words after their beginning and a value
+abbrev pub Item : Type 0 → Type 0
+Item X = List (List ℕ) → Option (X × List (List ℕ))
+
+abbrev pub Beginning : Type 0
+Beginning = List (List ℕ) → Option (List (List ℕ))
 
 -- the values so far, and those of what is left, are these in all
-pub record Goes {X : Type 0} (word : List ℕ) (item : List (List ℕ) → Option (X × List (List ℕ))) (front : List X) (words : List (List ℕ)) (total : Option (List X × List (List ℕ))) : Type 0 where
+pub record Goes {X : Type 0} (begin : List (List ℕ) → Option (List (List ℕ))) (item : List (List ℕ) → Option (X × List (List ℕ))) (front : List X) (words : List (List ℕ)) (total : Option (List X × List (List ℕ))) : Type 0 where
   pub most : ℕ
   pub enough : length words ≤ most
-  pub same : with_front front (many_at word item most words) ≡ total
+  pub same : with_front front (many_at begin item most words) ≡ total
 
-pub many_begins : {X : Type 0} (word : List ℕ) (item : List (List ℕ) → Option (X × List (List ℕ))) (front : List X) (words : List (List ℕ)) → Goes word item front words (with_front front (each_at word item words))
-many_begins word item front words = record { most = length words; enough = omega arith; same = refl }
+pub many_begins : {X : Type 0} (begin : Beginning) (item : Item X) (front : List X) (words : List (List ℕ)) → Goes begin item front words (with_front front (each_at begin item words))
+many_begins begin item front words = record { most = length words; enough = omega arith; same = refl }
 
 regroup : {X : Type 0} (front : List X) (x : X) (read : Option (List X × List (List ℕ))) → with_front front (with_front (x ∷ []) read) ≡ with_front (front ++ x ∷ []) read
 regroup front x None = refl
 regroup {X} front x (Some y) = ap (λ (xs : List X). Some (xs, y.1)) (sym (append_assoc front (x ∷ []) y.0))
 
-more_by : {X : Type 0} (word : List ℕ) (item : List (List ℕ) → Option (X × List (List ℕ))) (front : List X) (words rest left : List (List ℕ)) (x : X) (total : Option (List X × List (List ℕ))) (most : ℕ)
-    → after word words ≡ Some rest → item rest ≡ Some (x, left) → length left ≤ length rest → length words ≤ most → with_front front (many_at word item most words) ≡ total → Goes word item (front ++ x ∷ []) left total
+more_by : {X : Type 0} (begin : Beginning) (item : Item X) (front : List X) (words rest left : List (List ℕ)) (x : X) (total : Option (List X × List (List ℕ))) (most : ℕ)
+    → begin words ≡ Some rest → item rest ≡ Some (x, left) → length left < length words → length words ≤ most → with_front front (many_at begin item most words) ≡ total → Goes begin item (front ++ x ∷ []) left total
 unfolding many_at
-more_by word item front words rest left x total zero e k less enough h = absurd (omega (arith, after_shrinks word words rest e))
-more_by word item front words rest left x total (suc n) e k less enough h =
-    let one : with_front front (many_at word item (suc n) words) ≡ with_front (front ++ x ∷ []) (many_at word item n left) = rw (e, k) (regroup front x (many_at word item n left)) in
-    record { most = n; enough = omega (arith, after_shrinks word words rest e); same = sym one ∙ h }
+more_by begin item front words rest left x total zero e k less enough h = absurd (omega arith)
+more_by begin item front words rest left x total (suc n) e k less enough h =
+    let one : with_front front (many_at begin item (suc n) words) ≡ with_front (front ++ x ∷ []) (many_at begin item n left) = rw (e, k) (regroup front x (many_at begin item n left)) in
+    record { most = n; enough = omega arith; same = sym one ∙ h }
 
-pub many_more : {X : Type 0} (word : List ℕ) (item : List (List ℕ) → Option (X × List (List ℕ))) (front : List X) (words rest left : List (List ℕ)) (x : X) (total : Option (List X × List (List ℕ)))
-    → after word words ≡ Some rest → item rest ≡ Some (x, left) → length left ≤ length rest → Goes word item front words total → Goes word item (front ++ x ∷ []) left total
-many_more word item front words rest left x total e k less h = more_by word item front words rest left x total h.most e k less h.enough h.same
+pub many_more : {X : Type 0} (begin : Beginning) (item : Item X) (front : List X) (words rest left : List (List ℕ)) (x : X) (total : Option (List X × List (List ℕ)))
+    → begin words ≡ Some rest → item rest ≡ Some (x, left) → length left < length words → Goes begin item front words total → Goes begin item (front ++ x ∷ []) left total
+many_more begin item front words rest left x total e k less h = more_by begin item front words rest left x total h.most e k less h.enough h.same
 
-stops_by : {X : Type 0} (word : List ℕ) (item : List (List ℕ) → Option (X × List (List ℕ))) (front : List X) (words rest : List (List ℕ)) (total : Option (List X × List (List ℕ))) (most : ℕ)
-    → after word words ≡ Some rest → item rest ≡ None → length words ≤ most → with_front front (many_at word item most words) ≡ total → total ≡ None
+stops_by : {X : Type 0} (begin : Beginning) (item : Item X) (front : List X) (words rest : List (List ℕ)) (total : Option (List X × List (List ℕ))) (most : ℕ)
+    → begin words ≡ Some rest → item rest ≡ None → 0 < length words → length words ≤ most → with_front front (many_at begin item most words) ≡ total → total ≡ None
 unfolding many_at
-stops_by word item front words rest total zero e k enough h = absurd (omega (arith, after_shrinks word words rest e))
-stops_by word item front words rest total (suc n) e k enough h =
-    let one : with_front front (many_at word item (suc n) words) ≡ None = rw (e, k) refl in
+stops_by begin item front words rest total zero e k some enough h = absurd (omega arith)
+stops_by begin item front words rest total (suc n) e k some enough h =
+    let one : with_front front (many_at begin item (suc n) words) ≡ None = rw (e, k) refl in
     sym h ∙ one
 
-pub many_stops : {X : Type 0} (word : List ℕ) (item : List (List ℕ) → Option (X × List (List ℕ))) (front : List X) (words rest : List (List ℕ)) (total : Option (List X × List (List ℕ)))
-    → after word words ≡ Some rest → item rest ≡ None → Goes word item front words total → total ≡ None
-many_stops word item front words rest total e k h = stops_by word item front words rest total h.most e k h.enough h.same
+pub many_stops : {X : Type 0} (begin : Beginning) (item : Item X) (front : List X) (words rest : List (List ℕ)) (total : Option (List X × List (List ℕ)))
+    → begin words ≡ Some rest → item rest ≡ None → 0 < length words → Goes begin item front words total → total ≡ None
+many_stops begin item front words rest total e k some h = stops_by begin item front words rest total h.most e k some h.enough h.same
 
-ends_by : {X : Type 0} (word : List ℕ) (item : List (List ℕ) → Option (X × List (List ℕ))) (front : List X) (words : List (List ℕ)) (total : Option (List X × List (List ℕ))) (most : ℕ)
-    → after word words ≡ None → with_front front (many_at word item most words) ≡ total → total ≡ Some (front, words)
+ends_by : {X : Type 0} (begin : Beginning) (item : Item X) (front : List X) (words : List (List ℕ)) (total : Option (List X × List (List ℕ))) (most : ℕ)
+    → begin words ≡ None → with_front front (many_at begin item most words) ≡ total → total ≡ Some (front, words)
 unfolding many_at
-ends_by {X} word item front words total zero e h = sym h ∙ ap (λ (xs : List X). Some (xs, words)) (append-nil front)
-ends_by {X} word item front words total (suc n) e h =
-    let one : with_front front (many_at word item (suc n) words) ≡ Some (front ++ [], words) = rw e refl in
+ends_by {X} begin item front words total zero e h = sym h ∙ ap (λ (xs : List X). Some (xs, words)) (append-nil front)
+ends_by {X} begin item front words total (suc n) e h =
+    let one : with_front front (many_at begin item (suc n) words) ≡ Some (front ++ [], words) = rw e refl in
     sym h ∙ one ∙ ap (λ (xs : List X). Some (xs, words)) (append-nil front)
 
-pub many_ends : {X : Type 0} (word : List ℕ) (item : List (List ℕ) → Option (X × List (List ℕ))) (front : List X) (words : List (List ℕ)) (total : Option (List X × List (List ℕ)))
-    → after word words ≡ None → Goes word item front words total → total ≡ Some (front, words)
-many_ends word item front words total e h = ends_by word item front words total h.most e h.same
+pub many_ends : {X : Type 0} (begin : Beginning) (item : Item X) (front : List X) (words : List (List ℕ)) (total : Option (List X × List (List ℕ)))
+    → begin words ≡ None → Goes begin item front words total → total ≡ Some (front, words)
+many_ends begin item front words total e h = ends_by begin item front words total h.most e h.same
 
 pub front-nil : {X : Type 0} (read : Option (List X × List (List ℕ))) → with_front [] read ≡ read
 front-nil None = refl
@@ -101,7 +109,20 @@ front-nil (Some x) = refl
 pub from_front : {X : Type 0} (front : List X) (read r : Option (List X × List (List ℕ))) → front ≡ [] → with_front front read ≡ r → read ≡ r
 from_front front read r e h = sym (rw e (front-nil read)) ∙ h
 
-pub many_fails : {X : Type 0} (word : List ℕ) (item : List (List ℕ) → Option (X × List (List ℕ))) (front : List X) (words rest left after-it : List (List ℕ)) (total : Option (List X × List (List ℕ))) (e : Stop)
-    → after word words ≡ Some rest → Reads (let r : Result X Stop = Err e in r) left (item rest) → Goes word item front words total → Reads (let r : Result (List X) Stop = Err e in r) after-it total
-many_fails word item front words rest left after-it total Memory e k h = tt
-many_fails word item front words rest left after-it total Form e k h = many_stops word item front words rest total e k h
+pub many_fails : {X : Type 0} (begin : Beginning) (item : Item X) (front : List X) (words rest left after-it : List (List ℕ)) (total : Option (List X × List (List ℕ))) (e : Stop)
+    → begin words ≡ Some rest → 0 < length words → Reads (let r : Result X Stop = Err e in r) left (item rest) → Goes begin item front words total → Reads (let r : Result (List X) Stop = Err e in r) after-it total
+many_fails begin item front words rest left after-it total Memory e some k h = tt
+many_fails begin item front words rest left after-it total Form e some k h = many_stops begin item front words rest total e k some h
+
+-- ---- words that are left
+
+pub more_some : (words : List (List ℕ)) → (length words == 0) ≡ false → (more_words words ≡ Some words) × (0 < length words)
+more_some [] e = absurd cc
+more_some (w ∷ ws) e = (refl, omega arith)
+
+full : (n : ℕ) → (suc n == 0) ≡ true → ⊥
+full n e = grind (arith, nat_tests)
+
+pub more_none : (words : List (List ℕ)) → (length words == 0) ≡ true → more_words words ≡ None
+more_none [] e = refl
+more_none (w ∷ ws) e = absurd (full (length ws) e)

@@ -7,9 +7,6 @@ use Rattle.std.proofs.lemmas.List.Splits.{slice_split_first, slice_split-cons_no
 use Rattle.std.proofs.lemmas.Bool.Decides.{nat_tests}
 use Rattle.strategy_text.specs.Words.{words_left}
 
-nonzero : (n : ℕ) → 0 < n → (n == 0) ≡ false
-nonzero n h = grind (arith, nat_tests)
-
 some_place : (b : Bool) (n i : ℕ) → cond b (Some n) None ≡ Some i → (b ≡ true) × (n ≡ i)
 some_place true n i e = (refl, cc)
 some_place false n i e = absurd cc
@@ -38,8 +35,3 @@ split_all p (x ∷ xs) e = split_step p x xs (p x) refl e (split_all p xs)
 
 pub split_none : (p : ℕ → Bool) (bytes : List ℕ) → position p bytes ≡ None → slice_split p bytes ≡ bytes ∷ []
 split_none p bytes e = split_all p bytes (ltb-false _ _ (no_place _ _ e))
-
--- words are left exactly where something of the line is left
-pub words : (rest : Option (List ℕ)) → (length (words_left rest) == 0) ≡ not (is_some rest)
-words None = refl
-words (Some bytes) = nonzero _ (omega (arith, length-slice_split (λ b. b == 32) bytes))

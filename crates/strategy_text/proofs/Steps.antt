@@ -5,7 +5,9 @@ use Rattle.std.specs.Str.{bytes_eq}
 use Rattle.std.proofs.lemmas.Bool.Decides.{nat_tests}
 use Rattle.std.proofs.lemmas.Slice.Eq.{bytes_eq-Decides}
 use Rattle.strategy_text.specs.Words.{number_of, after, number_at}
-use Rattle.strategy_text.specs.Reading.{◌>>=◌, whole, some_at}
+use Rattle.strategy_text.specs.declared.node.Format.{Format}
+use Rattle.strategy_text.specs.declared.node.Format.TheVariants.{One, Two}
+use Rattle.strategy_text.specs.Reading.{◌>>=◌, whole, some_at, choose, second}
 use Rattle.strategy_text.proofs.Numerals.{number_takes, number_again}
 
 -- the value of a step that did not fail
@@ -19,6 +21,12 @@ some_is x y e = cc
 pub test_some : {A : Type 0} (b : Bool) (x y : A) → cond b (Some x) None ≡ Some y → (b ≡ true) × (x ≡ y)
 test_some true x y e = (refl, cc)
 test_some false x y e = absurd cc
+
+-- words that differ at a test
+pub apart : (a b : List ℕ) → bytes_eq a b ≡ false → a ≢ b
+apart a b h e =
+    let t : bytes_eq a b ≡ true = (bytes_eq-Decides a b).1 e in
+    cc
 
 pub after_takes : (word : List ℕ) (words rest : List (List ℕ)) → after word words ≡ Some rest → words ≡ word ∷ rest
 unfolding after
@@ -87,3 +95,20 @@ full n = grind (arith, nat_tests)
 pub some_again : {X : Type 0} (xs : List X) (left : List (List ℕ)) → xs ≢ [] → some_at (xs, left) ≡ Some (xs, left)
 some_again [] left h = absurd (h refl)
 some_again (x ∷ xs) left h = rw (full (length xs)) refl
+
+-- ---- choices
+
+choose_by : {X : Type 0} (word : List ℕ) (words : List (List ℕ)) (o : Option (List (List ℕ))) (here : List (List ℕ) → Option X) (other : Option X) (y : X) (P : Type 0) → after word words ≡ o → choose o here other ≡ Some y
+    → ((rest : List (List ℕ)) → words ≡ word ∷ rest → here rest ≡ Some y → P) → (other ≡ Some y → P) → P
+choose_by word words None here other y P e k there missing = missing k
+choose_by word words (Some rest) here other y P e k there missing = there rest (after_takes word words rest e) k
+
+-- a choice that was read, by whether its word was there
+pub choose_then : {X : Type 0} (word : List ℕ) (words : List (List ℕ)) (here : List (List ℕ) → Option X) (other : Option X) (y : X) (P : Type 0) → choose (after word words) here other ≡ Some y
+    → ((rest : List (List ℕ)) → words ≡ word ∷ rest → here rest ≡ Some y → P) → (other ≡ Some y → P) → P
+choose_then word words here other y P k there missing = choose_by word words (after word words) here other y P refl k there missing
+
+-- what was read although format 1 has it not
+pub second_takes : {X : Type 0} (format : Format) (read : Option X) (y : X) → second format read ≡ Some y → (format ≡ Two) × (read ≡ Some y)
+second_takes One read y e = absurd cc
+second_takes Two read y e = (refl, e)

@@ -1,5 +1,7 @@
 pub mod Text
 pub mod Spelling
+pub mod Rules
 pub mod Words
 pub mod Reading
+pub mod Writing
 pub mod Laws

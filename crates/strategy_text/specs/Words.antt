@@ -1,4 +1,4 @@
--- Reading a line word by word.
+-- Reading a line word by word. These definitions serve private contracts alone.
 use Rattle.std.specs.Prelude.{ℕ, ◌+◌, ◌-◌, ◌*◌, ◌&&◌, ◌==◌, nat_le, List, [], ◌∷◌, Option, Some, None, if◌then◌else◌}
 use Rattle.std.specs.Char.{is_ascii_digit}
 use Rattle.std.specs.Option.{option_map}
@@ -9,6 +9,11 @@ use Rattle.std.specs.Str.{bytes_eq}
 abbrev pub words_left : Option (List ℕ) → List (List ℕ)
 words_left None = []
 words_left (Some bytes) = slice_split (λ b. b == 32) bytes
+
+-- the next word before those of what is left after it, or no word
+abbrev pub words_from : Option (List ℕ) → Option (List ℕ) → List (List ℕ)
+words_from None rest = []
+words_from (Some word) rest = word ∷ words_left rest
 
 -- the number up to a limit that digits and the number before them spell
 abbrev pub digits_after : ℕ → ℕ → List ℕ → Option ℕ

@@ -3,22 +3,29 @@
 ghost use Rattle.std.specs.Prelude.{◌≡◌, ◌↔◌, ℕ, IsTrue, MatchOption};
 ghost use Rattle.std.specs.Option.{option_map};
 ghost use Rattle.items.specs.Game.{GameNumbers, numbers};
+ghost use Rattle.strategy_text.specs.declared.node.Format.{Format};
 ghost use Rattle.strategy_text.specs.declared.node.Side.{Side};
 ghost use Rattle.strategy_text.specs.Text.{first_line, side_line, end_line};
 ghost use Rattle.strategy_text.specs.Spelling.{SpellsGame, SpellsCount};
 ghost use Rattle.strategy_text.specs.Reading.{game_at, count_at};
 
-use crate::node::Side;
+use crate::node::{Format, Side};
 use crate::words::Words;
 
-/// The most nodes that a strategy has. This limit is this project's.
+/// The most nodes of a strategy. This limit is this project's.
 const NODES: u32 = 4_000_000_000;
 
-/// Whether a line, without its line feed, is the first of a strategy. Takes no memory.
-pub fn parse_first(line: &[u8]) -> bool
-    ensures exact { IsTrue result ↔ (line.now ≡ first_line) }
+/// The format that a line, without its line feed, names as the first of a strategy. Takes no memory.
+pub fn parse_first(line: &[u8]) -> Option<Format>
+    ensures exact { MatchOption result ((f : Format) → line.now ≡ first_line f → ⊥) (λ f. line.now ≡ first_line f) }
 {
-    line == b"stretch 1".as_slice()
+    if line == b"stretch 1".as_slice() {
+        return Some(Format::One);
+    }
+    if line == b"stretch 2".as_slice() {
+        return Some(Format::Two);
+    }
+    None
 }
 
 /// Whether a line, without its line feed, is the last of a strategy. Takes no memory.

@@ -5,6 +5,9 @@ ghost use Rattle.strategy_text.specs.declared.stop.Stop.TheVariants.{Memory};
 
 use std::alloc::AllocError;
 
+/// The most bytes of a line, without its line feed. This limit is this project's.
+pub(crate) const LINE_BYTES: usize = 16_384;
+
 /// Why the reading of a line stops.
 #[derive(Drop)]
 pub(crate) enum Stop {

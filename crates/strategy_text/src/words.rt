@@ -6,20 +6,21 @@ ghost use Rattle.strategy_text.specs.Words.{words_left, digits_after, number_of,
 
 use std::marker::Model;
 
-/// What is left of a line, read word by word.
+/// What is left of a line, read word by word. The next word is kept, so each word is cut once.
 #[derive(Drop)]
 pub(crate) struct Words<'a> {
+    next: Option<&'a [u8]>,
     rest: Option<&'a [u8]>,
 }
 
 impl<'a> Model for Words<'a> {
     ghost use Rattle.std.specs.Prelude.{ℕ, List};
     ghost use Rattle.std.specs.Option.{option_copied};
-    ghost use Rattle.strategy_text.specs.Words.{words_left};
+    ghost use Rattle.strategy_text.specs.Words.{words_from};
 
     ghost Value = { List (List ℕ) };
 
-    ghost view = { λ a. words_left (option_copied a.rest) };
+    ghost view = { λ a. words_from (option_copied a.next) (option_copied a.rest) };
 }
 
 /// The place of the first space.
@@ -71,19 +72,35 @@ fn number_of(word: &[u8], high: u32) -> Option<u32>
 }
 
 impl<'a> Words<'a> {
+    /// The words of what is left of a line, of which nothing is left after its last word.
+    fn of_rest(rest: Option<&'a [u8]>) -> Self
+        ensures { result ≡ words_left (option_copied rest.entry) }
+    {
+        let Some(bytes) = rest else {
+            return Words {
+                next: None,
+                rest: None,
+            };
+        };
+        let (first, rest) = first_word(bytes);
+        Words {
+            next: Some(first),
+            rest,
+        }
+    }
+
     /// The words of a line.
     pub(crate) fn new(line: &'a [u8]) -> Self
         ensures { result ≡ words_left (Some line.now) }
     {
-        Words { rest: Some(line) }
+        Words::of_rest(Some(line))
     }
 
     /// Whether no word is left.
-    #[tactic(auto, using(crate::proofs::Split::words))]
     pub(crate) fn is_at_end(&self) -> bool
         ensures { result ≡ (length self.now == 0) }
     {
-        self.rest.is_none()
+        self.next.is_none()
     }
 
     /// Takes the next word if it is this one.
@@ -93,12 +110,11 @@ impl<'a> Words<'a> {
             (after word.now self.old ≡ Some self.new)
             ((after word.now self.old ≡ None) × (self.new ≡ self.old)) }
     {
-        let Some(bytes) = self.rest else {
+        let Some(next) = self.next else {
             return false;
         };
-        let (first, rest) = first_word(bytes);
-        if first == word {
-            self.rest = rest;
+        if next == word {
+            *self = Words::of_rest(self.rest);
             return true;
         }
         false
@@ -112,9 +128,8 @@ impl<'a> Words<'a> {
             (λ n. number_at high self.old ≡ Some (n, self.new)) }
         ensures low { IfSome result (λ n. n ≤ high) }
     {
-        let (first, rest) = first_word(self.rest?);
-        let n = number_of(first, high)?;
-        self.rest = rest;
+        let n = number_of(self.next?, high)?;
+        *self = Words::of_rest(self.rest);
         Some(n)
     }
 
