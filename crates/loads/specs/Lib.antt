@@ -1,3 +1,4 @@
 pub mod Descending
 pub mod Loads
 pub mod After
+pub mod Wins

@@ -1,0 +1,3 @@
+pub mod Algorithm
+pub mod PackableLists
+pub mod Laws
