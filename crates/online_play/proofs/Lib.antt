@@ -1,3 +1,4 @@
 pub mod RunLemmas
 pub mod WonLemmas
 pub mod ListLemmas
+pub mod PlayLemmas

@@ -81,7 +81,7 @@ won_forces game allowed answer algorithm (suc n) history position at wins =
 Packable-nil : (game : GameNumbers) → Packable game []
 Packable-nil game = ([], record { item_list = λ k d l. absurd (omega arith); one_each = refl; of_game = λ k d l. absurd (omega arith); fits = λ bin l. omega arith })
 
-run-nil : (game : GameNumbers) (answer : List ℕ → ℕ) → replicate game.bins 0 ≡ run game answer []
+pub run-nil : (game : GameNumbers) (answer : List ℕ → ℕ) → replicate game.bins 0 ≡ run game answer []
 run-nil game answer = fill_by_all (λ bin. 0) (replicate game.bins 0) game.bins 0 (length-replicate game.bins 0) (λ k l. get_or-replicate game.bins k 0 0 l)
 
 pub LeadsTo-empty : (game : GameNumbers) (answer : List ℕ → ℕ) → LeadsTo game answer [] (empty_position game)

@@ -3,8 +3,8 @@ use Rattle.std.specs.List.{range_with_len}
 use Rattle.items.specs.Game.{GameNumbers}
 use Rattle.items.specs.Packable.{Packable, bin_total}
 
--- a deterministic online algorithm of the game: a function that answers, for each nonempty packable list of items, a bin for
--- the last item of the list. It may look at the whole list.
+-- a deterministic online algorithm of the game: a function that answers, for each nonempty packable list of items,
+-- a bin for the last item of the list. It may look at the whole list.
 abbrev pub IsAlgorithm : GameNumbers → (List ℕ → ℕ) → Type 0
 IsAlgorithm game answer = (items : List ℕ) → items ≢ [] → Packable game items → answer items < game.bins
 
@@ -36,7 +36,8 @@ Forced game answer = (items : List ℕ) × IsForcedOn game answer items
 
 -- the algorithm keeps below the target: on every packable list of items all of its loads are below it
 abbrev pub KeepsBelow : GameNumbers → (List ℕ → ℕ) → Type 0
-KeepsBelow game answer = (items : List ℕ) → Packable game items → All (λ load. load < game.target) (run game answer items)
+KeepsBelow game answer =
+    (items : List ℕ) → Packable game items → All (λ load. load < game.target) (run game answer items)
 
 -- the game forces every deterministic online algorithm
 abbrev pub ForcesEvery : GameNumbers → Type 0

@@ -23,7 +23,8 @@ PackableIsTested = (game : GameNumbers) (items : List ℕ) → IsTrue (is_packab
 
 -- the packable lists of a game can be written out
 abbrev pub PackableListsAreWritten : Type 0
-PackableListsAreWritten = (game : GameNumbers) (items : List ℕ) → Contains (packable_lists game) items ↔ Packable game items
+PackableListsAreWritten =
+    (game : GameNumbers) (items : List ℕ) → Contains (packable_lists game) items ↔ Packable game items
 
 -- the items of a history led an algorithm to a position, but for the numbers of the bins and the order of the items
 pub record LeadsTo (game : GameNumbers) (answer : List ℕ → ℕ) (history : List ℕ) (position : Position) : Type 0 where

@@ -1,3 +1,4 @@
 pub mod Algorithm
 pub mod PackableLists
 pub mod Laws
+pub mod Rules

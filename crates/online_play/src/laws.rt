@@ -1,7 +1,7 @@
 //! Laws of online algorithms and of packable lists, as contracts of functions that do nothing.
 
-ghost use Rattle.online_play.specs.Laws.{ForcedIsNotBelow, LowerTargetsForce, PackableIsTested, PackableListsAreWritten};
-ghost use Rattle.online_play.specs.Laws.{WonPositionsForce, WonGamesForceEvery};
+ghost use Rattle.online_play.specs.Laws.{ForcedIsNotBelow, LowerTargetsForce, WonPositionsForce, WonGamesForceEvery};
+ghost use Rattle.online_play.specs.Laws.{PackableIsTested, PackableListsAreWritten};
 
 /// No algorithm is both forced and below the target on every packable list.
 pub fn forced_is_not_below()

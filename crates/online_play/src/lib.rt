@@ -1,4 +1,9 @@
 //! Online algorithms: what one is, how it places the items of a list, and when the adversary forces every one.
 #![tactic(auto)]
 
+mod actual;
 pub mod laws;
+mod online;
+
+pub use actual::Actual;
+pub use online::{Online, loads_after};
