@@ -2,3 +2,4 @@ pub mod RunLemmas
 pub mod WonLemmas
 pub mod ListLemmas
 pub mod PlayLemmas
+pub mod RuleLemmas

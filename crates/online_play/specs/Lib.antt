@@ -2,3 +2,4 @@ pub mod Algorithm
 pub mod PackableLists
 pub mod Laws
 pub mod Rules
+pub mod Replays

@@ -35,14 +35,3 @@ least_loaded target loads size = lowest_bin (λ load. load == least loads) loads
 -- the loads by bin number after an item of this size went to a bin
 abbrev pub placed : List ℕ → ℕ → ℕ → List ℕ
 placed loads bin size = slice_set loads bin (slice_index loads bin + size)
-
--- the loads by bin number after each item of a list went to the bin that a rule names at the loads before it
-abbrev pub loads_under : (ℕ → List ℕ → ℕ → ℕ) → GameNumbers → List ℕ → List ℕ
-loads_under rule game items =
-    fold (λ loads size. placed loads (rule game.target loads size) size) (replicate game.bins 0) items
-
--- the answer of a rule to a history: what it names for the last item at the loads after the items before it
-abbrev pub answer_under : (ℕ → List ℕ → ℕ → ℕ) → GameNumbers → List ℕ → ℕ
-answer_under rule game history =
-    let before = length history - 1 in
-    rule game.target (loads_under rule game (take before history)) (slice_index history before)

@@ -4,6 +4,7 @@
 mod actual;
 pub mod laws;
 mod online;
+mod rule;
 
 pub use actual::Actual;
 pub use online::{Online, loads_after};
