@@ -9,7 +9,8 @@ use Rattle.items.specs.Game.{GameNumbers, IsGame}
 use Rattle.items.specs.Packable.{Packable}
 use Rattle.online_play.specs.Algorithm.{IsAlgorithm}
 use Rattle.online_play.specs.Rules.{stays_below, lowest_bin, greatest, least, first_fit, best_fit, least_loaded, placed}
-use Rattle.online_play.specs.Replays.{loads_under, answer_under, rule_of}
+use Rattle.online_play.specs.Replays.{rule_of}
+use Rattle.online_play.specs.PlayersAnswer.{NamesABin, first_fit_names, best_fit_names, least_loaded_names}
 use Rattle.online_play.specs.declared.rule.Rule.{Rule}
 use Rattle.online_play.specs.declared.rule.Rule.TheVariants.{FirstFit, BestFit, LeastLoaded}
 use Rattle.online_play.proofs.PlayLemmas.{sum_small}
@@ -38,29 +39,7 @@ pub least_loaded_is : (wanted bin : ℕ) (loads : List ℕ) (place : Option ℕ)
 least_loaded_is wanted bin loads place wanted_is place_is bin_is =
     bin_is ∙ ap (λ o. unwrap_or o 0) place_is ∙ ap (λ (w : ℕ). lowest_bin (λ load. load == w) loads) wanted_is
 
--- the lowest bin is one of the bins
-found_in_range : (test : ℕ → Bool) (loads : List ℕ) (found : Option ℕ) → position test loads ≡ found → 0 < length loads → unwrap_or found 0 < length loads
-found_in_range test loads None e l = l
-found_in_range test loads (Some bin) e l = let h = position-Some test loads bin 0 e in h.0
-
-pub lowest_bin_in_range : (test : ℕ → Bool) (loads : List ℕ) → 0 < length loads → lowest_bin test loads < length loads
-lowest_bin_in_range test loads l = found_in_range test loads (position test loads) refl l
-
--- a rule that names one of the bins, where there is one
-pub record NamesABin (rule : ℕ → List ℕ → ℕ → ℕ) : Type 0 where
-  pub in_range : (target : ℕ) (loads : List ℕ) (size : ℕ) → 0 < length loads → rule target loads size < length loads
-
-pub first_fit_names : NamesABin first_fit
-first_fit_names = record { in_range = λ target loads size l. lowest_bin_in_range (stays_below target size) loads l }
-
-pub best_fit_names : NamesABin best_fit
-best_fit_names = record {
-  in_range = λ target loads size l. lowest_bin_in_range (λ load. stays_below target size load && load == greatest (filter (stays_below target size) loads)) loads l;
-}
-
-pub least_loaded_names : NamesABin least_loaded
-least_loaded_names = record { in_range = λ target loads size l. lowest_bin_in_range (λ load. load == least loads) loads l }
-
+-- the bin that a named player's rule names is one of the bins
 pub rules_name : (rule : Rule) → NamesABin (rule_of rule)
 rules_name FirstFit = first_fit_names
 rules_name BestFit = best_fit_names
@@ -73,25 +52,6 @@ named_in_range rule target size bin loads actual e l is =
     let h = rules_name rule in
     let within = h.in_range target loads size (omega arith) in
     omega arith
-
--- a replay keeps the number of bins
-length_replayed : (rule : ℕ → List ℕ → ℕ → ℕ) (target : ℕ) (items loads : List ℕ) → length (fold (λ loads size. placed loads (rule target loads size) size) loads items) ≡ length loads
-length_replayed rule target [] loads = refl
-length_replayed rule target (size ∷ items) loads =
-    let bin : ℕ = rule target loads size in
-    length_replayed rule target items (placed loads bin size) ∙ length-set loads bin (get_or loads bin 0 + size)
-
-pub length-loads_under : (rule : ℕ → List ℕ → ℕ → ℕ) (game : GameNumbers) (items : List ℕ) → length (loads_under rule game items) ≡ game.bins
-length-loads_under rule game items = length_replayed rule game.target items (replicate game.bins 0) ∙ length-replicate game.bins 0
-
--- a rule that names one of the bins answers as an algorithm
-pub answers_as_algorithm : (rule : ℕ → List ℕ → ℕ → ℕ) → NamesABin rule → (game : GameNumbers) → IsGame game → IsAlgorithm game (answer_under rule game)
-answers_as_algorithm rule names game legal items some packable =
-    let loads : List ℕ = loads_under rule game (take (length items - 1) items) in
-    let n = length-loads_under rule game (take (length items - 1) items) in
-    let bins = legal.bins.low in
-    let h = names.in_range game.target loads (get_or items (length items - 1) 0) (omega (arith, n, bins)) in
-    omega (arith, h, n)
 
 -- the loads of a replay stay small
 pub replay_fits : (game : GameNumbers) (history actual : List ℕ) (i bin : ℕ) → IsGame game → Packable game history → i < length history → sum actual ≤ sum (take i history) → bin < length actual

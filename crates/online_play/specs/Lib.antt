@@ -3,3 +3,4 @@ pub mod PackableLists
 pub mod Laws
 pub mod Rules
 pub mod Replays
+pub mod PlayersAnswer

@@ -4,7 +4,11 @@
 mod actual;
 pub mod laws;
 mod online;
+mod players;
 mod rule;
+mod transcript;
 
 pub use actual::Actual;
 pub use online::{Online, loads_after};
+pub use players::{BestFit, FirstFit, LeastLoaded};
+pub use transcript::{Bins, Name, Player, Transcript};
