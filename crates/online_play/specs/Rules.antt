@@ -1,5 +1,4 @@
-use Rattle.std.specs.Prelude.{ℕ, ◌+◌, ◌-◌, ◌==◌, Bool, ◌&&◌, nat_lt, List, [], ◌∷◌, filter, fold, length, take, position, replicate, slice_index, slice_set, unwrap_or, max, min}
-use Rattle.items.specs.Game.{GameNumbers}
+use Rattle.std.specs.Prelude.{ℕ, ◌+◌, ◌==◌, Bool, ◌&&◌, nat_lt, List, [], ◌∷◌, filter, fold, position, slice_index, slice_set, unwrap_or, max, min}
 
 -- whether a load stays below the target with one more item
 abbrev pub stays_below : ℕ → ℕ → ℕ → Bool
