@@ -30,4 +30,4 @@ loop-i-preserved g c =
     let within = bin_in_range c.args.game.now answer c.args.history.now legal algorithm c.requires.packable
     c.loop-i.i c.place-bin.result c.loop-i.actual c.loop-i.invariant c.loop-i-test.true c.place-bin.ensures.value in
     run_more c.args.game.now answer c.args.history.now legal algorithm c.requires.packable c.loop-i.i c.place-bin.result c.loop-i.actual c.put.new.self
-    c.loop-i.invariant c.loop-i-test.true within c.place-bin.ensures.value c.put.ensures
+    c.loop-i.invariant c.loop-i-test.true within c.place-bin.ensures.value c.put.ensures.added
