@@ -1,4 +1,5 @@
-use Rattle.std.specs.Prelude.{◌≡◌, ◌<◌, ◌≤◌, ◌↔◌, ℕ, Bool, IsTrue, List, [], ◌∷◌, ◌++◌, All, Contains, length, replicate, sum}
+use Rattle.std.specs.Prelude.{◌≡◌, ◌<◌, ◌≤◌, ◌↔◌, ℕ, Bool, IsTrue, List, [], ◌∷◌, ◌++◌, All, Contains, length}
+use Rattle.std.specs.Prelude.{replicate, sum}
 use Rattle.items.specs.Game.{GameNumbers, numbers}
 use Rattle.items.specs.Multiset.{Same}
 use Rattle.items.specs.Packable.{Packable}
@@ -71,8 +72,8 @@ WonAtLowerTargets =
     (game : GameNumbers) (target : ℕ) (allowed : List ℕ → ℕ → Bool) (n : ℕ) (position : Position) → target ≤ game.target
     → Wins game allowed n position → Wins (numbers game.bins game.capacity target) allowed n position
 
--- the items of a history led an algorithm to a position, but for the numbers of the bins and the order of the items
-pub record LeadsTo (game : GameNumbers) (answer : List ℕ → ℕ) (history : List ℕ) (position : Position) : Type 0 where
+-- a history brings an algorithm to a position, but for the numbers of the bins and the order of the items
+pub record ComesTo (game : GameNumbers) (answer : List ℕ → ℕ) (history : List ℕ) (position : Position) : Type 0 where
   pub packable : Packable game history
   pub loads : Same (run game answer history) position.loads
   pub items : Same history position.items
@@ -81,7 +82,7 @@ pub record LeadsTo (game : GameNumbers) (answer : List ℕ → ℕ) (history : L
 abbrev pub WonPositionsForce : Type 0
 WonPositionsForce =
     (game : GameNumbers) (allowed : List ℕ → ℕ → Bool) (answer : List ℕ → ℕ) (history : List ℕ) (position : Position)
-    → IsAlgorithm game answer → LeadsTo game answer history position → IsWon game allowed position → Forced game answer
+    → IsAlgorithm game answer → ComesTo game answer history position → IsWon game allowed position → Forced game answer
 
 -- where the adversary wins from the position before the first item, every algorithm is forced
 abbrev pub WonGamesForceEvery : Type 0
