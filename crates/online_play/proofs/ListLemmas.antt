@@ -40,7 +40,7 @@ module _ {X : Type 0} where
   Contains-filter p [] y h pass = absurd (none y h)
   Contains-filter p (x ∷ xs) y h pass = elim (cases_Bool (p x)) [
     | inl e ↦ rw e (⊎_elim (λ q. subst (Contains (x ∷ filter p xs)) q (Contains-here x (filter p xs)))
-          (λ later. Contains-later x (filter p xs) y (Contains-filter p xs y later pass)) (Contains-cons_cases x xs y h))
+        (λ later. Contains-later x (filter p xs) y (Contains-filter p xs y later pass)) (Contains-cons_cases x xs y h))
     | inr e ↦ rw e (⊎_elim (λ q. absurd (true≢false (sym pass ∙ ap p (sym q) ∙ e))) (λ later. Contains-filter p xs y later pass) (Contains-cons_cases x xs y h))
   ]
 
@@ -81,7 +81,7 @@ longer : (choices : List ℕ) (n : ℕ) (rest : List ℕ) → IsListOver choices
 longer choices n rest h =
     All-map (IsListOver choices (suc n)) (λ x. x ∷ rest) choices
     (All-weaker (Contains choices) (λ x. IsListOver choices (suc n) (x ∷ rest))
-        (λ x c. record { length_is = ap suc h.length_is; chosen = All-cons (Contains choices) x rest c h.chosen }) choices (All-contains_itself choices))
+    (λ x c. record { length_is = ap suc h.length_is; chosen = All-cons (Contains choices) x rest c h.chosen }) choices (All-contains_itself choices))
 
 lists_are_over : (choices : List ℕ) (n : ℕ) → All (IsListOver choices n) (lists_of_length choices n)
 lists_are_over choices zero = All-cons (IsListOver choices 0) [] [] (record { length_is = refl; chosen = All-nil (Contains choices) }) (All-nil (IsListOver choices 0))

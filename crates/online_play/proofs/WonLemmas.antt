@@ -44,7 +44,7 @@ module _ (game : GameNumbers) (answer : List ℕ → ℕ) (history : List ℕ) (
     packable = packable;
     loads = subst (λ loads. Same loads (loads_after position.loads load_hit size)) (sym (loads_next within))
         (Same-loads_after (run game answer history) position.loads (answer (history ++ size ∷ [])) load_hit size at.loads
-            (omega (arith, length-run game answer history, within)) refl);
+        (omega (arith, length-run game answer history, within)) refl);
     items = λ x. Same-push history position.items size at.items x ∙ Same-push_put size position.items x;
   }
 
@@ -56,7 +56,7 @@ module _ (game : GameNumbers) (answer : List ℕ → ℕ) (history : List ℕ) (
       packable = packable;
       reached = subst (Any (λ load. game.target ≤ load)) (sym (loads_next within))
           (any-set (λ load. game.target ≤ load) (run game answer history) (answer (history ++ size ∷ [])) (load_hit + size)
-              (omega (arith, length-run game answer history, within)) reached);
+          (omega (arith, length-run game answer history, within)) reached);
     },
   )
 
@@ -77,7 +77,7 @@ won_forces game allowed answer algorithm (suc n) history position at wins =
     let within : answer (history ++ size ∷ []) < game.bins = algorithm (history ++ size ∷ []) (push_not_empty history size) packable in
     ⊎_elim (λ reached. forced_next game answer history position size at packable within reached)
     (λ next. won_forces game allowed answer algorithm n (history ++ size ∷ []) (after position (load_hit game answer history position size at) size)
-        (ComesTo-after game answer history position size at packable within) next)
+    (ComesTo-after game answer history position size at packable within) next)
     (wins.1.each_load (load_hit game answer history position size at) (hit_is_load game answer history position size at within))
 
 -- before the first item
