@@ -55,18 +55,20 @@ abbrev pub LoadsAreWithinTheTotal : Type 0
 LoadsAreWithinTheTotal =
     (game : GameNumbers) (answer : List ℕ → ℕ) (items : List ℕ) → All (λ load. load ≤ sum items) (run game answer items)
 
--- a position that is won stays won when more items may be sent, when more sizes are allowed, and at a lower target
+-- a position that is won with at most so many items is won with at most more
 abbrev pub WonWithMoreItems : Type 0
 WonWithMoreItems =
     (game : GameNumbers) (allowed : List ℕ → ℕ → Bool) (few many : ℕ) (position : Position) → few ≤ many
     → Wins game allowed few position → Wins game allowed many position
 
+-- a position that is won stays won when more sizes are allowed
 abbrev pub WonWithMoreSizes : Type 0
 WonWithMoreSizes =
     (game : GameNumbers) (allowed wider : List ℕ → ℕ → Bool) (n : ℕ) (position : Position)
     → ((items : List ℕ) (size : ℕ) → IsTrue (allowed items size) → IsTrue (wider items size))
     → Wins game allowed n position → Wins game wider n position
 
+-- a position that is won is won at a lower target too
 abbrev pub WonAtLowerTargets : Type 0
 WonAtLowerTargets =
     (game : GameNumbers) (target : ℕ) (allowed : List ℕ → ℕ → Bool) (n : ℕ) (position : Position) → target ≤ game.target
