@@ -1,0 +1,2 @@
+//! The nodes of the algorithm: their rules, and what a legal strategy of the algorithm answers.
+#![tactic(auto)]
