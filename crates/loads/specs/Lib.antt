@@ -1,3 +1,4 @@
 pub mod Descending
 pub mod Loads
+pub mod Position
 pub mod After

@@ -2,11 +2,13 @@
 #![tactic(auto)]
 
 mod bins;
+mod earlier;
 pub mod laws;
 mod position;
 mod sorted_loads;
 
 pub use bins::{bin_with, same_up_to_renaming};
+pub use earlier::EarlierPositions;
 pub use position::{Position, Positions};
 pub use sorted_loads::Loads;
 
