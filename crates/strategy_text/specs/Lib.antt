@@ -1,5 +1,4 @@
 pub mod Text
 pub mod Spelling
-pub mod Words
-pub mod Reading
+pub mod Rules
 pub mod Laws

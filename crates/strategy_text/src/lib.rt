@@ -2,17 +2,16 @@
 #![tactic(auto)]
 
 mod adversary;
+mod algorithm;
 mod head;
-pub mod laws;
 mod node;
 mod rule;
-mod stop;
-mod words;
 
 pub use adversary::parse_adversary;
+pub use algorithm::parse_algorithm;
 pub use head::{parse_end, parse_first, parse_game, parse_nodes, parse_side};
-pub use node::{AdvNode, AdvNodes, Placement, Placements, Side, Then};
+pub use node::{
+    Act, AdvNode, AdvNodes, AlgNode, AlgNodes, Entries, Entry, Format, Nodes, Placement,
+    Placements, Side, Step, Strategy, Then,
+};
 pub use rule::Rule;
-
-#[cfg(test)]
-mod tests;

@@ -1,7 +1,20 @@
-//! The nodes of a strategy.
+//! Strategies, their nodes and the parts of nodes.
 
-use items::{Nums, Sequence};
+ghost use Rattle.std.specs.Prelude.{◌≡◌};
+ghost use Rattle.strategy_text.specs.Text.{side_word};
+
+use items::{Game, Nums, Sequence};
 use packing_witness::Packing;
+
+/// The format of a strategy's text. Format 2 has nodes that format 1 has not.
+#[derive(Clone, Copy, Debug, PartialEq, Eq)]
+pub enum Format {
+    /// Each node of the adversary sends one item and has a packing.
+    One,
+    /// A node of the adversary may have no packing, or may send several equal items; a node of the
+    /// algorithm may keep bins for big items.
+    Two,
+}
 
 /// Whose strategy it is.
 #[derive(Clone, Copy, Debug, PartialEq, Eq)]
@@ -10,6 +23,18 @@ pub enum Side {
     Adversary,
     /// The algorithm's, whose replies are to keep every load below the target.
     Algorithm,
+}
+
+impl Side {
+    /// The word for the side in a text, as in the line `side adversary`.
+    pub fn word(self) -> &'static str
+        ensures value { result.now ≡ side_word self }
+    {
+        match self {
+            Side::Adversary => "adversary",
+            Side::Algorithm => "algorithm",
+        }
+    }
 }
 
 /// What follows when the sent item goes to a bin.
@@ -33,22 +58,101 @@ pub struct Placement {
 /// The placements of a node.
 pub type Placements = Sequence<Placement>;
 
-/// A node of an adversary's strategy: a position, the item to send, a packing of all items with the
-/// sent one, and for each distinct load what follows. Sizes and loads are on the scale of the capacity.
-/// That the parts are so is what the rules ask.
+/// What a node of the adversary sends.
+#[derive(Drop)]
+pub enum Step {
+    /// One item.
+    Send {
+        /// The size of the item.
+        size: u16,
+        /// A packing of the items together with the sent one.
+        pack: Option<Packing>,
+        /// What follows for each distinct load, from the greatest.
+        placements: Placements,
+    },
+    /// Equal items, one after the other, to the end of the play.
+    Burst {
+        /// How many items.
+        count: u16,
+        /// The size of each.
+        size: u16,
+        /// A packing of the items together with those of the burst.
+        pack: Packing,
+    },
+}
+
+/// A node of an adversary's strategy: a position, and what to send there. Sizes and loads are on the
+/// scale of the capacity. That the parts are as they are called is what the rules ask.
 #[derive(Drop)]
 pub struct AdvNode {
     /// The loads of the bins, descending.
     pub loads: Nums,
     /// The items so far, ascending.
     pub items: Nums,
-    /// The size of the item to send.
-    pub send: u16,
-    /// A packing of the items together with the sent one.
-    pub pack: Packing,
-    /// What follows for each distinct load, from the greatest.
-    pub placements: Placements,
+    /// What is sent.
+    pub step: Step,
 }
 
 /// The nodes of an adversary's strategy; the last is the root.
 pub type AdvNodes = Sequence<AdvNode>;
+
+/// The reply to an item that may come.
+#[derive(Clone, Copy, Debug, PartialEq, Eq)]
+pub struct Entry {
+    /// The size of the item.
+    pub size: u16,
+    /// The load, before the item, of the bin that it goes to.
+    pub load: u16,
+    /// The number of the node at which the play goes on.
+    pub to: u32,
+}
+
+/// The replies of a node.
+pub type Entries = Sequence<Entry>;
+
+/// What a node of the algorithm does with the items that come.
+#[derive(Drop)]
+pub enum Act {
+    /// All items that come go into the bins by the rule of the finish.
+    Finish,
+    /// All items that come go into the bins by the rule of the big finish, which keeps so many bins for
+    /// items larger than half the capacity.
+    Big(u16),
+    /// The next item is placed as the entry of its size says; the sizes ascend.
+    Reply(Entries),
+}
+
+/// A node of an algorithm's strategy: a position, and what is done there. Sizes and loads are on the
+/// scale of the capacity. That the parts are as they are called is what the rules ask.
+#[derive(Drop)]
+pub struct AlgNode {
+    /// The loads of the bins, descending.
+    pub loads: Nums,
+    /// The items so far, ascending.
+    pub items: Nums,
+    /// What is done.
+    pub act: Act,
+}
+
+/// The nodes of an algorithm's strategy; the last is the root.
+pub type AlgNodes = Sequence<AlgNode>;
+
+/// The nodes of a strategy of either side.
+#[derive(Drop)]
+pub enum Nodes {
+    /// The adversary's.
+    Adversary(AdvNodes),
+    /// The algorithm's.
+    Algorithm(AlgNodes),
+}
+
+/// A strategy of either side for a game.
+#[derive(Drop)]
+pub struct Strategy {
+    /// The format of its text.
+    pub format: Format,
+    /// The game.
+    pub game: Game,
+    /// The nodes, in the order of their numbers from 0.
+    pub nodes: Nodes,
+}
