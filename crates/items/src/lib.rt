@@ -5,10 +5,12 @@ mod game;
 mod items;
 pub mod laws;
 mod list;
+mod sizes;
 
 pub use game::{Game, GameFault};
 pub use items::Items;
 pub use list::{Nums, Sequence};
+pub use sizes::Sizes;
 
 #[cfg(test)]
 mod tests;
