@@ -1,6 +1,6 @@
 -- What the rules of a node rest on: sizes, sums of loads, and totals of packings.
 use Rattle.std.proofs.Common.{◌≡◌, ℕ, ◌+◌, ◌-◌, ◌<◌, ◌≤◌, List, length, get_or, arith, refl, ap, sum, Contains, zero, suc}
-use Rattle.adversary_graph.specs.Rules.{AreItemsOf}
+use Rattle.loads.specs.Position.{AreItemsOf}
 use Rattle.std.specs.List.{All, range_with_len}
 use Rattle.std.proofs.lemmas.List.Elements.{All-weaker, All-contains_itself, All-get_or}
 use Rattle.std.proofs.lemmas.List.Sums.{sum_by-le}

@@ -1,3 +1,5 @@
 pub mod Nodes
+pub mod NodeRules
 pub mod Rules
 pub mod Legal
+pub mod Judging

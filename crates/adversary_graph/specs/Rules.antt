@@ -16,32 +16,9 @@ use Rattle.strategy_text.specs.declared.node.Step.TheVariants.{Send, Burst}
 use Rattle.strategy_text.specs.declared.node.Then.{Then}
 use Rattle.strategy_text.specs.declared.node.Then.TheVariants.{Over, To}
 use Rattle.strategy_text.specs.declared.rule.Rule.{Rule}
-use Rattle.strategy_text.specs.declared.rule.Rule.TheVariants as rules
+use Rattle.adversary_graph.specs.NodeRules.{NodeRule, rule_of}
+use Rattle.adversary_graph.specs.NodeRules as the
 use Rattle.adversary_graph.specs.Nodes.{position_of, sent_size, sent_items, packing_of, placements_of}
-
--- the rules of an adversary's node
-pub data NodeRule : Type 0 where
-  loads : NodeRule
-  items : NodeRule
-  send : NodeRule
-  burst : NodeRule
-  pack : NodeRule
-  placements : NodeRule
-  over : NodeRule
-  child : NodeRule
-  root : NodeRule
-
--- the rule as a line of the answer names it
-abbrev pub rule_of : NodeRule → Rule
-rule_of loads = rules.Loads
-rule_of items = rules.Items
-rule_of send = rules.Send
-rule_of burst = rules.Burst
-rule_of pack = rules.Pack
-rule_of placements = rules.Placements
-rule_of over = rules.Over
-rule_of child = rules.Child
-rule_of root = rules.Root
 
 -- how many items of this size can come without a load that reaches the target
 abbrev pub most_below_target : GameNumbers → ℕ → List ℕ → ℕ
@@ -87,24 +64,24 @@ LeadsTo earlier (To child) position = StandsAt earlier child position
 
 -- the rules of an adversary's node, over the sizes that items may have, the positions of the nodes before it, and whether it is the last node
 abbrev pub Meets : Format → GameNumbers → List ℕ → List Position → Bool → AdvNode → NodeRule → Type 0
-Meets format game sizes earlier last node loads = IsLoads game node.loads
-Meets format game sizes earlier last node items = AreItemsOf sizes node.loads node.items
-Meets format game sizes earlier last node send = Contains sizes (sent_size node.step)
-Meets format game sizes earlier last node burst = IsLongEnough game node.loads node.step
-Meets format game sizes earlier last node pack = IsPacked game format node
-Meets format game sizes earlier last node placements = PlacesEachLoad node.loads node.step
-Meets format game sizes earlier last node over = All (IsOverAtTarget game (sent_size node.step)) (placements_of node.step)
-Meets format game sizes earlier last node child =
+Meets format game sizes earlier last node the.loads = IsLoads game node.loads
+Meets format game sizes earlier last node the.items = AreItemsOf sizes node.loads node.items
+Meets format game sizes earlier last node the.send = Contains sizes (sent_size node.step)
+Meets format game sizes earlier last node the.burst = IsLongEnough game node.loads node.step
+Meets format game sizes earlier last node the.pack = IsPacked game format node
+Meets format game sizes earlier last node the.placements = PlacesEachLoad node.loads node.step
+Meets format game sizes earlier last node the.over = All (IsOverAtTarget game (sent_size node.step)) (placements_of node.step)
+Meets format game sizes earlier last node the.child =
     All (λ placement. LeadsTo earlier placement.next (after (position_of node) placement.load (sent_size node.step))) (placements_of node.step)
-Meets format game sizes earlier last node root = IsTrue last → IsEmptyPosition (position_of node)
+Meets format game sizes earlier last node the.root = IsTrue last → IsEmptyPosition (position_of node)
 
 -- the rules that are judged once the position is known, in their order
 abbrev pub rules_past_items : List NodeRule
-rules_past_items = send ∷ burst ∷ pack ∷ placements ∷ over ∷ child ∷ root ∷ []
+rules_past_items = the.send ∷ the.burst ∷ the.pack ∷ the.placements ∷ the.over ∷ the.child ∷ the.root ∷ []
 
 -- the rules in the order in which they are judged
 abbrev pub node_rules : List NodeRule
-node_rules = loads ∷ items ∷ rules_past_items
+node_rules = the.loads ∷ the.items ∷ rules_past_items
 
 -- every rule is met
 abbrev pub MeetsRules : Format → GameNumbers → List ℕ → List Position → Bool → AdvNode → Type 0

@@ -2,8 +2,6 @@
 #![tactic(auto)]
 
 mod rules;
+mod step;
 
-pub use rules::{node_fault, node_position};
-
-#[cfg(test)]
-mod tests;
+pub use rules::{judge, node_fault};
