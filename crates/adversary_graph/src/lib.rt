@@ -1,9 +1,6 @@
-//! The adversary's side: the rules of a node, and what a legal strategy is.
+//! The nodes of the adversary: their rules.
 #![tactic(auto)]
 
 mod rules;
 
-pub use rules::{node_fault, node_position};
-
-#[cfg(test)]
-mod tests;
+pub use rules::judge;
