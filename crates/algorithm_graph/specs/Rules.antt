@@ -6,7 +6,7 @@ use Rattle.loads.specs.Loads.{IsLoads}
 use Rattle.loads.specs.Position.{AreItemsOf, IsEmptyPosition, StandsAt}
 use Rattle.loads.specs.declared.position.Position.{Position}
 use Rattle.good_situations.specs.Finish.{Finishes}
-use Rattle.good_situations.specs.Big.{BigFinishes}
+use Rattle.good_situations.specs.BigFinish.{BigFinishes}
 use Rattle.strategy_text.specs.Rules.{AllMet, IsFirstBroken}
 use Rattle.strategy_text.specs.declared.node.Act.{Act}
 use Rattle.strategy_text.specs.declared.node.Act.TheVariants.{Finish, Big, Reply}

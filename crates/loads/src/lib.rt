@@ -2,13 +2,16 @@
 #![tactic(auto)]
 
 mod bins;
+mod bytes;
 mod earlier;
 pub mod laws;
+mod packed;
 mod position;
 mod sorted_loads;
 
 pub use bins::{bin_with, same_up_to_renaming};
 pub use earlier::EarlierPositions;
+pub use packed::PackedPosition;
 pub use position::{Position, Positions};
 pub use sorted_loads::Loads;
 
