@@ -1,5 +1,5 @@
 -- What the private contracts of judging a node cite; nothing here has to be believed.
-use Rattle.std.specs.Prelude.{◌≡◌, ◌↔◌, ℕ, ◌+◌, ◌<◌, zero, suc, Bool, List, [], ◌∷◌, Option, Some, None, sum, MatchOption}
+use Rattle.std.specs.Prelude.{◌≡◌, ℕ, ◌+◌, ◌<◌, Bool, List, [], ◌∷◌, Option, sum, MatchOption}
 use Rattle.items.specs.Game.{GameNumbers}
 use Rattle.items.specs.Multiset.{put_ascending}
 use Rattle.loads.specs.declared.position.Position.{Position}
@@ -14,11 +14,6 @@ use Rattle.adversary_graph.specs.Rules.{Meets, rules_past_items}
 -- the node of this position that takes this step
 abbrev pub node_at : Position → Step → AdvNode
 node_at position step = record { loads = position.loads; items = position.items; step = step }
-
--- a number put so often into an ascending list at its place
-abbrev pub put_times : ℕ → ℕ → List ℕ → List ℕ
-put_times zero x xs = xs
-put_times (suc n) x xs = put_ascending x (put_times n x xs)
 
 -- each number of a list put into an ascending list at its place
 abbrev pub put_all : List ℕ → List ℕ → List ℕ

@@ -1,5 +1,5 @@
 -- What a node of the adversary sends, shows and leads to. The rules and plays speak of nodes by these words alone.
-use Rattle.std.specs.Prelude.{ℕ, List, [], ◌∷◌, Option, Some, None, replicate}
+use Rattle.std.specs.Prelude.{ℕ, List, [], ◌∷◌, Option, Some, replicate}
 use Rattle.loads.specs.declared.position.Position.{Position}
 use Rattle.loads.specs.Position.{position}
 use Rattle.strategy_text.specs.declared.node.AdvNode.{AdvNode}

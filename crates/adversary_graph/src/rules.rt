@@ -1,6 +1,6 @@
 //! The rules of an adversary's node.
 
-ghost use Rattle.std.specs.Prelude.{◌≡◌, ◌<◌, ◌↔◌, ◌+◌, ◌-◌, ◌/◌, ◌*◌, ◌≤◌, ◌∷◌, [], ◌++◌, All, IsTrue, MatchOption, MatchResult, Contains, Some, length, sum, map};
+ghost use Rattle.std.specs.Prelude.{◌≡◌, ◌<◌, ◌↔◌, ◌+◌, ◌-◌, ◌/◌, ◌*◌, ◌≤◌, ◌∷◌, [], ◌++◌, All, IsTrue, MatchOption, MatchResult, Contains, Some, length, replicate, sum, map};
 ghost use Rattle.items.specs.Multiset.{sizes_of, put_ascending, IsSize, IsMultiset};
 ghost use Rattle.items.specs.Packable.{IsPacking};
 ghost use Rattle.loads.specs.After.{after};
@@ -8,9 +8,9 @@ ghost use Rattle.loads.specs.Descending.{distinct};
 ghost use Rattle.loads.specs.Loads.{IsLoads};
 ghost use Rattle.loads.specs.Position.{AreItemsOf, IsEmptyPosition};
 ghost use Rattle.strategy_text.specs.Rules.{AllMet, IsFirstBroken};
-ghost use Rattle.adversary_graph.specs.Nodes.{position_of, sent_size, sent_items, packing_of, placements_of};
+ghost use Rattle.adversary_graph.specs.Nodes.{position_of, sent_size, sent_items, placements_of, IsOfFormat};
 ghost use Rattle.adversary_graph.specs.Rules.{MeetsRules, Breaks, Meets, rules_past_items, most_below_target, IsLongEnough, IsPacked, PlacesEachLoad, IsOverAtTarget, LeadsTo};
-ghost use Rattle.adversary_graph.specs.Judging.{node_at, put_times, BreaksPastItems, AreItems};
+ghost use Rattle.adversary_graph.specs.Judging.{node_at, put_all, BreaksPastItems, AreItems};
 
 use crate::step::{is_packing_asked, sent_number, sent_size};
 use items::{Game, Items, Sizes};
@@ -29,7 +29,8 @@ pub fn judge<E: EarlierPositions>(
     last: bool,
     node: &AdvNode,
 ) -> Result<Position, Rule>
-    requires sizes_of_game { All (IsSize game.now.capacity) sizes.now }
+    requires form { IsOfFormat format node.now.step }
+    requires sizes { All (IsSize game.now.capacity) sizes.now }
     ensures exact { MatchResult result
         (λ position. (position ≡ position_of node.now) × MeetsRules format game.now sizes.now (E.positions earlier.now) last node.now)
         (Breaks format game.now sizes.now (E.positions earlier.now) last node.now) }
@@ -58,6 +59,7 @@ pub fn node_fault<E: EarlierPositions>(
     last: bool,
     node: &AdvNode,
 ) -> Option<Rule>
+    requires form { IsOfFormat format node.now.step }
     ensures exact { MatchOption result
         (MeetsRules format game.now (sizes_of game.now) (E.positions earlier.now) last node.now)
         (Breaks format game.now (sizes_of game.now) (E.positions earlier.now) last node.now) }
@@ -70,7 +72,7 @@ pub fn node_fault<E: EarlierPositions>(
 
 // The items as a multiset; None exactly where they are not items of these loads.
 fn items_of(game: &Game, sizes: &Sizes, loads: &Loads, items: &[u16]) -> Option<Items>
-    requires sizes_of_game { All (IsSize game.now.capacity) sizes.now }
+    requires sizes { All (IsSize game.now.capacity) sizes.now }
     requires of_game { IsLoads game.now loads.now }
     ensures exact { MatchOption result
         (¬ AreItemsOf sizes.now loads.now items.now)
@@ -90,7 +92,12 @@ fn items_of(game: &Game, sizes: &Sizes, loads: &Loads, items: &[u16]) -> Option<
 fn are_allowed(sizes: &Sizes, items: &[u16]) -> bool
     ensures { IsTrue result ↔ All (Contains sizes.now) items.now }
 {
-    items.iter().all(|item| sizes.contains(*item))
+    for item in items {
+        if !sizes.contains(*item) {
+            return false;
+        }
+    }
+    true
 }
 
 fn total_of(loads: &[u16]) -> u32
@@ -110,13 +117,14 @@ fn fault_past_items<E: EarlierPositions>(
     position: &Position,
     step: &Step,
 ) -> Option<Rule>
-    requires sizes_of_game { All (IsSize game.now.capacity) sizes.now }
+    requires sizes { All (IsSize game.now.capacity) sizes.now }
     requires loads { IsLoads game.now position.now.loads }
     requires items { AreItemsOf sizes.now position.now.loads position.now.items }
     ensures exact { let node = node_at position.now step.now in MatchOption result
         (AllMet (Meets format game.now sizes.now (E.positions earlier.now) last node) rules_past_items)
         (BreaksPastItems format game.now sizes.now (E.positions earlier.now) last node) }
 {
+    let _capacity = game.g();
     if !sizes.contains(sent_size(step)) {
         return Some(Rule::Send);
     }
@@ -150,22 +158,31 @@ fn is_long_enough(game: &Game, loads: &Loads, step: &Step) -> bool
 {
     match step {
         Step::Send { .. } => true,
-        Step::Burst { count, size, .. } => most_below_target(game, *size, loads.as_slice()) < *count,
+        Step::Burst { count, size, .. } => most_below_target(game, *size, loads) < *count,
     }
 }
 
 // How many items of this size can come without a load that reaches the target.
-fn most_below_target(game: &Game, size: u16, loads: &[u16]) -> u16
+fn most_below_target(game: &Game, size: u16, loads: &Loads) -> u16
     requires loads { IsLoads game.now loads.now }
     requires size { 1 ≤ size }
     ensures { result ≡ most_below_target game.now size loads.now }
 {
-    let last = game.t() - 1;
     let mut most = 0u16;
-    for load in loads {
-        most += (last - *load) / size;
+    for load in loads.as_slice() {
+        most += most_on_load(game, size, *load);
     }
     most
+}
+
+// How many items of this size can come to a bin of this load that stays below the target.
+fn most_on_load(game: &Game, size: u16, load: u16) -> u16
+    requires below { load < game.now.target }
+    requires size { 1 ≤ size }
+    ensures value { result ≡ (game.now.target - 1 - load) / size }
+    ensures small { result ≤ 239 }
+{
+    (game.t() - 1 - load) / size
 }
 
 // The items with all that the step sends; None exactly where their total is above the limit of a multiset.
@@ -185,7 +202,7 @@ fn all_items(items: &Items, step: &Step) -> Option<Items>
 fn add_times(items: &Items, size: u16, number: u16) -> Items
     requires size { IsSize 120 size }
     requires fits { sum items.now + number * size ≤ 1912 }
-    ensures { result ≡ put_times number size items.now }
+    ensures { result ≡ put_all (replicate number size) items.now }
 {
     let mut made = items.copy();
     for _i in 0..number {
@@ -195,13 +212,22 @@ fn add_times(items: &Items, size: u16, number: u16) -> Items
 }
 
 // Whether a packing is shown exactly where it is asked for, and packs the items with all that the step sends.
-fn is_packed(format: Format, game: &Game, position: &Position, step: &Step, all: &Option<Items>) -> bool
+fn is_packed(
+    format: Format,
+    game: &Game,
+    position: &Position,
+    step: &Step,
+    all: &Option<Items>,
+) -> bool
     requires { AreItems position.now.items (sent_items step.now) all.now }
     ensures { IsTrue result ↔ IsPacked game.now format (node_at position.now step.now) }
 {
     let asked = is_packing_asked(format, step);
     match step {
-        Step::Send { pack: Some(pack), .. } => asked && packs(game, pack, position, step, all),
+        Step::Send {
+            pack: Some(pack),
+            ..
+        } => asked && packs(game, pack, position, step, all),
         Step::Send { pack: None, .. } => !asked,
         Step::Burst { pack, .. } => asked && packs(game, pack, position, step, all),
     }
@@ -212,6 +238,7 @@ fn packs(game: &Game, pack: &Packing, position: &Position, step: &Step, all: &Op
     requires { AreItems position.now.items (sent_items step.now) all.now }
     ensures { IsTrue result ↔ IsPacking game.now pack.now (position.now.items ++ sent_items step.now) }
 {
+    let _capacity = game.g();
     match all {
         Some(all) => pack.holds(game, all),
         None => false,
@@ -247,7 +274,11 @@ fn is_over_at_target(game: &Game, step: &Step) -> bool
     ensures { IsTrue result ↔ All (IsOverAtTarget game.now (sent_size step.now)) (placements_of step.now) }
 {
     match step {
-        Step::Send { size, placements, .. } => are_over_at_target(game, *size, placements.as_slice()),
+        Step::Send {
+            size,
+            placements,
+            ..
+        } => are_over_at_target(game, *size, placements.as_slice()),
         Step::Burst { .. } => true,
     }
 }
@@ -286,9 +317,11 @@ fn leads_to_children<E: EarlierPositions>(
     ensures { IsTrue result ↔ All (λ placement. LeadsTo (E.positions earlier.now) placement.next (after position.now placement.load (sent_size step.now))) (placements_of step.now) }
 {
     match step {
-        Step::Send { size, placements, .. } => {
-            lead_to_children(game, earlier, position, *size, placements.as_slice(), all)
-        }
+        Step::Send {
+            size,
+            placements,
+            ..
+        } => { lead_to_children(game, earlier, position, *size, placements.as_slice(), all) }
         Step::Burst { .. } => true,
     }
 }
@@ -334,10 +367,14 @@ fn leads_to_child<E: EarlierPositions>(
     let Then::To(child) = placement.next else {
         return true;
     };
-    match (position.loads.place(game, placement.load, size), all) {
-        (Some(loads), Some(items)) => earlier.is_at(child as usize, &loads, items),
-        _ => false,
-    }
+    let _capacity = game.g();
+    let Some(loads) = position.loads.place(game, placement.load, size) else {
+        return false;
+    };
+    let Some(items) = all else {
+        return false;
+    };
+    earlier.is_at(child as usize, &loads, items)
 }
 
 fn is_empty(position: &Position) -> bool
