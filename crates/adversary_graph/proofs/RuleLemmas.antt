@@ -25,7 +25,8 @@ loads_total game loads g l =
     omega (arith, sum_by-le (λ x. x) 239 loads each, l.one_each, g.bins.high)
 
 -- the items of a node, as a multiset
-pub multiset_from_items : (game : GameNumbers) (sizes loads items : List ℕ) → IsGame game → All (IsSize game.capacity) sizes → IsLoads game loads → AreItemsOf sizes loads items → IsMultiset game.capacity items
+pub multiset_from_items : (game : GameNumbers) (sizes loads items : List ℕ) → IsGame game → All (IsSize game.capacity) sizes → IsLoads game loads
+    → AreItemsOf sizes loads items → IsMultiset game.capacity items
 multiset_from_items game sizes loads items g s l a = record {
   ascending = a.ascending;
   sizes = All-weaker (Contains sizes) (IsSize game.capacity) (λ x c. All-contains (IsSize game.capacity) sizes x s c) items a.allowed;

@@ -9,9 +9,11 @@ use Rattle.adversary_graph.specs.Rules.{MeetsRules}
 -- each node meets every rule over the nodes before it, of so many in all; the last one is the root
 unfoldable pub EachMeetsRules : Format → GameNumbers → List ℕ → ℕ → List AdvNode → Type 0
 EachMeetsRules format game sizes count nodes =
-    (k : ℕ) (node : AdvNode) → slice_get nodes k ≡ Some node → MeetsRules format game sizes (map position_of (take k nodes)) (k + 1 == count) node
+    (k : ℕ) (node : AdvNode) → slice_get nodes k ≡ Some node
+    → MeetsRules format game sizes (map position_of (take k nodes)) (k + 1 == count) node
 
--- a legal strategy of the adversary, over the sizes that items may have: the numbers are a game, there are 1 to 4,000,000,000 nodes, each has a form of the format, and each meets every rule
+-- a legal strategy of the adversary, over the sizes that items may have: the numbers are a game, there are 1 to
+-- 4,000,000,000 nodes, each has a form of the format, and each meets every rule
 pub record IsLegal (format : Format) (game : GameNumbers) (sizes : List ℕ) (nodes : List AdvNode) : Type 0 where
   pub of_game : IsGame game
   pub low : 1 ≤ length nodes

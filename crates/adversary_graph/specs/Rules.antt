@@ -1,4 +1,5 @@
-use Rattle.std.specs.Prelude.{◌≡◌, ◌↔◌, ℕ, ◌+◌, ◌-◌, ◌/◌, ◌<◌, ◌≤◌, Bool, IsTrue, List, [], ◌∷◌, ◌++◌, Option, Some, None, IfSome, map, sum_by, All, Contains}
+use Rattle.std.specs.Prelude.{◌≡◌, ◌↔◌, ℕ, ◌+◌, ◌-◌, ◌/◌, ◌<◌, ◌≤◌, Bool, IsTrue, List, [], ◌∷◌, ◌++◌, Option, Some}
+use Rattle.std.specs.Prelude.{None, IfSome, map, sum_by, All, Contains}
 use Rattle.items.specs.Game.{GameNumbers}
 use Rattle.items.specs.Packable.{IsPacking}
 use Rattle.loads.specs.After.{after}
@@ -33,7 +34,8 @@ abbrev pub IsOver : Then → Type 0
 IsOver Over = Unit {0}
 IsOver (To child) = ⊥
 
--- a packing is asked for: of each node in format 1, and in format 2 where the play ends at the node whatever bin is answered
+-- a packing is asked for: of each node in format 1, and in format 2 where the play ends at the node whatever bin is
+-- answered
 abbrev pub IsPackingAsked : Format → Step → Type 0
 IsPackingAsked One step = Unit {0}
 IsPackingAsked Two (Send size pack placements) = All (λ placement. IsOver placement.next) placements
@@ -62,7 +64,8 @@ abbrev pub LeadsTo : List Position → Then → Position → Type 0
 LeadsTo earlier Over position = Unit {0}
 LeadsTo earlier (To child) position = StandsAt earlier child position
 
--- the rules of an adversary's node, over the sizes that items may have, the positions of the nodes before it, and whether it is the last node
+-- the rules of an adversary's node, over the sizes that items may have, the positions of the nodes before it, and
+-- whether it is the last node
 abbrev pub Meets : Format → GameNumbers → List ℕ → List Position → Bool → AdvNode → NodeRule → Type 0
 Meets format game sizes earlier last node the.loads = IsLoads game node.loads
 Meets format game sizes earlier last node the.items = AreItemsOf sizes node.loads node.items
@@ -70,9 +73,11 @@ Meets format game sizes earlier last node the.send = Contains sizes (sent_size n
 Meets format game sizes earlier last node the.burst = IsLongEnough game node.loads node.step
 Meets format game sizes earlier last node the.pack = IsPacked game format node
 Meets format game sizes earlier last node the.placements = PlacesEachLoad node.loads node.step
-Meets format game sizes earlier last node the.over = All (IsOverAtTarget game (sent_size node.step)) (placements_of node.step)
+Meets format game sizes earlier last node the.over =
+    All (IsOverAtTarget game (sent_size node.step)) (placements_of node.step)
 Meets format game sizes earlier last node the.child =
-    All (λ placement. LeadsTo earlier placement.next (after (position_of node) placement.load (sent_size node.step))) (placements_of node.step)
+    All (λ placement. LeadsTo earlier placement.next (after (position_of node) placement.load (sent_size node.step)))
+        (placements_of node.step)
 Meets format game sizes earlier last node the.root = IsTrue last → IsEmptyPosition (position_of node)
 
 -- the rules that are judged once the position is known, in their order
@@ -90,4 +95,5 @@ MeetsRules format game sizes earlier last node = AllMet (Meets format game sizes
 -- the first rule that the node breaks
 abbrev pub Breaks : Format → GameNumbers → List ℕ → List Position → Bool → AdvNode → Rule → Type 0
 Breaks format game sizes earlier last node rule =
-    (broken : NodeRule) × (rule ≡ rule_of broken) × IsFirstBroken (Meets format game sizes earlier last node) node_rules broken
+    (broken : NodeRule) × (rule ≡ rule_of broken)
+    × IsFirstBroken (Meets format game sizes earlier last node) node_rules broken

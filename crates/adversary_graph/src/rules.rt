@@ -1,6 +1,7 @@
 //! The rules of an adversary's node.
 
-ghost use Rattle.std.specs.Prelude.{◌≡◌, ◌<◌, ◌↔◌, ◌+◌, ◌-◌, ◌/◌, ◌*◌, ◌≤◌, ◌∷◌, [], ◌++◌, All, IsTrue, MatchOption, MatchResult, Contains, Some, length, replicate, sum, map};
+ghost use Rattle.std.specs.Prelude.{◌≡◌, ◌<◌, ◌↔◌, ◌+◌, ◌-◌, ◌/◌, ◌*◌, ◌≤◌, ◌∷◌, [], ◌++◌, All, IsTrue, MatchOption};
+ghost use Rattle.std.specs.Prelude.{MatchResult, Contains, Some, length, replicate, sum, map};
 ghost use Rattle.items.specs.Multiset.{sizes_of, put_ascending, IsSize, IsMultiset};
 ghost use Rattle.items.specs.Packable.{IsPacking};
 ghost use Rattle.loads.specs.After.{after};
@@ -9,8 +10,9 @@ ghost use Rattle.loads.specs.Loads.{IsLoads};
 ghost use Rattle.loads.specs.Position.{AreItemsOf, IsEmptyPosition};
 ghost use Rattle.strategy_text.specs.Rules.{AllMet, IsFirstBroken};
 ghost use Rattle.adversary_graph.specs.Nodes.{position_of, sent_size, sent_items, placements_of, IsOfFormat};
-ghost use Rattle.adversary_graph.specs.Rules.{MeetsRules, Breaks, Meets, rules_past_items, most_below_target, IsLongEnough, IsPacked, PlacesEachLoad, IsOverAtTarget, LeadsTo};
-ghost use Rattle.adversary_graph.specs.Judging.{node_at, put_all, BreaksPastItems, AreItems};
+ghost use Rattle.adversary_graph.specs.Rules.{MeetsRules, Breaks, Meets, rules_past_items, most_below_target};
+ghost use Rattle.adversary_graph.specs.Rules.{IsLongEnough, IsPacked, PlacesEachLoad, IsOverAtTarget};
+ghost use Rattle.adversary_graph.specs.Judging.{node_at, put_all, AreItems, BreaksPastItems, LeadsOn};
 
 use crate::step::{is_packing_asked, sent_number, sent_size};
 use items::{Game, Items, Sizes};
@@ -32,7 +34,8 @@ pub fn judge<E: EarlierPositions>(
     requires form { IsOfFormat format node.now.step }
     requires sizes { All (IsSize game.now.capacity) sizes.now }
     ensures exact { MatchResult result
-        (λ position. (position ≡ position_of node.now) × MeetsRules format game.now sizes.now (E.positions earlier.now) last node.now)
+        (λ position. (position ≡ position_of node.now)
+            × MeetsRules format game.now sizes.now (E.positions earlier.now) last node.now)
         (Breaks format game.now sizes.now (E.positions earlier.now) last node.now) }
 {
     let loads = node.loads.as_slice();
@@ -314,7 +317,7 @@ fn leads_to_children<E: EarlierPositions>(
     requires all { AreItems position.now.items (sent_items step.now) all.now }
     requires placed { PlacesEachLoad position.now.loads step.now }
     requires over { All (IsOverAtTarget game.now (sent_size step.now)) (placements_of step.now) }
-    ensures { IsTrue result ↔ All (λ placement. LeadsTo (E.positions earlier.now) placement.next (after position.now placement.load (sent_size step.now))) (placements_of step.now) }
+    ensures { IsTrue result ↔ All (LeadsOn (E.positions earlier.now) position.now (sent_size step.now)) (placements_of step.now) }
 {
     match step {
         Step::Send {
@@ -339,7 +342,7 @@ fn lead_to_children<E: EarlierPositions>(
     requires all { AreItems position.now.items (size ∷ []) all.now }
     requires placed { map (λ placement. placement.load) placements.now ≡ distinct position.now.loads }
     requires over { All (IsOverAtTarget game.now size) placements.now }
-    ensures exact { IsTrue result ↔ All (λ placement. LeadsTo (E.positions earlier.now) placement.next (after position.now placement.load size)) placements.now }
+    ensures exact { IsTrue result ↔ All (LeadsOn (E.positions earlier.now) position.now size) placements.now }
 {
     for placement in placements {
         if !leads_to_child(game, earlier, position, size, placement, all) {
@@ -362,7 +365,7 @@ fn leads_to_child<E: EarlierPositions>(
     requires all { AreItems position.now.items (size ∷ []) all.now }
     requires placed { Contains position.now.loads placement.now.load }
     requires over { IsOverAtTarget game.now size placement.now }
-    ensures exact { IsTrue result ↔ LeadsTo (E.positions earlier.now) placement.now.next (after position.now placement.now.load size) }
+    ensures exact { IsTrue result ↔ LeadsOn (E.positions earlier.now) position.now size placement.now }
 {
     let Then::To(child) = placement.next else {
         return true;
