@@ -1,4 +1,4 @@
-use Rattle.std.specs.Prelude.{◌≡◌, ◌==◌, ℕ, ◌+◌, ◌≤◌, List, Some, length, map, take, slice_get, All}
+use Rattle.std.specs.Prelude.{◌≡◌, ◌==◌, ℕ, ◌+◌, ◌≤◌, List, Some, length, map, take, slice_get, All, false}
 use Rattle.items.specs.Game.{GameNumbers, IsGame}
 use Rattle.strategy_text.specs.Spelling.{most_nodes}
 use Rattle.strategy_text.specs.declared.node.AdvNode.{AdvNode}
@@ -11,6 +11,12 @@ unfoldable pub EachMeetsRules : Format → GameNumbers → List ℕ → ℕ → 
 EachMeetsRules format game sizes count nodes =
     (k : ℕ) (node : AdvNode) → slice_get nodes k ≡ Some node
     → MeetsRules format game sizes (map position_of (take k nodes)) (k + 1 == count) node
+
+-- each node meets every rule but `root` over the nodes before it
+unfoldable pub EachFollows : Format → GameNumbers → List ℕ → List AdvNode → Type 0
+EachFollows format game sizes nodes =
+    (k : ℕ) (node : AdvNode) → slice_get nodes k ≡ Some node
+    → MeetsRules format game sizes (map position_of (take k nodes)) false node
 
 -- a legal strategy of the adversary, over the sizes that items may have: the numbers are a game, there are 1 to
 -- 4,000,000,000 nodes, each has a form of the format, and each meets every rule

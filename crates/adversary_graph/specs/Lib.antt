@@ -3,3 +3,4 @@ pub mod NodeRules
 pub mod Rules
 pub mod Legal
 pub mod Judging
+pub mod Laws

@@ -1,6 +1,7 @@
 //! The adversary's side: the rules of a node, and what a legal strategy is.
 #![tactic(auto)]
 
+pub mod laws;
 mod rules;
 mod step;
 
