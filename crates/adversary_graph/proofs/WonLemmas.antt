@@ -1,6 +1,6 @@
 -- A node that meets its rules has a position from which the adversary wins.
-use Rattle.std.proofs.Common.{◌≡◌, ◌↔◌, ℕ, zero, suc, ◌+◌, ◌-◌, ◌/◌, ◌<◌, ◌≤◌, Bool, IsTrue, false, Option, List, [], ◌∷◌, ◌++◌, Some, None, length, get_or, take, map, replicate, true, arith, refl, ap, sym, ◌∙◌, subst, sum_by, Contains, inl, inr, ◌⊎◌, ⊎_elim, eqb}
-use Rattle.std.specs.List.{All, slice_get, list_any}
+use Rattle.std.proofs.Common.{◌≡◌, ℕ, zero, suc, ◌+◌, ◌-◌, ◌/◌, ◌<◌, ◌≤◌, Bool, IsTrue, false, Option, List, [], ◌∷◌, ◌++◌, Some, None, length, get_or, take, map, replicate, true, arith, refl, ap, sym, ◌∙◌, subst, sum_by, Contains, inl, inr, ◌⊎◌, ⊎_elim, eqb}
+use Rattle.std.specs.List.{All, slice_get}
 use Rattle.std.specs.Option.{option_map}
 use Rattle.std.proofs.Math.Nat.{div-eq-sub-div}
 use Rattle.std.proofs.lemmas.Bool.{cases_lt, eq-eqb, false≢true}
@@ -8,15 +8,15 @@ use Rattle.std.proofs.lemmas.List.{get_or-map, length-map, length-replicate}
 use Rattle.std.proofs.lemmas.List.Elements.{All-weaker, All-contains, All-append, All-replicate, All-cons, All-nil}
 use Rattle.std.proofs.lemmas.List.Sums.{sum_by-cons}
 use Rattle.std.proofs.lemmas.Option.{slice_get-map, slice_get-get_or, same_Some, none-some}
-use Rattle.items.specs.Game.{GameNumbers, IsGame}
-use Rattle.items.specs.Multiset.{IsSize, count, put_ascending, sizes_of}
+use Rattle.items.specs.Game.{GameNumbers}
+use Rattle.items.specs.Multiset.{IsSize, put_ascending, sizes_of}
 use Rattle.items.specs.Packable.{Packable}
 use Rattle.items.proofs.MultisetLemmas.{count-append, count-put_ascending}
 use Rattle.packing_witness.proofs.PackableLemmas.{Packable-from_packing, Packable-part, Packable-Same, Packable-front, Packable-from_put_ascending}
 use Rattle.loads.specs.After.{after}
 use Rattle.loads.specs.Loads.{loads_after}
 use Rattle.loads.specs.Position.{position, StandsAt, IsEmptyPosition}
-use Rattle.loads.specs.Wins.{Wins, IsWon, IsWinningSize, empty_position}
+use Rattle.loads.specs.Wins.{Wins, IsWon, empty_position}
 use Rattle.loads.specs.declared.position.Position.{Position}
 use Rattle.loads.proofs.DistinctLemmas.{Contains-distinct}
 use Rattle.loads.proofs.LoadsLemmas.{sum_by-loads_after}
@@ -33,7 +33,7 @@ use Rattle.strategy_text.specs.declared.node.Then.TheVariants.{Over, To}
 use Rattle.adversary_graph.specs.Judging.{node_at}
 use Rattle.adversary_graph.specs.Laws.{is_one_of}
 use Rattle.adversary_graph.specs.Legal.{EachFollows, EachMeetsRules, IsLegal}
-use Rattle.adversary_graph.specs.Nodes.{position_of, sent_size, sent_items, packing_of, placements_of}
+use Rattle.adversary_graph.specs.Nodes.{position_of, sent_size, sent_items, placements_of}
 use Rattle.adversary_graph.specs.Rules.{MeetsRules, most_below_target, IsLongEnough, PlacesEachLoad, IsOver, IsOverAtTarget, LeadsTo, IsPacked}
 use Rattle.adversary_graph.proofs.RuleLemmas.{sizes_are_sizes}
 use Rattle.std.proofs.lemmas.Cmp.{nat_eq_equiv}
@@ -46,12 +46,14 @@ pub Wins-more : (game : GameNumbers) (allowed : List ℕ → ℕ → Bool) (m n 
 unfolding Wins
 Wins-more game allowed zero n p l w = absurd w
 Wins-more game allowed (suc m) zero p l w = absurd (omega arith)
-Wins-more game allowed (suc m) (suc n) p l w =
-    (w.0, record {
-      allows = w.1.allows;
-      may_come = w.1.may_come;
-      each_load = λ load c. ⊎_elim (λ reached. inl reached) (λ next. inr (Wins-more game allowed m n (after p load w.0) (omega arith) next)) (w.1.each_load load c);
-    })
+Wins-more game allowed (suc m) (suc n) p l w = (
+  w.0,
+  record {
+    allows = w.1.allows;
+    may_come = w.1.may_come;
+    each_load = λ load c. ⊎_elim (λ reached. inl reached) (λ next. inr (Wins-more game allowed m n (after p load w.0) (omega arith) next)) (w.1.each_load load c);
+  },
+)
 
 -- after one item of a burst one item less can come
 one_less : (game : GameNumbers) (size load : ℕ) (loads : List ℕ) → 1 ≤ size → Contains loads load → load + size < game.target
@@ -68,17 +70,19 @@ pub burst_wins : (game : GameNumbers) (allowed : List ℕ → ℕ → Bool) (siz
     → (n : ℕ) (p : Position) → most_below_target game size p.loads < n → Packable game (p.items ++ replicate n size) → Wins game allowed n p
 unfolding Wins
 burst_wins game allowed size may low zero p most packable = absurd (omega arith)
-burst_wins game allowed size may low (suc n) p most packable =
-    (size, record {
-      allows = may p.items;
-      may_come = Packable-part game (p.items ++ size ∷ []) (p.items ++ replicate (suc n) size) (λ x. omega (arith, count-append x p.items (size ∷ []), count-append x p.items (size ∷ replicate n size))) packable;
-      each_load = λ load c. ⊎_elim
+burst_wins game allowed size may low (suc n) p most packable = (
+  size,
+  record {
+    allows = may p.items;
+    may_come = Packable-part game (p.items ++ size ∷ []) (p.items ++ replicate (suc n) size) (λ x. omega (arith, count-append x p.items (size ∷ []), count-append x p.items (size ∷ replicate n size))) packable;
+    each_load = λ load c. ⊎_elim
         (λ below. inr (burst_wins game allowed size may low n (after p load size) (omega (arith, one_less game size load p.loads low c below))
-          (Packable-Same game (p.items ++ replicate (suc n) size) (put_ascending size p.items ++ replicate n size)
-            (λ x. omega (arith, count-append x p.items (size ∷ replicate n size), count-append x (put_ascending size p.items) (replicate n size), count-put_ascending x size p.items)) packable)))
+        (Packable-Same game (p.items ++ replicate (suc n) size) (put_ascending size p.items ++ replicate n size)
+        (λ x. omega (arith, count-append x p.items (size ∷ replicate n size), count-append x (put_ascending size p.items) (replicate n size), count-put_ascending x size p.items)) packable)))
         (λ reached. inl reached)
         (cases_lt (load + size) game.target);
-    })
+  },
+)
 
 -- ---- nodes before a node
 
@@ -131,10 +135,10 @@ sent_sizes : (game : GameNumbers) (sizes loads items : List ℕ) (step : Step) �
     → All (Contains sizes) items → Contains sizes (sent_size step) → All (IsSize game.capacity) (items ++ sent_items step)
 sent_sizes game sizes loads items (Send size pack placements) z a s =
     All-append (IsSize game.capacity) items (size ∷ []) (All-weaker (Contains sizes) (IsSize game.capacity) (λ x c. All-contains (IsSize game.capacity) sizes x z c) items a)
-      (All-replicate (IsSize game.capacity) 1 size (All-contains (IsSize game.capacity) sizes size z s))
+    (All-replicate (IsSize game.capacity) 1 size (All-contains (IsSize game.capacity) sizes size z s))
 sent_sizes game sizes loads items (Burst number size pack) z a s =
     All-append (IsSize game.capacity) items (replicate number size) (All-weaker (Contains sizes) (IsSize game.capacity) (λ x c. All-contains (IsSize game.capacity) sizes x z c) items a)
-      (All-replicate (IsSize game.capacity) number size (All-contains (IsSize game.capacity) sizes size z s))
+    (All-replicate (IsSize game.capacity) number size (All-contains (IsSize game.capacity) sizes size z s))
 
 -- what a node without a packing leads to
 not_all_over : (game : GameNumbers) (format : Format) (loads items : List ℕ) (size : ℕ) (placements : List Placement)
@@ -152,7 +156,7 @@ packable_step game format sizes loads items (Send size (Some bins) placements) e
     Packable-from_packing game bins (items ++ size ∷ []) z packed.holds
 packable_step game format sizes loads items (Send size None placements) earlier z packed leads before =
     let child = some_child (λ placement. LeadsTo earlier placement.next (after (position loads items) placement.load size)) placements leads
-      (not_all_over game format loads items size placements packed) in
+    (not_all_over game format loads items size placements packed) in
     Packable-from_put_ascending game items size (before child.1 (after (position loads items) child.0 size) child.2)
 packable_step game format sizes loads items (Burst number size bins) earlier z packed leads before =
     Packable-from_packing game bins (items ++ replicate number size) z packed.holds
@@ -185,11 +189,11 @@ packable_node format game sizes nodes z follows zero k node l e = absurd (omega 
 packable_node format game sizes nodes z follows (suc bound) k node l e =
     let m = met format game sizes (map position_of (take k nodes)) false node (follows k node e) in
     packable_step game format sizes node.loads node.items node.step (map position_of (take k nodes))
-      (sent_sizes game sizes node.loads node.items node.step z m.items m.send) m.pack m.child
-      (λ child p stands.
-        let h = earlier_node nodes k child p stands in
-        let packable = packable_node format game sizes nodes z follows bound child h.0 (omega (arith, h.2, l)) h.1 in
-        subst (λ (q : Position). Packable game q.items) h.3 (Packable-front game h.0.items (sent_items h.0.step) packable))
+    (sent_sizes game sizes node.loads node.items node.step z m.items m.send) m.pack m.child
+    (λ child p stands.
+    let h = earlier_node nodes k child p stands in
+    let packable = packable_node format game sizes nodes z follows bound child h.0 (omega (arith, h.2, l)) h.1 in
+    subst (λ (q : Position). Packable game q.items) h.3 (Packable-front game h.0.items (sent_items h.0.step) packable))
 
 -- ---- the position of a node is won
 
@@ -233,14 +237,17 @@ unfolding Wins
 wins_step format game sizes loads items (Send size pack placements) earlier n z m packable before =
     let allowed = is_one_of sizes in
     let P : (Placement → Type 0) = λ placement. IsOverAtTarget game size placement × LeadsTo earlier placement.next (after (position loads items) placement.load size) in
-    let won : Wins game allowed (suc n) (position loads items) = (size, record {
-      allows = is_one sizes items size m.send;
-      may_come = packable;
-      each_load = λ load c.
-        let h = picked P placements load (λ k d l. (m.over k d l, m.child k d l)) (subst (λ (xs : List ℕ). Contains xs load) (sym m.placements) (Contains-distinct load loads c)) in
-        let next = next_won game allowed n size h.0.load h.0.next (position loads items) earlier h.1.0 h.1.1 before in
-        subst (λ l. (game.target ≤ l + size) ⊎ Wins game allowed n (after (position loads items) l size)) h.2 next;
-    }) in
+    let won : Wins game allowed (suc n) (position loads items) = (
+      size,
+      record {
+        allows = is_one sizes items size m.send;
+        may_come = packable;
+        each_load = λ load c.
+            let h = picked P placements load (λ k d l. (m.over k d l, m.child k d l)) (subst (λ (xs : List ℕ). Contains xs load) (sym m.placements) (Contains-distinct load loads c)) in
+            let next = next_won game allowed n size h.0.load h.0.next (position loads items) earlier h.1.0 h.1.1 before in
+            subst (λ l. (game.target ≤ l + size) ⊎ Wins game allowed n (after (position loads items) l size)) h.2 next;
+      },
+    ) in
     Wins-more game allowed (suc n) (n + 1) (position loads items) (omega arith) won
 wins_step format game sizes loads items (Burst number size pack) earlier n z m packable before =
     let low = All-contains (IsSize game.capacity) sizes size z m.send in
@@ -257,10 +264,10 @@ wins_node format game sizes nodes z follows (suc bound) k node l e =
     let m = met format game sizes earlier false node (follows k node e) in
     let packable = packable_node format game sizes nodes z follows (suc bound) k node l e in
     let before = λ (child : ℕ) (p : Position) (stands : StandsAt earlier child p).
-      let h = earlier_node nodes k child p stands in
-      let won = wins_node format game sizes nodes z follows bound child h.0 (omega (arith, h.2, l)) h.1 in
-      let more = Wins-more game allowed (sent_by (take (suc child) nodes)) (sent_by (take k nodes)) (position_of h.0) (sent_by-le nodes (suc child) k h.2) won in
-      subst (λ (q : Position). Wins game allowed (sent_by (take k nodes)) q) h.3 more in
+    let h = earlier_node nodes k child p stands in
+    let won = wins_node format game sizes nodes z follows bound child h.0 (omega (arith, h.2, l)) h.1 in
+    let more = Wins-more game allowed (sent_by (take (suc child) nodes)) (sent_by (take k nodes)) (position_of h.0) (sent_by-le nodes (suc child) k h.2) won in
+    subst (λ (q : Position). Wins game allowed (sent_by (take k nodes)) q) h.3 more in
     let won = wins_step format game sizes node.loads node.items node.step earlier (sent_by (take k nodes)) z m packable before in
     subst (λ n. Wins game allowed n (position_of node)) (sym (sent_by-take nodes k node e)) won
 

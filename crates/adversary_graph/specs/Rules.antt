@@ -77,7 +77,7 @@ Meets format game sizes earlier last node the.over =
     All (IsOverAtTarget game (sent_size node.step)) (placements_of node.step)
 Meets format game sizes earlier last node the.child =
     All (λ placement. LeadsTo earlier placement.next (after (position_of node) placement.load (sent_size node.step)))
-        (placements_of node.step)
+    (placements_of node.step)
 Meets format game sizes earlier last node the.root = IsTrue last → IsEmptyPosition (position_of node)
 
 -- the rules that are judged once the position is known, in their order

@@ -35,7 +35,7 @@ pub fn judge<E: EarlierPositions>(
     requires sizes { All (IsSize game.now.capacity) sizes.now }
     ensures exact { MatchResult result
         (λ position. (position ≡ position_of node.now)
-            × MeetsRules format game.now sizes.now (E.positions earlier.now) last node.now)
+        × MeetsRules format game.now sizes.now (E.positions earlier.now) last node.now)
         (Breaks format game.now sizes.now (E.positions earlier.now) last node.now) }
 {
     let loads = node.loads.as_slice();
