@@ -4,11 +4,13 @@
 mod game;
 mod items;
 pub mod laws;
+mod limits;
 mod list;
 mod sizes;
 
 pub use game::{Game, GameFault};
 pub use items::Items;
+pub use limits::{MOST_BINS, MOST_NUMBER, MOST_SIZE, MOST_VOLUME};
 pub use list::{Nums, Sequence};
 pub use sizes::Sizes;
 

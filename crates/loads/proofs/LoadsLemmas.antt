@@ -1,11 +1,12 @@
 -- Loads after an item.
-use Rattle.std.proofs.Common.{◌≡◌, ℕ, zero, suc, ◌+◌, ◌<◌, ◌≤◌, true, List, [], ◌∷◌, leb, refl, inl, inr, length, get_or, set, cond, eqb, sum, arith, sym, ap, ◌∙◌}
+use Rattle.std.proofs.Common.{◌≡◌, ℕ, zero, suc, ◌+◌, ◌*◌, ◌<◌, ◌≤◌, true, List, [], ◌∷◌, leb, refl, inl, inr, length, get_or, set, cond, eqb, sum, arith, sym, ap, ◌∙◌}
 use Rattle.std.specs.Prelude.{Contains, insert, remove, position, unwrap_or, nat_le}
 use Rattle.std.proofs.lemmas.List.{get_or_default}
 use Rattle.std.specs.List.{sum_by}
 use Rattle.std.proofs.lemmas.List.Sums.{sum_by-set}
 use Rattle.std.proofs.lemmas.Bool.{leb-true, leb-false, le-leb, cases_Bool}
 use Rattle.std.proofs.lemmas.List.Elements.{All-weaker}
+use Rattle.items.specs.declared.limits.TheConstants.{MOST_SIZE}
 use Rattle.items.specs.Game.{GameNumbers, IsGame}
 use Rattle.items.specs.Multiset.{count, Same}
 use Rattle.loads.specs.Descending.{IsDescending, put_descending, take_out}
@@ -19,7 +20,7 @@ pub AreLoads-of_game : (game : GameNumbers) (loads : List ℕ) → IsGame game �
 AreLoads-of_game game loads g h = record {
   few = omega (arith, h.one_each, g.bins.high);
   descending = h.descending;
-  below = All-weaker (λ load. load < game.target) (λ load. load < 240) (λ load l. omega (arith, l, g.target.high, g.capacity.high)) loads h.below_target;
+  below = All-weaker (λ load. load < game.target) (λ load. load < 2 * MOST_SIZE) (λ load l. omega (arith, l, g.target.high, g.capacity.high)) loads h.below_target;
 }
 
 -- an item in a bin that stays below the target leaves loads of the game

@@ -6,8 +6,9 @@ ghost use Rattle.loads.specs.Loads.{AreLoads};
 ghost use Rattle.loads.specs.Position.{position};
 ghost use Rattle.loads.specs.Packed.{ArePositionBytes, position_in};
 
+use crate::position::Position;
 use crate::sorted_loads::Loads;
-use items::Items;
+use items::{Items, MOST_SIZE};
 use items::laws::items_are_a_multiset;
 use smallvec::SmallVec;
 use std::alloc::{AllocError, Global};
@@ -74,7 +75,7 @@ pub(crate) fn parts(bytes: &[u8]) -> (&[u8], &[u8])
 
 /// The items of these sizes.
 pub(crate) fn items_of(sizes: &[u8]) -> Items
-    requires { IsMultiset 120 sizes.now }
+    requires { IsMultiset MOST_SIZE sizes.now }
     ensures { result ≡ sizes.now }
 {
     let mut items = Items::empty();
@@ -82,6 +83,18 @@ pub(crate) fn items_of(sizes: &[u8]) -> Items
         items.put(u16::from(*size));
     }
     items
+}
+
+/// The position of these bytes.
+pub(crate) fn position_of(alloc: Global, bytes: &[u8]) -> Position
+    requires { ArePositionBytes bytes.now }
+    ensures { result ≡ position_in bytes.now }
+{
+    let (load_bytes, sizes) = parts(bytes);
+    Position {
+        loads: Loads::from_bytes(alloc, load_bytes),
+        items: items_of(sizes),
+    }
 }
 
 /// Whether the bytes are those of the position of these loads and items.

@@ -10,7 +10,7 @@ use crate::position::Position;
 use crate::sorted_loads::Loads;
 use std::hash::Hash;
 
-/// Loads are at most 8, descending, each below 240.
+/// Loads are no more than a game has bins, descending, each below the greatest target.
 pub fn loads_are_of_some_game(loads: &Loads)
     ensures { AreLoads loads.now }
 {

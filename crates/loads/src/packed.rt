@@ -3,12 +3,14 @@
 ghost use Rattle.std.specs.Prelude.{◌≡◌, ◌↔◌, IsTrue, IfOk};
 ghost use Rattle.loads.specs.Position.{position};
 
-use crate::bytes::{Bytes, items_of, pack, parts, stand_for};
+use crate::bytes::{Bytes, items_of, pack, parts, position_of, stand_for};
+use crate::position::Position;
 use crate::sorted_loads::Loads;
 use items::Items;
 use std::alloc::{AllocError, Global};
 use std::hash::{Hash, Hasher};
 use std::marker::Model;
+use std::mem::size_of;
 
 /// A position in one byte for each load and each item and one more, seen by clauses as the position. Up to 24 bytes
 /// lie inline; a longer one takes memory.
@@ -38,6 +40,13 @@ impl PackedPosition {
         })
     }
 
+    /// The position. Takes no memory.
+    pub fn position(&self) -> Position
+        ensures value { result ≡ self.now }
+    {
+        position_of(*self.bytes.allocator(), self.bytes.as_slice())
+    }
+
     /// The loads. Takes no memory.
     pub fn loads(&self) -> Loads
         ensures value { result ≡ self.now.loads }
@@ -45,14 +54,14 @@ impl PackedPosition {
         Loads::from_bytes(*self.bytes.allocator(), parts(self.bytes.as_slice()).0)
     }
 
-    /// The items.
+    /// The items. Takes no memory.
     pub fn items(&self) -> Items
         ensures value { result ≡ self.now.items }
     {
         items_of(parts(self.bytes.as_slice()).1)
     }
 
-    /// Whether it is the position of these loads and items.
+    /// Whether it is the position of these loads and items. Takes no memory; the cost is linear in the position.
     pub fn is(&self, loads: &Loads, items: &Items) -> bool
         ensures value { IsTrue result ↔ (self.now ≡ position loads.now items.now) }
     {
@@ -104,3 +113,6 @@ impl Hash for PackedPosition {
         state.write(self.bytes.as_slice());
     }
 }
+
+// Packed positions are kept by the million.
+const _: () = prove!(size_of::<PackedPosition>() <= 40);

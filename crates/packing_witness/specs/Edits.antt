@@ -1,5 +1,6 @@
 use Rattle.std.specs.Prelude.{ℕ, ◌==◌, ◌*◌, ◌≤◌, Option, Some, None, List, [], ◌∷◌, if◌then◌else◌, map, option_map, All}
 use Rattle.std.specs.Option.{option_or}
+use Rattle.items.specs.declared.limits.TheConstants.{MOST_NUMBER}
 
 -- what is left of a list when the first such number is taken out; None where it has none
 abbrev pub first_out : ℕ → List ℕ → Option (List ℕ)
@@ -18,4 +19,4 @@ scaled factor bins = map (map (λ size. size * factor)) bins
 
 -- each number of each bin times a factor is at most 65,535
 abbrev pub CanScale : ℕ → List (List ℕ) → Type 0
-CanScale factor bins = All (All (λ size. size * factor ≤ 65535)) bins
+CanScale factor bins = All (All (λ size. size * factor ≤ MOST_NUMBER)) bins

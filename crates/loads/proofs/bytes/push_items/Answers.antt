@@ -1,5 +1,4 @@
 use Rattle.std.proofs.Common.{◌≡◌, ◌+◌, ◌<◌, ◌++◌, ◌∙◌, sym, ap, arith, replicate, drop, get_or}
-use Rattle.items.specs.Multiset.{count}
 use Rattle.items.specs.Counters.{expanded, counters_of}
 use Rattle.items.proofs.MultisetLemmas.{largest_of-le}
 use Rattle.items.proofs.CounterLemmas.{expanded-counters_of, expanded-past, expanded-drop, get_or-counters_of, length-counters_of}
