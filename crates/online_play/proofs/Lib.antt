@@ -3,3 +3,4 @@ pub mod WonLemmas
 pub mod ListLemmas
 pub mod PlayLemmas
 pub mod RuleLemmas
+pub mod TestLists

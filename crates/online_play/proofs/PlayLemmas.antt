@@ -1,5 +1,6 @@
 -- Histories of a play: their prefixes, and loads that stay small.
-use Rattle.std.proofs.Common.{◌≡◌, ◌≢◌, ℕ, ◌+◌, ◌*◌, ◌<◌, ◌≤◌, cond, eqb, List, [], ◌∷◌, ◌++◌, length, get_or, set, take, drop, replicate, sum, refl, sym, ap, ◌∙◌, inl, inr, subst, arith}
+use Rattle.std.proofs.Common.{◌≡◌, ◌≢◌, ℕ, ◌+◌, ◌<◌, ◌≤◌, eqb, List, [], ◌∷◌, ◌++◌, length, get_or, take, drop, sum, sym, ap, ◌∙◌, inl, inr, subst, arith}
+use Rattle.std.specs.Prelude.{All}
 use Rattle.std.proofs.lemmas.Bool.{cases_eq, cond-true, cond-false, eq-eqb, ne_eqb}
 use Rattle.std.proofs.lemmas.List.{take_more, take-append-drop, length-take}
 use Rattle.std.proofs.lemmas.List.Sums.{sum_by-cons, sum_by-take-le, sum_by_more}
@@ -7,8 +8,7 @@ use Rattle.std.proofs.lemmas.Nat.{mul-le}
 use Rattle.items.specs.Game.{GameNumbers, IsGame}
 use Rattle.items.specs.Packable.{Packable, bin_total}
 use Rattle.packing_witness.proofs.PackableLemmas.{Packable-front, sum-Packable-le}
-use Rattle.online_play.specs.Algorithm.{IsAlgorithm, bins_of, run}
-use Rattle.online_play.specs.Rules.{placed}
+use Rattle.online_play.specs.Algorithm.{IsAlgorithm, bins_of, placed, run}
 use Rattle.online_play.proofs.RunLemmas.{run-push, length-run, get_or-loads_by_bin}
 
 -- the prefixes of a packable history are packable
@@ -58,3 +58,10 @@ module _ (game : GameNumbers) (answer : List ℕ → ℕ) (history : List ℕ) (
       let hit : answer (take i history ++ get_or history i 0 ∷ []) ≡ bin = sym (is ∙ ap answer more) in
       let within : bin < game.bins = omega (arith, ap length e, length-run game answer (take i history), l) in
       put ∙ ap (λ loads. placed loads bin (get_or history i 0)) e ∙ sym (ap (run game answer) more ∙ run-push game answer (take i history) (get_or history i 0) bin hit within)
+
+-- no load of a run is above the total of the items
+pub run-le-sum : (game : GameNumbers) (answer : List ℕ → ℕ) (items : List ℕ) → All (λ load. load ≤ sum items) (run game answer items)
+run-le-sum game answer items bin d l =
+    let within : bin < game.bins = omega (arith, l, length-run game answer items) in
+    let load = get_or-loads_by_bin game items (bins_of answer items) bin d within in
+    omega (arith, bin_total-le-sum bin items (bins_of answer items))

@@ -1,14 +1,12 @@
 -- What the rules of the named players name, and that each answers as an algorithm of the game.
-use Rattle.std.proofs.Common.{◌≡◌, ◌≢◌, ℕ, ◌+◌, ◌-◌, ◌<◌, ◌≤◌, Bool, ◌&&◌, ◌==◌, eqb, ltb, Option, Some, None, List, [], ◌∷◌, length, get_or, set, take, replicate, sum, refl, sym, ap, ◌∙◌, inl, inr, arith}
-use Rattle.std.specs.Prelude.{filter, fold, nat_lt, position, unwrap_or}
+use Rattle.std.proofs.Common.{◌≡◌, ℕ, ◌+◌, ◌-◌, ◌<◌, ◌≤◌, Bool, ◌&&◌, ◌==◌, Option, List, length, get_or, take, sum, sym, ap, ◌∙◌, inl, inr, arith}
+use Rattle.std.specs.Prelude.{filter, nat_lt, position, unwrap_or}
 use Rattle.std.proofs.lemmas.Bool.{cases_lt, lt-ltb, le-ltb}
-use Rattle.std.proofs.lemmas.List.{length-set, length-replicate}
-use Rattle.std.proofs.lemmas.List.Quantifiers.{position-Some}
 use Rattle.std.proofs.lemmas.List.Sums.{get_or-le-sum_by, sum_by-set, sum_by_more, sum_by-take-le}
 use Rattle.items.specs.Game.{GameNumbers, IsGame}
 use Rattle.items.specs.Packable.{Packable}
-use Rattle.online_play.specs.Algorithm.{IsAlgorithm}
-use Rattle.online_play.specs.Rules.{stays_below, lowest_bin, greatest, least, first_fit, best_fit, least_loaded, placed}
+use Rattle.online_play.specs.Algorithm.{placed}
+use Rattle.online_play.specs.Rules.{lowest_bin, greatest, least, best_fit}
 use Rattle.online_play.specs.Replays.{rule_of}
 use Rattle.online_play.specs.PlayersAnswer.{NamesABin, first_fit_names, best_fit_names, least_loaded_names}
 use Rattle.online_play.specs.declared.rule.Rule.{Rule}

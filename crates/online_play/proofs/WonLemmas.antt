@@ -1,7 +1,7 @@
 -- From a won position every algorithm is forced.
-use Rattle.std.proofs.Common.{◌≡◌, ℕ, zero, suc, ◌+◌, ◌<◌, ◌≤◌, Bool, List, [], ◌∷◌, ◌++◌, get_or, set, replicate, refl, sym, ◌∙◌, ⊎_elim, subst, arith}
-use Rattle.std.specs.Prelude.{Any, Contains}
-use Rattle.std.proofs.lemmas.List.Elements.{Contains-get_or}
+use Rattle.std.proofs.Common.{◌≡◌, ℕ, zero, suc, ◌+◌, ◌<◌, ◌≤◌, Bool, List, [], ◌∷◌, ◌++◌, ◌⊎◌, length, get_or, set, replicate, refl, sym, ◌∙◌, ⊎_elim, inl, inr, subst, arith}
+use Rattle.std.specs.Prelude.{All, Any, Contains, IsTrue}
+use Rattle.std.proofs.lemmas.List.Elements.{All-head, All-tail, Contains-get_or}
 use Rattle.std.proofs.lemmas.List.Quantifiers.{any-set}
 use Rattle.std.proofs.lemmas.List.FromFn.{fill_by_all}
 use Rattle.std.proofs.lemmas.List.{get_or-replicate, length-replicate}
@@ -14,7 +14,7 @@ use Rattle.packing_witness.proofs.PackableLemmas.{Packable-Same}
 use Rattle.loads.specs.declared.position.Position.{Position}
 use Rattle.loads.specs.After.{after}
 use Rattle.loads.specs.Loads.{loads_after}
-use Rattle.loads.specs.Wins.{Wins, IsWon, empty_position}
+use Rattle.loads.specs.Wins.{IsWinningSize, Wins, IsWon, empty_position}
 use Rattle.loads.proofs.CountLemmas.{Contains-Same}
 use Rattle.loads.proofs.LoadsLemmas.{Same-loads_after}
 use Rattle.online_play.specs.Algorithm.{IsAlgorithm, run, Forced, KeepsBelow, ForcesEvery}
@@ -115,3 +115,56 @@ lower_target_forces game target le forces answer algorithm =
         reached = let r = forced.1.reached in (r.0, r.1, r.2, r.3, omega (arith, le, r.4));
       },
     )
+
+-- an item that wins still wins where what is allowed, packable, reached or won next is more
+winning_size : (game other : GameNumbers) (allowed wider : List ℕ → ℕ → Bool) (P Q : Position → Type 0) (position : Position) (size : ℕ)
+    → (IsTrue (allowed position.items size) → IsTrue (wider position.items size)) → (Packable game (position.items ++ size ∷ []) → Packable other (position.items ++ size ∷ [])) → other.target ≤ game.target
+    → ((next : Position) → P next → Q next) → IsWinningSize game allowed P position size → IsWinningSize other wider Q position size
+winning_size game other allowed wider P Q position size more fit le each w = record {
+  allows = more w.allows;
+  may_come = fit w.may_come;
+  each_load = λ load member. ⊎_elim (λ reached. inl (omega (arith, le, reached))) (λ next. inr (each (after position load size) next)) (w.each_load load member);
+}
+
+pub Wins-more_items : (game : GameNumbers) (allowed : List ℕ → ℕ → Bool) (few many : ℕ) (position : Position) → few ≤ many → Wins game allowed few position → Wins game allowed many position
+unfolding Wins
+Wins-more_items game allowed zero many position le wins = absurd wins
+Wins-more_items game allowed (suc few) zero position le wins = absurd (omega arith)
+Wins-more_items game allowed (suc few) (suc many) position le wins = (
+  wins.0,
+  winning_size game game allowed allowed (Wins game allowed few) (Wins game allowed many) position wins.0 (λ h. h) (λ p. p) (omega arith)
+      (λ next w. Wins-more_items game allowed few many next (omega arith) w) wins.1,
+)
+
+pub Wins-more_sizes : (game : GameNumbers) (allowed wider : List ℕ → ℕ → Bool) (n : ℕ) (position : Position) → ((items : List ℕ) (size : ℕ) → IsTrue (allowed items size) → IsTrue (wider items size))
+    → Wins game allowed n position → Wins game wider n position
+unfolding Wins
+Wins-more_sizes game allowed wider zero position more wins = absurd wins
+Wins-more_sizes game allowed wider (suc n) position more wins = (
+  wins.0,
+  winning_size game game allowed wider (Wins game allowed n) (Wins game wider n) position wins.0 (more position.items wins.0) (λ p. p) (omega arith)
+      (λ next w. Wins-more_sizes game allowed wider n next more w) wins.1,
+)
+
+pub Wins-lower_target : (game : GameNumbers) (target : ℕ) (allowed : List ℕ → ℕ → Bool) (n : ℕ) (position : Position) → target ≤ game.target
+    → Wins game allowed n position → Wins (numbers game.bins game.capacity target) allowed n position
+unfolding Wins
+Wins-lower_target game target allowed zero position le wins = absurd wins
+Wins-lower_target game target allowed (suc n) position le wins = (
+  wins.0,
+  winning_size game (numbers game.bins game.capacity target) allowed allowed (Wins game allowed n) (Wins (numbers game.bins game.capacity target) allowed n) position wins.0 (λ h. h)
+      (Packable-at_target game target (position.items ++ wins.0 ∷ [])) le (λ next w. Wins-lower_target game target allowed n next le w) wins.1,
+)
+
+-- loads that are all 0 are the loads before the first item
+all_zero : (n : ℕ) (loads : List ℕ) → length loads ≡ n → All (λ load. load ≡ 0) loads → loads ≡ replicate n 0
+all_zero zero [] e h = refl
+all_zero zero (load ∷ loads) e h = absurd (omega arith)
+all_zero (suc n) [] e h = absurd (omega arith)
+all_zero (suc n) (load ∷ loads) e h =
+    let first : load ≡ 0 = All-head (λ load. load ≡ 0) load loads h in
+    let others = all_zero n loads (omega arith) (All-tail (λ load. load ≡ 0) load loads h) in
+    cc
+
+pub empty_is : (game : GameNumbers) (position : Position) → length position.loads ≡ game.bins → All (λ load. load ≡ 0) position.loads → position.items ≡ [] → position ≡ empty_position game
+empty_is game position n zeros none = let loads = all_zero game.bins position.loads n zeros in λ i. record { loads = loads i; items = none i }

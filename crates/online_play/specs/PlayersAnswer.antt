@@ -7,8 +7,8 @@ use Rattle.std.proofs.Math.Dec.{lit≤}
 use Rattle.std.proofs.lemmas.List.{length-set, length-replicate}
 use Rattle.std.proofs.lemmas.List.Quantifiers.{position-Some}
 use Rattle.items.specs.Game.{GameNumbers, IsGame}
-use Rattle.online_play.specs.Algorithm.{IsAlgorithm}
-use Rattle.online_play.specs.Rules.{stays_below, lowest_bin, greatest, least, first_fit, best_fit, least_loaded, placed}
+use Rattle.online_play.specs.Algorithm.{IsAlgorithm, placed}
+use Rattle.online_play.specs.Rules.{stays_below, lowest_bin, greatest, least, first_fit, best_fit, least_loaded}
 use Rattle.online_play.specs.Replays.{loads_under, answer_under}
 
 -- the lowest bin is one of the bins
@@ -30,8 +30,8 @@ first_fit_names = record { in_range = λ target loads size l. lowest_bin_in_rang
 pub best_fit_names : NamesABin best_fit
 best_fit_names = record {
   in_range = λ target loads size l.
-    let most = greatest (filter (stays_below target size) loads) in
-    lowest_bin_in_range (λ load. stays_below target size load && load == most) loads l;
+      let most = greatest (filter (stays_below target size) loads) in
+      lowest_bin_in_range (λ load. stays_below target size load && load == most) loads l;
 }
 
 pub least_loaded_names : NamesABin least_loaded
@@ -61,4 +61,3 @@ answers_as_algorithm rule names game legal items some packable =
     let size : ℕ = slice_index items (length items - 1) in
     let some : 0 < length loads = subst (λ k. 0 < k) (sym n) (le_trans (lit≤ tt) legal.bins.low) in
     subst (λ k. rule game.target loads size < k) n (names.in_range game.target loads size some)
-

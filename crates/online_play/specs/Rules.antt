@@ -1,5 +1,4 @@
-use Rattle.std.specs.Prelude.{ℕ, ◌+◌, ◌-◌, ◌==◌, Bool, ◌&&◌, nat_lt, List, [], ◌∷◌, filter, fold, length, take, position, replicate, slice_index, slice_set, unwrap_or, max, min}
-use Rattle.items.specs.Game.{GameNumbers}
+use Rattle.std.specs.Prelude.{ℕ, ◌+◌, ◌==◌, Bool, ◌&&◌, nat_lt, List, [], ◌∷◌, filter, fold, position, unwrap_or, max, min}
 
 -- whether a load stays below the target with one more item
 abbrev pub stays_below : ℕ → ℕ → ℕ → Bool
@@ -31,7 +30,3 @@ best_fit target loads size =
 -- least loaded: the least load, and of the bins with that load the lowest
 abbrev pub least_loaded : ℕ → List ℕ → ℕ → ℕ
 least_loaded target loads size = lowest_bin (λ load. load == least loads) loads
-
--- the loads by bin number after an item of this size went to a bin
-abbrev pub placed : List ℕ → ℕ → ℕ → List ℕ
-placed loads bin size = slice_set loads bin (slice_index loads bin + size)

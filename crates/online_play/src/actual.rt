@@ -2,7 +2,7 @@
 
 ghost use Rattle.std.specs.Prelude.{◌≡◌, ◌+◌, ◌<◌, ◌≤◌, length, replicate, slice_index};
 ghost use Rattle.items.specs.Game.{IsGame};
-ghost use Rattle.online_play.specs.Rules.{placed};
+ghost use Rattle.online_play.specs.Algorithm.{placed};
 
 use items::Game;
 use std::marker::Model;
@@ -45,11 +45,11 @@ impl Actual {
         &self.loads[..self.bins]
     }
 
-    // Adds an item to a bin.
-    pub(crate) fn put(&mut self, bin: u8, size: u16)
+    /// Adds an item of this size to a bin.
+    pub fn put(&mut self, bin: u8, size: u16)
         requires in_range { bin < length self.old }
         requires fits { slice_index self.old bin + size < 65536 }
-        ensures { self.new ≡ placed self.old bin size }
+        ensures added { self.new ≡ placed self.old bin size }
     {
         self.loads[usize::from(bin)] += size;
     }

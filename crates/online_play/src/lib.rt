@@ -12,3 +12,6 @@ pub use actual::Actual;
 pub use online::{Online, loads_after};
 pub use players::{BestFit, FirstFit, LeastLoaded};
 pub use transcript::{Bins, Name, Player, Transcript};
+
+#[cfg(test)]
+mod tests;

@@ -88,7 +88,9 @@ fn first_below(loads: &[u16], limit: u16) -> Option<usize>
 fn first_below_with(loads: &[u16], limit: u16, wanted: u16) -> Option<usize>
     ensures { result ≡ position (λ load. nat_lt load limit && load == wanted) loads.now }
 {
-    loads.iter().position(|load| *load < limit && *load == wanted)
+    loads
+        .iter()
+        .position(|load| *load < limit && *load == wanted)
 }
 
 fn first_with(loads: &[u16], wanted: u16) -> Option<usize>

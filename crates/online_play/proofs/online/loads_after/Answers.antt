@@ -28,6 +28,6 @@ loop-i-preserved g c =
     let algorithm = g.O.Online.is_algorithm c.args.player.now c.args.game.now legal in
     let answer = g.O.Online.answer c.args.player.now c.args.game.now in
     let within = bin_in_range c.args.game.now answer c.args.history.now legal algorithm c.requires.packable
-        c.loop-i.i c.place-bin.result c.loop-i.actual c.loop-i.invariant c.loop-i-test.true c.place-bin.ensures.value in
+    c.loop-i.i c.place-bin.result c.loop-i.actual c.loop-i.invariant c.loop-i-test.true c.place-bin.ensures.value in
     run_more c.args.game.now answer c.args.history.now legal algorithm c.requires.packable c.loop-i.i c.place-bin.result c.loop-i.actual c.put.new.self
-    c.loop-i.invariant c.loop-i-test.true within c.place-bin.ensures.value c.put.ensures
+    c.loop-i.invariant c.loop-i-test.true within c.place-bin.ensures.value c.put.ensures.added

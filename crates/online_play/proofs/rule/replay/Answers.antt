@@ -1,5 +1,5 @@
-use Rattle.std.proofs.Common.{◌<◌, arith, get_or, length}
-use Rattle.online_play.proofs.RuleLemmas.{replay_fits, replay_total, named_in_range}
+use Rattle.std.proofs.Common.{arith, get_or}
+use Rattle.online_play.proofs.RuleLemmas.{replay_fits, named_in_range}
 use Rattle.online_play.proofs.rule.replay.Goals as goal
 
 pub put-requires-clause-in_range : goal.put-requires-clause-in_range
