@@ -1,12 +1,170 @@
 //! The lines that are nodes of the adversary. Their forms are this project's.
 
-ghost use Rattle.std.specs.Prelude.{IfOk, IfSome, IfNone};
-ghost use Rattle.strategy_text.specs.Text.{AnyNode, of_adversary};
+ghost use Rattle.std.specs.Prelude.{◌≡◌, ◌∷◌, [], IfOk, IfSome, IfNone, codes};
 ghost use Rattle.strategy_text.specs.declared.node.AdvNode.{AdvNode};
+ghost use Rattle.strategy_text.specs.Text.{AnyNode, of_adversary};
 ghost use Rattle.strategy_text.specs.Spelling.{SpellsNode};
+ghost use Rattle.strategy_text.specs.Words.{after};
+ghost use Rattle.strategy_text.specs.Reading.{Takes, Reads, Gives, list_at, each_at, bins_at, pack_at, optional_pack_at, then_at, placement_at, placements_at, send_at, burst_at, step_at, adversary_at};
 
-use crate::node::{AdvNode, Format};
+use crate::node::{AdvNode, Format, Placement, Placements, Step, Then};
+use crate::position::{list, position};
+use crate::stop::{LINE_BYTES, Stop};
+use crate::words::Words;
+use items::{Nums, Sequence};
+use packing_witness::Packing;
 use std::alloc::{AllocError, Global};
+
+/// The lists of a packing whose first was read.
+fn bins(alloc: Global, words: &mut Words, first: Nums) -> Result<Packing, Stop>
+    ensures { Reads result words.new (bins_at first words.old) }
+{
+    let mut packing = Packing::new(alloc);
+    packing.push_bin(first)?;
+    while words.accept(b"/") {
+        let bin = list(alloc, words)?;
+        packing.push_bin(bin)?;
+    }
+    Ok(packing)
+}
+
+/// The lists of a packing, with a slash between two.
+#[tactic(auto, unfolding(crate::specs::Reading::pack_at))]
+fn packing(alloc: Global, words: &mut Words) -> Result<Packing, Stop>
+    ensures { Reads result words.new (pack_at words.old) }
+{
+    let first = list(alloc, words)?;
+    bins(alloc, words, first)
+}
+
+/// A packing, which may be missing in format 2.
+#[tactic(auto, unfolding(crate::specs::Reading::optional_pack_at))]
+fn optional_packing(
+    alloc: Global,
+    format: Format,
+    words: &mut Words,
+) -> Result<Option<Packing>, Stop>
+    ensures { Reads result words.new (optional_pack_at format words.old) }
+{
+    if words.accept(b"pack") {
+        let pack = packing(alloc, words)?;
+        return Ok(Some(pack));
+    }
+    match format {
+        Format::One => Err(Stop::Form),
+        Format::Two => Ok(None),
+    }
+}
+
+/// What follows a placement.
+#[tactic(auto, unfolding(crate::specs::Reading::then_at))]
+fn next(words: &mut Words) -> Option<Then>
+    ensures { Takes result words.new (then_at words.old) }
+{
+    if words.accept(b"over") {
+        return Some(Then::Over);
+    }
+    if !words.accept(b"to") {
+        return None;
+    }
+    let child = words.number(u32::MAX)?;
+    Some(Then::To(child))
+}
+
+/// A placement after its first word.
+#[tactic(auto, unfolding(crate::specs::Reading::placement_at))]
+fn placement(words: &mut Words) -> Option<Placement>
+    ensures { Takes result words.new (placement_at words.old) }
+{
+    let load = words.size()?;
+    let next = next(words)?;
+    Some(Placement { load, next })
+}
+
+/// The placements.
+fn each_placement(alloc: Global, words: &mut Words) -> Result<Placements, Stop>
+    ensures { Reads result words.new (each_at (after (codes "on")) placement_at words.old) }
+{
+    let mut placements = Sequence::new(alloc);
+    while words.accept(b"on") {
+        let Some(placement) = placement(words) else {
+            return Err(Stop::Form);
+        };
+        placements.push(placement)?;
+    }
+    Ok(placements)
+}
+
+/// The placements, at least one.
+#[tactic(auto, using(crate::proofs::Steps::some_again), unfolding(crate::specs::Reading::placements_at))]
+fn placements(alloc: Global, words: &mut Words) -> Result<Placements, Stop>
+    ensures { Reads result words.new (placements_at words.old) }
+{
+    let placements = each_placement(alloc, words)?;
+    if placements.is_empty() {
+        return Err(Stop::Form);
+    }
+    Ok(placements)
+}
+
+/// An item that is sent, after the first word.
+#[tactic(auto, unfolding(crate::specs::Reading::send_at))]
+fn send(alloc: Global, format: Format, words: &mut Words) -> Result<Step, Stop>
+    ensures { Reads result words.new (send_at format words.old) }
+{
+    let size = words.size().ok_or(Stop::Form)?;
+    let pack = optional_packing(alloc, format, words)?;
+    let placements = placements(alloc, words)?;
+    Ok(Step::Send {
+        size,
+        pack,
+        placements,
+    })
+}
+
+/// A burst.
+#[tactic(auto, unfolding(crate::specs::Reading::burst_at))]
+fn burst(alloc: Global, words: &mut Words) -> Result<Step, Stop>
+    ensures { Reads result words.new (burst_at words.old) }
+{
+    if !words.accept(b"burst") {
+        return Err(Stop::Form);
+    }
+    let count = words.size().ok_or(Stop::Form)?;
+    let size = words.size().ok_or(Stop::Form)?;
+    if !words.accept(b"pack") {
+        return Err(Stop::Form);
+    }
+    let pack = packing(alloc, words)?;
+    Ok(Step::Burst { count, size, pack })
+}
+
+/// What is sent.
+#[tactic(auto, unfolding(crate::specs::Reading::step_at))]
+fn step(alloc: Global, format: Format, words: &mut Words) -> Result<Step, Stop>
+    ensures { Reads result words.new (step_at format words.old) }
+{
+    if words.accept(b"send") {
+        return send(alloc, format, words);
+    }
+    match format {
+        Format::One => Err(Stop::Form),
+        Format::Two => burst(alloc, words),
+    }
+}
+
+/// A node of the adversary of this number.
+#[tactic(auto, unfolding(crate::specs::Reading::adversary_at))]
+fn adversary(alloc: Global, format: Format, words: &mut Words, number: u32) -> Result<AdvNode, Stop>
+    ensures { Gives result (adversary_at format number words.old) }
+{
+    let (loads, items) = position(alloc, words, number)?;
+    let step = step(alloc, format, words)?;
+    if !words.is_at_end() {
+        return Err(Stop::Form);
+    }
+    Ok(AdvNode { loads, items, step })
+}
 
 /// The node of the adversary of this number that a line of a strategy of this format, without its line
 /// feed, spells; None exactly where it spells none. Takes memory for the node alone, in time linear in
@@ -17,9 +175,15 @@ pub fn parse_adversary(
     line: &[u8],
     number: u32,
 ) -> Result<Option<AdvNode>, AllocError>
-    requires stub { ⊥ }
     ensures spelled { IfOk result (λ read. IfSome read (λ node. SpellsNode format number line.now (of_adversary node))) }
     ensures refused { IfOk result (λ read. IfNone read ((node : AdvNode) → SpellsNode format number line.now (of_adversary node) → ⊥)) }
 {
-    unreachable!()
+    if line.len() > LINE_BYTES {
+        return Ok(None);
+    }
+    match adversary(alloc, format, &mut Words::new(line), number) {
+        Ok(node) => Ok(Some(node)),
+        Err(Stop::Form) => Ok(None),
+        Err(Stop::Memory) => Err(AllocError),
+    }
 }

@@ -4,8 +4,12 @@
 mod adversary;
 mod algorithm;
 mod head;
+pub mod laws;
 mod node;
+mod position;
 mod rule;
+mod stop;
+mod words;
 
 pub use adversary::parse_adversary;
 pub use algorithm::parse_algorithm;

@@ -1,0 +1,16 @@
+pub mod Split
+pub mod Numerals
+pub mod Lines
+pub mod Steps
+pub mod HeadLines
+pub mod Loops
+pub mod Taken
+pub mod StepsTaken
+pub mod ActsTaken
+pub mod Again
+pub mod StepsAgain
+pub mod ActsAgain
+pub mod NodeWords
+pub mod NodeLines
+pub mod NodesSame
+pub mod Texts

@@ -1,0 +1,128 @@
+-- Reading values one after the other, as a loop does.
+use Rattle.std.proofs.Common.{◌≡◌, ℕ, zero, suc, ◌<◌, ◌≤◌, true, false, ◌==◌, List, [], ◌∷◌, ◌++◌, length, Option, Some, None, Result, Err, refl, sym, ap, ◌∙◌, arith, append_assoc}
+use Rattle.std.specs.Option.{option_map}
+use Rattle.std.proofs.lemmas.List.{append-nil}
+use Rattle.std.proofs.lemmas.Bool.Decides.{nat_tests}
+use Rattle.strategy_text.specs.declared.stop.Stop.{Stop}
+use Rattle.strategy_text.specs.declared.stop.Stop.TheVariants.{Memory, Form}
+use Rattle.strategy_text.specs.Words.{number_of, after, number_at}
+use Rattle.strategy_text.specs.Reading.{Reads, numbers_at, with_front, many_at, each_at, more_words}
+use Rattle.strategy_text.proofs.Steps.{mapped, after_takes}
+
+-- ---- numbers
+
+-- the numbers so far, and those of what is left
+abbrev pub numbers_so_far : List ℕ → List (List ℕ) → List ℕ × List (List ℕ)
+numbers_so_far front words = (front ++ (numbers_at words).0, (numbers_at words).1)
+
+mapped_none : (o : Option ℕ) (ws : List (List ℕ)) → (let r : Option (ℕ × List (List ℕ)) = option_map (λ n. (n, ws)) o in r) ≡ None → o ≡ None
+mapped_none None ws e = refl
+mapped_none (Some n) ws e = absurd cc
+
+pub numbers_more : (front : List ℕ) (n : ℕ) (words rest : List (List ℕ)) (total : List ℕ × List (List ℕ)) → number_at 65535 words ≡ Some (n, rest) → numbers_so_far front words ≡ total → numbers_so_far (front ++ n ∷ []) rest ≡ total
+unfolding numbers_at number_at
+numbers_more front n [] rest total e h = absurd cc
+numbers_more front n (w ∷ ws) rest total e h =
+    let m = mapped (number_of 65535 w) ws (n, rest) e in
+    let one : numbers_so_far front (w ∷ ws) ≡ (front ++ (n ∷ (numbers_at ws).0), (numbers_at ws).1) = rw m.0 refl in
+    let two : numbers_so_far (front ++ n ∷ []) ws ≡ (front ++ (n ∷ (numbers_at ws).0), (numbers_at ws).1) = ap (λ (ns : List ℕ). (ns, (numbers_at ws).1)) (append_assoc front (n ∷ []) (numbers_at ws).0) in
+    rw (← m.1) (two ∙ sym one ∙ h)
+
+pub numbers_end : (front : List ℕ) (words : List (List ℕ)) (total : List ℕ × List (List ℕ)) → number_at 65535 words ≡ None → numbers_so_far front words ≡ total → total ≡ (front, words)
+unfolding numbers_at number_at
+numbers_end front [] total e h = sym h ∙ ap (λ (ns : List ℕ). (ns, [])) (append-nil front)
+numbers_end front (w ∷ ws) total e h =
+    let m = mapped_none (number_of 65535 w) ws e in
+    let one : numbers_so_far front (w ∷ ws) ≡ (front ++ [], w ∷ ws) = rw m refl in
+    sym h ∙ one ∙ ap (λ (ns : List ℕ). (ns, w ∷ ws)) (append-nil front)
+
+pub number_shrinks : (high : ℕ) (words : List (List ℕ)) (x : ℕ × List (List ℕ)) → number_at high words ≡ Some x → length x.1 < length words
+unfolding number_at
+number_shrinks high [] x e = absurd cc
+number_shrinks high (w ∷ ws) x e = omega (arith, ap length (mapped (number_of high w) ws x e).1)
+
+pub after_shrinks : (word : List ℕ) (words rest : List (List ℕ)) → after word words ≡ Some rest → length rest < length words
+after_shrinks word words rest e = omega (arith, ap length (after_takes word words rest e))
+
+-- ---- values of which each has its beginning
+
+-- what is left of words after their beginning and a value
+abbrev pub Item : Type 0 → Type 0
+Item X = List (List ℕ) → Option (X × List (List ℕ))
+
+abbrev pub Beginning : Type 0
+Beginning = List (List ℕ) → Option (List (List ℕ))
+
+-- the values so far, and those of what is left, are these in all
+pub record Goes {X : Type 0} (begin : List (List ℕ) → Option (List (List ℕ))) (item : List (List ℕ) → Option (X × List (List ℕ))) (front : List X) (words : List (List ℕ)) (total : Option (List X × List (List ℕ))) : Type 0 where
+  pub most : ℕ
+  pub enough : length words ≤ most
+  pub same : with_front front (many_at begin item most words) ≡ total
+
+pub many_begins : {X : Type 0} (begin : Beginning) (item : Item X) (front : List X) (words : List (List ℕ)) → Goes begin item front words (with_front front (each_at begin item words))
+many_begins begin item front words = record { most = length words; enough = omega arith; same = refl }
+
+regroup : {X : Type 0} (front : List X) (x : X) (read : Option (List X × List (List ℕ))) → with_front front (with_front (x ∷ []) read) ≡ with_front (front ++ x ∷ []) read
+regroup front x None = refl
+regroup {X} front x (Some y) = ap (λ (xs : List X). Some (xs, y.1)) (sym (append_assoc front (x ∷ []) y.0))
+
+more_by : {X : Type 0} (begin : Beginning) (item : Item X) (front : List X) (words rest left : List (List ℕ)) (x : X) (total : Option (List X × List (List ℕ))) (most : ℕ)
+    → begin words ≡ Some rest → item rest ≡ Some (x, left) → length left < length words → length words ≤ most → with_front front (many_at begin item most words) ≡ total → Goes begin item (front ++ x ∷ []) left total
+unfolding many_at
+more_by begin item front words rest left x total zero e k less enough h = absurd (omega arith)
+more_by begin item front words rest left x total (suc n) e k less enough h =
+    let one : with_front front (many_at begin item (suc n) words) ≡ with_front (front ++ x ∷ []) (many_at begin item n left) = rw (e, k) (regroup front x (many_at begin item n left)) in
+    record { most = n; enough = omega arith; same = sym one ∙ h }
+
+pub many_more : {X : Type 0} (begin : Beginning) (item : Item X) (front : List X) (words rest left : List (List ℕ)) (x : X) (total : Option (List X × List (List ℕ)))
+    → begin words ≡ Some rest → item rest ≡ Some (x, left) → length left < length words → Goes begin item front words total → Goes begin item (front ++ x ∷ []) left total
+many_more begin item front words rest left x total e k less h = more_by begin item front words rest left x total h.most e k less h.enough h.same
+
+stops_by : {X : Type 0} (begin : Beginning) (item : Item X) (front : List X) (words rest : List (List ℕ)) (total : Option (List X × List (List ℕ))) (most : ℕ)
+    → begin words ≡ Some rest → item rest ≡ None → 0 < length words → length words ≤ most → with_front front (many_at begin item most words) ≡ total → total ≡ None
+unfolding many_at
+stops_by begin item front words rest total zero e k some enough h = absurd (omega arith)
+stops_by begin item front words rest total (suc n) e k some enough h =
+    let one : with_front front (many_at begin item (suc n) words) ≡ None = rw (e, k) refl in
+    sym h ∙ one
+
+pub many_stops : {X : Type 0} (begin : Beginning) (item : Item X) (front : List X) (words rest : List (List ℕ)) (total : Option (List X × List (List ℕ)))
+    → begin words ≡ Some rest → item rest ≡ None → 0 < length words → Goes begin item front words total → total ≡ None
+many_stops begin item front words rest total e k some h = stops_by begin item front words rest total h.most e k some h.enough h.same
+
+ends_by : {X : Type 0} (begin : Beginning) (item : Item X) (front : List X) (words : List (List ℕ)) (total : Option (List X × List (List ℕ))) (most : ℕ)
+    → begin words ≡ None → with_front front (many_at begin item most words) ≡ total → total ≡ Some (front, words)
+unfolding many_at
+ends_by {X} begin item front words total zero e h = sym h ∙ ap (λ (xs : List X). Some (xs, words)) (append-nil front)
+ends_by {X} begin item front words total (suc n) e h =
+    let one : with_front front (many_at begin item (suc n) words) ≡ Some (front ++ [], words) = rw e refl in
+    sym h ∙ one ∙ ap (λ (xs : List X). Some (xs, words)) (append-nil front)
+
+pub many_ends : {X : Type 0} (begin : Beginning) (item : Item X) (front : List X) (words : List (List ℕ)) (total : Option (List X × List (List ℕ)))
+    → begin words ≡ None → Goes begin item front words total → total ≡ Some (front, words)
+many_ends begin item front words total e h = ends_by begin item front words total h.most e h.same
+
+pub front-nil : {X : Type 0} (read : Option (List X × List (List ℕ))) → with_front [] read ≡ read
+front-nil None = refl
+front-nil (Some x) = refl
+
+pub from_front : {X : Type 0} (front : List X) (read r : Option (List X × List (List ℕ))) → front ≡ [] → with_front front read ≡ r → read ≡ r
+from_front front read r e h = sym (rw e (front-nil read)) ∙ h
+
+pub many_fails : {X : Type 0} (begin : Beginning) (item : Item X) (front : List X) (words rest left after-it : List (List ℕ)) (total : Option (List X × List (List ℕ))) (e : Stop)
+    → begin words ≡ Some rest → 0 < length words → Reads (let r : Result X Stop = Err e in r) left (item rest) → Goes begin item front words total → Reads (let r : Result (List X) Stop = Err e in r) after-it total
+many_fails begin item front words rest left after-it total Memory e some k h = tt
+many_fails begin item front words rest left after-it total Form e some k h = many_stops begin item front words rest total e k some h
+
+-- ---- words that are left
+
+pub more_some : (words : List (List ℕ)) → (length words == 0) ≡ false → (more_words words ≡ Some words) × (0 < length words)
+more_some [] e = absurd cc
+more_some (w ∷ ws) e = (refl, omega arith)
+
+full : (n : ℕ) → (suc n == 0) ≡ true → ⊥
+full n e = grind (arith, nat_tests)
+
+pub more_none : (words : List (List ℕ)) → (length words == 0) ≡ true → more_words words ≡ None
+more_none [] e = refl
+more_none (w ∷ ws) e = absurd (full (length ws) e)
