@@ -1,2 +1,6 @@
+pub mod Nodes
+pub mod NodeRules
 pub mod Rules
 pub mod Legal
+pub mod Judging
+pub mod Laws

@@ -1,9 +1,8 @@
 //! The adversary's side: the rules of a node, and what a legal strategy is.
 #![tactic(auto)]
 
+pub mod laws;
 mod rules;
+mod step;
 
-pub use rules::{node_fault, node_position};
-
-#[cfg(test)]
-mod tests;
+pub use rules::{judge, node_fault};

@@ -1,131 +1,264 @@
 //! The rules of an adversary's node.
 
-ghost use Rattle.std.specs.Prelude.{◌≡◌, ◌<◌, ◌↔◌, ◌+◌, ◌≤◌, ◌∷◌, [], ◌++◌, All, IsTrue, MatchOption, Contains, length, sum, map};
+ghost use Rattle.std.specs.Prelude.{◌≡◌, ◌<◌, ◌↔◌, ◌+◌, ◌-◌, ◌/◌, ◌*◌, ◌≤◌, ◌∷◌, [], ◌++◌, All, IsTrue, MatchOption};
+ghost use Rattle.std.specs.Prelude.{MatchResult, Contains, Some, length, replicate, sum, map};
 ghost use Rattle.items.specs.Multiset.{sizes_of, put_ascending, IsSize, IsMultiset};
-ghost use Rattle.std.specs.List.{AllByRecursion};
 ghost use Rattle.items.specs.Packable.{IsPacking};
-ghost use Rattle.loads.specs.Loads.{IsLoads, loads_after};
+ghost use Rattle.loads.specs.After.{after};
 ghost use Rattle.loads.specs.Descending.{distinct};
-ghost use Rattle.adversary_graph.specs.Rules.{MeetsRules, Breaks, Meets, IsFirstBroken, rules_past_items, AreItemsOf, IsOverAtTarget, LeadsTo, IsEmptyPosition, position, position_of};
+ghost use Rattle.loads.specs.Loads.{IsLoads};
+ghost use Rattle.loads.specs.Position.{AreItemsOf, IsEmptyPosition};
+ghost use Rattle.strategy_text.specs.Rules.{AllMet, IsFirstBroken};
+ghost use Rattle.adversary_graph.specs.Nodes.{position_of, sent_size, sent_items, placements_of, IsOfFormat};
+ghost use Rattle.adversary_graph.specs.Rules.{MeetsRules, Breaks, Meets, rules_past_items, most_below_target};
+ghost use Rattle.adversary_graph.specs.Rules.{IsLongEnough, IsPacked, PlacesEachLoad, IsOverAtTarget};
+ghost use Rattle.adversary_graph.specs.Judging.{node_at, put_all, AreItems, BreaksPastItems, LeadsOn};
 
-use items::{Game, Items};
-use loads::{Loads, Position, Positions};
+use crate::step::{is_packing_asked, sent_number, sent_size};
+use items::{Game, Items, Sizes};
+use loads::{EarlierPositions, Loads, Position};
 use packing_witness::Packing;
-use strategy_text::{AdvNode, Placement, Rule, Then};
+use strategy_text::{AdvNode, Format, Placement, Rule, Step, Then};
 
-/// The first rule that the node breaks as the node that follows the earlier ones; None exactly where it
-/// breaks none. The rule `root` is judged only where it is the last node. Takes no memory; the cost is
-/// linear in the node.
-pub fn node_fault(game: &Game, earlier: &Positions, last: bool, node: &AdvNode) -> Option<Rule>
-    requires { All (λ position. IsLoads game.now position.loads) earlier.now }
-    ensures exact { MatchOption result
-        (MeetsRules game.now (sizes_of game.now) earlier.now last node.now)
-        (Breaks game.now (sizes_of game.now) earlier.now last node.now) }
+/// The position of a node that meets every rule as the node that follows the earlier ones, or the first rule
+/// that it breaks. Items may have the given sizes, each of which is a size of the game. The rule `root` is judged
+/// only where the node is the last one. Takes no memory; the cost is linear in the node.
+pub fn judge<E: EarlierPositions>(
+    format: Format,
+    game: &Game,
+    sizes: &Sizes,
+    earlier: &E,
+    last: bool,
+    node: &AdvNode,
+) -> Result<Position, Rule>
+    requires form { IsOfFormat format node.now.step }
+    requires sizes { All (IsSize game.now.capacity) sizes.now }
+    ensures exact { MatchResult result
+        (λ position. (position ≡ position_of node.now)
+        × MeetsRules format game.now sizes.now (E.positions earlier.now) last node.now)
+        (Breaks format game.now sizes.now (E.positions earlier.now) last node.now) }
 {
     let loads = node.loads.as_slice();
     let Some(loads) = Loads::from_slice(node.loads.allocator(), game, loads) else {
-        return Some(Rule::Loads);
+        return Err(Rule::Loads);
     };
-    let Some(items) = items_of(game, &loads, node.items.as_slice()) else {
-        return Some(Rule::Items);
+    let Some(items) = items_of(game, sizes, &loads, node.items.as_slice()) else {
+        return Err(Rule::Items);
     };
-    fault_past_items(game, earlier, last, node, &loads, &items)
+    let position = Position { loads, items };
+    match fault_past_items(format, game, sizes, earlier, last, &position, &node.step) {
+        Some(rule) => Err(rule),
+        None => Ok(position),
+    }
 }
 
-/// The position of a node that meets the rules `loads` and `items`. Takes no memory.
-pub fn node_position(game: &Game, node: &AdvNode) -> Position
-    requires loads { IsLoads game.now node.now.loads }
-    requires items { AreItemsOf (sizes_of game.now) node.now.loads node.now.items }
-    ensures value { result ≡ position_of node.now }
-{
-    let loads = node.loads.as_slice();
-    let loads = Loads::from_slice(node.loads.allocator(), game, loads).unwrap();
-    let items = items_of(game, &loads, node.items.as_slice()).unwrap();
-    Position { loads, items }
-}
-
-// The first rule past `items` that the node breaks.
-fn fault_past_items(
+/// The first rule of the whole game that the node breaks as the node that follows the earlier ones; None exactly
+/// where it breaks none. The rule `root` is judged only where the node is the last one. Takes no memory; the cost
+/// is linear in the node.
+pub fn node_fault<E: EarlierPositions>(
     game: &Game,
-    earlier: &Positions,
+    format: Format,
+    earlier: &E,
     last: bool,
     node: &AdvNode,
-    loads: &Loads,
-    items: &Items,
 ) -> Option<Rule>
-    requires of_game { IsLoads game.now loads.now }
-    requires node_loads { loads.now ≡ node.now.loads }
-    requires node_items { items.now ≡ node.now.items }
+    requires form { IsOfFormat format node.now.step }
     ensures exact { MatchOption result
-        (AllByRecursion (Meets game.now (sizes_of game.now) earlier.now last node.now) rules_past_items)
-        (IsFirstBroken (Meets game.now (sizes_of game.now) earlier.now last node.now) rules_past_items) }
+        (MeetsRules format game.now (sizes_of game.now) (E.positions earlier.now) last node.now)
+        (Breaks format game.now (sizes_of game.now) (E.positions earlier.now) last node.now) }
 {
-    let placements = node.placements.as_slice();
-    if !is_size(game, node.send) {
+    match judge(format, game, &Sizes::of_game(game), earlier, last, node) {
+        Ok(_) => None,
+        Err(rule) => Some(rule),
+    }
+}
+
+// The items as a multiset; None exactly where they are not items of these loads.
+fn items_of(game: &Game, sizes: &Sizes, loads: &Loads, items: &[u16]) -> Option<Items>
+    requires sizes { All (IsSize game.now.capacity) sizes.now }
+    requires of_game { IsLoads game.now loads.now }
+    ensures exact { MatchOption result
+        (¬ AreItemsOf sizes.now loads.now items.now)
+        (λ made. (made ≡ items.now) × AreItemsOf sizes.now loads.now items.now) }
+{
+    let _capacity = game.g();
+    let Some(made) = Items::from_slice(game, items) else {
+        return None;
+    };
+    if are_allowed(sizes, items) && u32::from(made.volume()) == total_of(loads.as_slice()) {
+        Some(made)
+    } else {
+        None
+    }
+}
+
+fn are_allowed(sizes: &Sizes, items: &[u16]) -> bool
+    ensures { IsTrue result ↔ All (Contains sizes.now) items.now }
+{
+    for item in items {
+        if !sizes.contains(*item) {
+            return false;
+        }
+    }
+    true
+}
+
+fn total_of(loads: &[u16]) -> u32
+    requires { length loads.now ≤ 8 }
+    ensures { result ≡ sum loads.now }
+{
+    loads.iter().map(|load| u32::from(*load)).sum()
+}
+
+// The first rule past `items` that a node breaks which takes this step at the position.
+fn fault_past_items<E: EarlierPositions>(
+    format: Format,
+    game: &Game,
+    sizes: &Sizes,
+    earlier: &E,
+    last: bool,
+    position: &Position,
+    step: &Step,
+) -> Option<Rule>
+    requires sizes { All (IsSize game.now.capacity) sizes.now }
+    requires loads { IsLoads game.now position.now.loads }
+    requires items { AreItemsOf sizes.now position.now.loads position.now.items }
+    ensures exact { let node = node_at position.now step.now in MatchOption result
+        (AllMet (Meets format game.now sizes.now (E.positions earlier.now) last node) rules_past_items)
+        (BreaksPastItems format game.now sizes.now (E.positions earlier.now) last node) }
+{
+    let _capacity = game.g();
+    if !sizes.contains(sent_size(step)) {
         return Some(Rule::Send);
     }
-    let Some(all_items) = packed_items(game, items, node.send, &node.pack) else {
+    if !is_long_enough(game, &position.loads, step) {
+        return Some(Rule::Burst);
+    }
+    let all = all_items(&position.items, step);
+    if !is_packed(format, game, position, step, &all) {
         return Some(Rule::Pack);
-    };
-    if !place_each_load(loads, placements) {
+    }
+    if !places_each_load(&position.loads, step) {
         return Some(Rule::Placements);
     }
-    if !are_over_at_target(game, node.send, placements) {
+    if !is_over_at_target(game, step) {
         return Some(Rule::Over);
     }
-    if !lead_to_children(game, earlier, loads, &all_items, node.send, placements) {
+    if !leads_to_children(game, earlier, position, step, &all) {
         return Some(Rule::Child);
     }
-    if last && !is_empty(loads, items) {
+    if last && !is_empty(position) {
         return Some(Rule::Root);
     }
     None
 }
 
-// Whether the size is one of the game's.
-fn is_size(game: &Game, size: u16) -> bool
-    ensures exact { IsTrue result ↔ IsSize game.now.capacity size }
+// Whether a burst has more items than can come without a load that reaches the target.
+fn is_long_enough(game: &Game, loads: &Loads, step: &Step) -> bool
+    requires loads { IsLoads game.now loads.now }
+    requires size { 1 ≤ sent_size step.now }
+    ensures { IsTrue result ↔ IsLongEnough game.now loads.now step.now }
 {
-    (1..=game.g()).contains(&size)
-}
-
-// The items as a multiset; None exactly where they are not items of these loads.
-fn items_of(game: &Game, loads: &Loads, items: &[u16]) -> Option<Items>
-    requires { IsLoads game.now loads.now }
-    ensures exact { MatchOption result
-        (¬ AreItemsOf (sizes_of game.now) loads.now items.now)
-        (λ made. (made ≡ items.now) × AreItemsOf (sizes_of game.now) loads.now items.now × IsMultiset game.now.capacity items.now) }
-{
-    let _capacity = game.g();
-    let made = Items::from_slice(game, items)?;
-    if u32::from(made.volume()) == total_of(loads.as_slice()) {
-        Some(made)
-    } else {
-        None
+    match step {
+        Step::Send { .. } => true,
+        Step::Burst { count, size, .. } => most_below_target(game, *size, loads) < *count,
     }
 }
 
-// The items with the sent one; None exactly where the packing is none of them together.
-fn packed_items(game: &Game, items: &Items, send: u16, pack: &Packing) -> Option<Items>
-    requires { IsSize game.now.capacity send }
-    ensures exact { MatchOption result
-        (¬ IsPacking game.now pack.now (items.now ++ send ∷ []))
-        (λ made. (made ≡ put_ascending send items.now) × IsPacking game.now pack.now (items.now ++ send ∷ [])) }
+// How many items of this size can come without a load that reaches the target.
+fn most_below_target(game: &Game, size: u16, loads: &Loads) -> u16
+    requires loads { IsLoads game.now loads.now }
+    requires size { 1 ≤ size }
+    ensures { result ≡ most_below_target game.now size loads.now }
 {
-    let most = game.m() * game.g();
-    if items.volume() + send > most {
+    let mut most = 0u16;
+    for load in loads.as_slice() {
+        most += most_on_load(game, size, *load);
+    }
+    most
+}
+
+// How many items of this size can come to a bin of this load that stays below the target.
+fn most_on_load(game: &Game, size: u16, load: u16) -> u16
+    requires below { load < game.now.target }
+    requires size { 1 ≤ size }
+    ensures value { result ≡ (game.now.target - 1 - load) / size }
+    ensures small { result ≤ 239 }
+{
+    (game.t() - 1 - load) / size
+}
+
+// The items with all that the step sends; None exactly where their total is above the limit of a multiset.
+fn all_items(items: &Items, step: &Step) -> Option<Items>
+    requires { IsSize 120 (sent_size step.now) }
+    ensures { AreItems items.now (sent_items step.now) result }
+{
+    let size = sent_size(step);
+    let number = sent_number(step);
+    if u32::from(items.volume()) + u32::from(number) * u32::from(size) > 1912 {
         return None;
     }
-    let made = items.add(send);
-    if pack.holds(game, &made) {
-        Some(made)
-    } else {
-        None
+    Some(add_times(items, size, number))
+}
+
+// The multiset with so many more items of one size.
+fn add_times(items: &Items, size: u16, number: u16) -> Items
+    requires size { IsSize 120 size }
+    requires fits { sum items.now + number * size ≤ 1912 }
+    ensures { result ≡ put_all (replicate number size) items.now }
+{
+    let mut made = items.copy();
+    for _i in 0..number {
+        made.put(size);
+    }
+    made
+}
+
+// Whether a packing is shown exactly where it is asked for, and packs the items with all that the step sends.
+fn is_packed(
+    format: Format,
+    game: &Game,
+    position: &Position,
+    step: &Step,
+    all: &Option<Items>,
+) -> bool
+    requires { AreItems position.now.items (sent_items step.now) all.now }
+    ensures { IsTrue result ↔ IsPacked game.now format (node_at position.now step.now) }
+{
+    let asked = is_packing_asked(format, step);
+    match step {
+        Step::Send {
+            pack: Some(pack),
+            ..
+        } => asked && packs(game, pack, position, step, all),
+        Step::Send { pack: None, .. } => !asked,
+        Step::Burst { pack, .. } => asked && packs(game, pack, position, step, all),
     }
 }
 
-// Whether the placements' loads are the distinct loads, descending.
-fn place_each_load(loads: &Loads, placements: &[Placement]) -> bool
+// Whether the bins are a packing of the items with all that the step sends.
+fn packs(game: &Game, pack: &Packing, position: &Position, step: &Step, all: &Option<Items>) -> bool
+    requires { AreItems position.now.items (sent_items step.now) all.now }
+    ensures { IsTrue result ↔ IsPacking game.now pack.now (position.now.items ++ sent_items step.now) }
+{
+    let _capacity = game.g();
+    match all {
+        Some(all) => pack.holds(game, all),
+        None => false,
+    }
+}
+
+// Whether the placements of a sending node have its different loads, descending.
+fn places_each_load(loads: &Loads, step: &Step) -> bool
+    ensures { IsTrue result ↔ PlacesEachLoad loads.now step.now }
+{
+    match step {
+        Step::Send { placements, .. } => are_distinct_loads(loads, placements.as_slice()),
+        Step::Burst { .. } => true,
+    }
+}
+
+fn are_distinct_loads(loads: &Loads, placements: &[Placement]) -> bool
     ensures exact { IsTrue result ↔ (map (λ placement. placement.load) placements.now ≡ distinct loads.now) }
 {
     if placements.len() != loads.distinct_count() {
@@ -140,18 +273,31 @@ fn place_each_load(loads: &Loads, placements: &[Placement]) -> bool
 }
 
 // Whether each placement is over exactly where its load with the sent item reaches the target.
-fn are_over_at_target(game: &Game, send: u16, placements: &[Placement]) -> bool
-    ensures exact { IsTrue result ↔ All (IsOverAtTarget game.now send) placements.now }
+fn is_over_at_target(game: &Game, step: &Step) -> bool
+    ensures { IsTrue result ↔ All (IsOverAtTarget game.now (sent_size step.now)) (placements_of step.now) }
+{
+    match step {
+        Step::Send {
+            size,
+            placements,
+            ..
+        } => are_over_at_target(game, *size, placements.as_slice()),
+        Step::Burst { .. } => true,
+    }
+}
+
+fn are_over_at_target(game: &Game, size: u16, placements: &[Placement]) -> bool
+    ensures exact { IsTrue result ↔ All (IsOverAtTarget game.now size) placements.now }
 {
     placements
         .iter()
-        .all(|placement| is_over_at_target(game, send, placement))
+        .all(|placement| ends_at_target(game, size, placement))
 }
 
-fn is_over_at_target(game: &Game, send: u16, placement: &Placement) -> bool
-    ensures exact { IsTrue result ↔ IsOverAtTarget game.now send placement.now }
+fn ends_at_target(game: &Game, size: u16, placement: &Placement) -> bool
+    ensures exact { IsTrue result ↔ IsOverAtTarget game.now size placement.now }
 {
-    let reached = u32::from(placement.load) + u32::from(send) >= u32::from(game.t());
+    let reached = u32::from(placement.load) + u32::from(size) >= u32::from(game.t());
     match placement.next {
         Then::Over => reached,
         Then::To(_) => !reached,
@@ -159,63 +305,83 @@ fn is_over_at_target(game: &Game, send: u16, placement: &Placement) -> bool
 }
 
 // Whether each child is an earlier node at the position after the placement.
-fn lead_to_children(
+fn leads_to_children<E: EarlierPositions>(
     game: &Game,
-    earlier: &Positions,
-    loads: &Loads,
-    all_items: &Items,
-    send: u16,
-    placements: &[Placement],
+    earlier: &E,
+    position: &Position,
+    step: &Step,
+    all: &Option<Items>,
 ) -> bool
-    requires of_game { IsLoads game.now loads.now }
-    requires placed { map (λ placement. placement.load) placements.now ≡ distinct loads.now }
-    requires over { All (IsOverAtTarget game.now send) placements.now }
-    ensures exact { IsTrue result ↔ All (λ placement. LeadsTo earlier.now placement.next (position (loads_after loads.now placement.load send) all_items.now)) placements.now }
+    requires loads { IsLoads game.now position.now.loads }
+    requires total { sum position.now.items ≡ sum position.now.loads }
+    requires all { AreItems position.now.items (sent_items step.now) all.now }
+    requires placed { PlacesEachLoad position.now.loads step.now }
+    requires over { All (IsOverAtTarget game.now (sent_size step.now)) (placements_of step.now) }
+    ensures { IsTrue result ↔ All (LeadsOn (E.positions earlier.now) position.now (sent_size step.now)) (placements_of step.now) }
+{
+    match step {
+        Step::Send {
+            size,
+            placements,
+            ..
+        } => { lead_to_children(game, earlier, position, *size, placements.as_slice(), all) }
+        Step::Burst { .. } => true,
+    }
+}
+
+fn lead_to_children<E: EarlierPositions>(
+    game: &Game,
+    earlier: &E,
+    position: &Position,
+    size: u16,
+    placements: &[Placement],
+    all: &Option<Items>,
+) -> bool
+    requires loads { IsLoads game.now position.now.loads }
+    requires total { sum position.now.items ≡ sum position.now.loads }
+    requires all { AreItems position.now.items (size ∷ []) all.now }
+    requires placed { map (λ placement. placement.load) placements.now ≡ distinct position.now.loads }
+    requires over { All (IsOverAtTarget game.now size) placements.now }
+    ensures exact { IsTrue result ↔ All (LeadsOn (E.positions earlier.now) position.now size) placements.now }
 {
     for placement in placements {
-        if !leads_to_child(game, earlier, loads, all_items, send, placement) {
+        if !leads_to_child(game, earlier, position, size, placement, all) {
             return false;
         }
     }
     true
 }
 
-fn leads_to_child(
+fn leads_to_child<E: EarlierPositions>(
     game: &Game,
-    earlier: &Positions,
-    loads: &Loads,
-    all_items: &Items,
-    send: u16,
+    earlier: &E,
+    position: &Position,
+    size: u16,
     placement: &Placement,
+    all: &Option<Items>,
 ) -> bool
-    requires of_game { IsLoads game.now loads.now }
-    requires placed { Contains loads.now placement.now.load }
-    requires over { IsOverAtTarget game.now send placement.now }
-    ensures exact { IsTrue result ↔ LeadsTo earlier.now placement.now.next (position (loads_after loads.now placement.now.load send) all_items.now) }
+    requires loads { IsLoads game.now position.now.loads }
+    requires total { sum position.now.items ≡ sum position.now.loads }
+    requires all { AreItems position.now.items (size ∷ []) all.now }
+    requires placed { Contains position.now.loads placement.now.load }
+    requires over { IsOverAtTarget game.now size placement.now }
+    ensures exact { IsTrue result ↔ LeadsOn (E.positions earlier.now) position.now size placement.now }
 {
     let Then::To(child) = placement.next else {
         return true;
     };
-    match (
-        earlier.get(child as usize),
-        loads.place(game, placement.load, send),
-    ) {
-        (Some(position), Some(after)) => {
-            position.loads.same(&after) && position.items.same(all_items)
-        }
-        _ => false,
-    }
+    let _capacity = game.g();
+    let Some(loads) = position.loads.place(game, placement.load, size) else {
+        return false;
+    };
+    let Some(items) = all else {
+        return false;
+    };
+    earlier.is_at(child as usize, &loads, items)
 }
 
-fn is_empty(loads: &Loads, items: &Items) -> bool
-    ensures exact { IsTrue result ↔ IsEmptyPosition (position loads.now items.now) }
+fn is_empty(position: &Position) -> bool
+    ensures exact { IsTrue result ↔ IsEmptyPosition position.now }
 {
-    items.volume() == 0 && loads.as_slice().iter().all(|load| *load == 0)
-}
-
-fn total_of(loads: &[u16]) -> u32
-    requires { length loads.now ≤ 8 }
-    ensures { result ≡ sum loads.now }
-{
-    loads.iter().map(|load| u32::from(*load)).sum()
+    position.items.volume() == 0 && position.loads.as_slice().iter().all(|load| *load == 0)
 }

@@ -1,3 +1,4 @@
-pub mod Accepted
+pub mod Head
 pub mod FirstFault
+pub mod Accepted
 pub mod Progress

@@ -1,62 +1,35 @@
-use Rattle.std.specs.Prelude.{◌≡◌, ◌≢◌, ◌==◌, ℕ, ◌+◌, ◌<◌, List, [], ◌∷◌, ◌++◌, ◌⊎◌, length, All, Option, None, Some, IfSome, map}
-use Rattle.std.specs.Io.KnownBytes.{prepend_known}
-use Rattle.port_io.specs.Lines.{ReaderState, IsLine, with_lf}
+-- Private: how far a check has come.
+use Rattle.std.specs.Prelude.{◌≡◌, ◌≢◌, ◌==◌, ℕ, ◌+◌, ◌<◌, ◌≤◌, List, [], ◌∷◌, ◌++◌, length, All, Option, None, Some, IfSome, map, slice_get}
+use Rattle.port_io.specs.Lines.{ReaderState, HasNoLf, IsLine, with_lf}
 use Rattle.items.specs.Game.{GameNumbers, IsGame}
-use Rattle.items.specs.Multiset.{sizes_of}
-use Rattle.loads.specs.Loads.{IsLoads}
 use Rattle.loads.specs.declared.position.Position.{Position}
-use Rattle.strategy_text.specs.declared.node.AdvNode.{AdvNode}
-use Rattle.strategy_text.specs.declared.node.Side.TheVariants.{Algorithm}
+use Rattle.strategy_text.specs.Spelling.{SpellsGame, most_nodes}
+use Rattle.strategy_text.specs.Text.{AnyNode, node_line, node_lines, first_line, game_line, side_line, count_line, head_lines, end_line, text_of_lines}
+use Rattle.strategy_text.specs.declared.node.Format.{Format}
+use Rattle.strategy_text.specs.declared.node.Side.{Side}
 use Rattle.strategy_text.specs.declared.rule.Rule.{Rule}
 use Rattle.strategy_text.specs.declared.rule.Rule.TheVariants as rules
-use Rattle.strategy_text.specs.Spelling.{IsSpellable, SpellsAdversary, SpellsGame}
-use Rattle.strategy_text.specs.Text.{adversary_line, adversary_lines, side_line, end_line, text_of_lines}
-use Rattle.adversary_graph.specs.Rules.{position_of, MeetsRules, Breaks}
-use Rattle.adversary_graph.specs.Legal.{EachMeetsRules}
+use Rattle.checker.specs.Head.{Head, position_of, SpellsUnder, MeetsRules, EachMeetsRules, IsNodeLine, IsBrokenNodeLine}
+use Rattle.checker.specs.Accepted.{IsGone}
+use Rattle.checker.specs.FirstFault.{IsWanted, IsFirstLine, IsGameLine, IsSideLine, IsCountLine}
 use Rattle.checker.specs.declared.fault.CheckFault.{CheckFault}
 use Rattle.checker.specs.declared.fault.CheckFault.TheVariants.{Rejected, Read, Memory}
+use Rattle.checker.specs.declared.fault.Wanted.{Wanted}
 use Rattle.checker.specs.declared.fault.Why.TheVariants as why
-use Rattle.checker.specs.FirstFault.{IsNodeLine}
 
--- these lines stood next: they are whole lines, and then comes what is still to come
-pub record StoodNext (lines : List (List ℕ)) (old new : Option (List ℕ)) : Type 0 where
+-- whole lines stand at the start of bytes
+pub record StandFirst (lines : List (List ℕ)) (bytes rest : List ℕ) : Type 0 where
   pub whole : All IsLine lines
-  pub came : old ≡ prepend_known (text_of_lines lines) new
+  pub split : bytes ≡ text_of_lines lines ++ rest
 
--- these lines stood next and were read: they are gone from what is to come, and no ending was met
-pub record ReadsLines (lines : List (List ℕ)) (reader : ReaderState) (old new : Option (List ℕ)) : Type 0 where
-  pub open_still : reader.ending ≡ None
-  pub stood : StoodNext lines old new
+-- Bytes were read. What was held and what was read are these whole lines, and then what is held now. No ending was met.
+pub record ReadsLines (lines : List (List ℕ)) (old new : ReaderState) (left new_left : Option (List ℕ)) : Type 0 where
+  pub open_still : new.ending ≡ None
+  pub read : List ℕ
+  pub gone : IsGone read left new_left
+  pub stand : StandFirst lines (old.held ++ read) new.held
 
--- the node that stood next was read: it meets every rule as the one that follows the earlier ones, of so many in all, and its position was put behind theirs
-pub record ReadsNode (game : GameNumbers) (count : ℕ) (earlier kept : List Position) (reader : ReaderState) (old new : Option (List ℕ)) : Type 0 where
-  pub node : AdvNode
-  pub lines : ReadsLines (adversary_line (length earlier) node ∷ []) reader old new
-  pub spellable : IsSpellable node
-  pub meets : MeetsRules game (sizes_of game) earlier (length earlier + 1 == count) node
-  pub put : kept ≡ earlier ++ position_of node ∷ []
-
--- so many nodes stood next and were read, each of which meets every rule
-pub record ReadsNodes (game : GameNumbers) (count : ℕ) (reader : ReaderState) (old new : Option (List ℕ)) : Type 0 where
-  pub nodes : List AdvNode
-  pub number : length nodes ≡ count
-  pub each : EachMeetsRules game (sizes_of game) count nodes
-  pub spellable : All IsSpellable nodes
-  pub lines : ReadsLines (adversary_lines 0 nodes) reader old new
-
--- this line stood next, nothing stood behind it, and all was read
-pub record EndsWith (line : List ℕ) (old left : Option (List ℕ)) : Type 0 where
-  pub last : IfSome old (λ bytes. bytes ≡ text_of_lines (line ∷ []))
-  pub whole : IfSome old (λ _. left ≡ Some [])
-
--- the positions of the nodes read so far, each of which meets every rule
-pub record ArePositionsOf (game : GameNumbers) (count : ℕ) (nodes : List AdvNode) (positions : List Position) : Type 0 where
-  pub kept : positions ≡ map position_of nodes
-  pub each : EachMeetsRules game (sizes_of game) count nodes
-  pub spellable : All IsSpellable nodes
-  pub loads : All (λ position. IsLoads game position.loads) positions
-
--- a whole line of a form stands next in these bytes
+-- a whole line of a form stands at the start of these bytes
 pub record HasNext (Form : List ℕ → Type 0) (bytes : List ℕ) : Type 0 where
   pub line : List ℕ
   pub rest : List ℕ
@@ -64,12 +37,35 @@ pub record HasNext (Form : List ℕ → Type 0) (bytes : List ℕ) : Type 0 wher
   pub split : bytes ≡ with_lf line ++ rest
   pub form : Form line
 
--- Why the line of this number was refused, which is to be of a form and to break no rule: no line of the form stands next, or one that breaks the rule does.
-abbrev pub RefusesNext : ℕ → (List ℕ → Type 0) → (Rule → List ℕ → Type 0) → Option (List ℕ) → CheckFault → Type 0
-RefusesNext number Form Breaking come (Rejected line why.Syntax) = (line ≡ number) × IfSome come (λ bytes. HasNext Form bytes → ⊥)
-RefusesNext number Form Breaking come (Rejected line (why.Rule rule)) = (line ≡ number) × IfSome come (HasNext (Breaking rule))
-RefusesNext number Form Breaking come Read = Unit {0}
-RefusesNext number Form Breaking come Memory = Unit {0}
+-- what is wrong at the start of these bytes, where a line of this number, of a form and which breaks no rule, is to stand
+abbrev pub IsWrongNext : ℕ → (List ℕ → Type 0) → (Rule → List ℕ → Type 0) → CheckFault → List ℕ → Type 0
+IsWrongNext number Form Breaking (Rejected line why.Syntax) bytes = (line ≡ number) × (HasNext Form bytes → ⊥)
+IsWrongNext number Form Breaking (Rejected line (why.Rule rule)) bytes = (line ≡ number) × HasNext (Breaking rule) bytes
+IsWrongNext number Form Breaking Read bytes = Unit {0}
+IsWrongNext number Form Breaking Memory bytes = Unit {0}
+
+-- these lines stand at the start of the bytes, and what is wrong stands after them
+abbrev pub IsWrongAfter : List (List ℕ) → (CheckFault → List ℕ → Type 0) → CheckFault → List ℕ → Type 0
+IsWrongAfter given Wrong fault bytes = (rest : List ℕ) × StandFirst given bytes rest × Wrong fault rest
+
+-- These lines were given, and then something was refused: by the bytes in hand, which are those held and those read, and by all bytes, where the source tells them. Where a read failed, no line feed stands after these lines in hand.
+pub record RefusesAfter (given : List (List ℕ)) (Wrong : CheckFault → List ℕ → Type 0) (fault : CheckFault) (old : ReaderState) (left new_left : Option (List ℕ)) : Type 0 where
+  pub read : List ℕ
+  pub gone : IsGone read left new_left
+  pub in_hand : IsWrongAfter given Wrong fault (old.held ++ read)
+  pub in_all : IfSome left (λ bytes. IsWrongAfter given Wrong fault (old.held ++ bytes))
+  pub no_line : fault ≡ Read → (rest : List ℕ) × StandFirst given (old.held ++ read) rest × HasNoLf rest
+
+-- the next line was refused
+abbrev pub RefusesNext : ℕ → (List ℕ → Type 0) → (Rule → List ℕ → Type 0) → CheckFault → ReaderState → Option (List ℕ) → Option (List ℕ) → Type 0
+RefusesNext number Form Breaking fault old left new_left = RefusesAfter [] (IsWrongNext number Form Breaking) fault old left new_left
+
+-- bytes stand where the input is to end
+abbrev pub IsPastEnd : ℕ → CheckFault → List ℕ → Type 0
+IsPastEnd number (Rejected line why.Syntax) bytes = (line ≡ number) × (bytes ≢ [])
+IsPastEnd number (Rejected line (why.Rule rule)) bytes = ⊥
+IsPastEnd number Read bytes = Unit {0}
+IsPastEnd number Memory bytes = Unit {0}
 
 -- every line; and the rules of a place that has none
 abbrev pub AnyLine : List ℕ → Type 0
@@ -82,33 +78,49 @@ NoRule rule line = ⊥
 abbrev pub BreaksGame : Rule → List ℕ → Type 0
 BreaksGame rule line = (rule ≡ rules.Game) × ((game : GameNumbers) × SpellsGame line game × ¬ (IsGame game))
 
--- the line spells the algorithm's side
-abbrev pub BreaksSide : Rule → List ℕ → Type 0
-BreaksSide rule line = (rule ≡ rules.Side) × (line ≡ side_line Algorithm)
+-- the line names a side that is not wanted
+abbrev pub BreaksSide : Wanted → Rule → List ℕ → Type 0
+BreaksSide wanted rule line = (rule ≡ rules.Side) × ((side : Side) × (line ≡ side_line side) × ¬ (IsWanted wanted side))
 
--- the line spells a node that breaks the rule as the one that follows the earlier ones
-abbrev pub BreaksNode : GameNumbers → ℕ → List Position → Rule → List ℕ → Type 0
-BreaksNode game count earlier rule line =
-    (node : AdvNode) × SpellsAdversary line (length earlier) node × Breaks game (sizes_of game) earlier (length earlier + 1 == count) node rule
+-- the numbers of a head are in their ranges, and its side is wanted
+pub record IsHead (wanted : Wanted) (head : Head) : Type 0 where
+  pub of_game : IsGame head.game
+  pub wanted_side : IsWanted wanted head.side
+  pub low : 1 ≤ head.count
+  pub high : head.count ≤ most_nodes
 
--- some nodes stood next, each of which meets every rule, but fewer than so many, and what came then was refused as the next node
-pub record RefusesNode (game : GameNumbers) (count : ℕ) (come : Option (List ℕ)) (fault : CheckFault) : Type 0 where
-  pub nodes : List AdvNode
-  pub mid : Option (List ℕ)
-  pub few : length nodes < count
-  pub each : EachMeetsRules game (sizes_of game) count nodes
-  pub spellable : All IsSpellable nodes
-  pub stood : StoodNext (adversary_lines 0 nodes) come mid
-  pub refused : RefusesNext (5 + length nodes) (IsNodeLine (length nodes)) (BreaksNode game count (map position_of nodes)) mid fault
+-- the head lines that tell this
+abbrev pub lines_of_head : Head → List (List ℕ)
+lines_of_head head = head_lines head.format head.game head.side head.count
 
--- this line stands next, and bytes behind it
-pub record HasMore (line bytes : List ℕ) : Type 0 where
-  pub rest : List ℕ
-  pub whole : IsLine line
-  pub some : rest ≢ []
-  pub split : bytes ≡ with_lf line ++ rest
+-- nodes that lines spell under a head, numbered from 0, and that meet every rule
+pub record AreJudged (head : Head) (nodes : List AnyNode) : Type 0 where
+  pub spelled : (k : ℕ) (node : AnyNode) → slice_get nodes k ≡ Some node → SpellsUnder head k (node_line k node) node
+  pub each : EachMeetsRules head nodes
 
--- why the end of the text was refused: no end line stands next, or bytes behind it
-abbrev pub RefusesEnd : ℕ → Option (List ℕ) → CheckFault → Type 0
-RefusesEnd count come fault =
-    RefusesNext (5 + count) (λ text. text ≡ end_line) NoRule come fault ⊎ ((fault ≡ Rejected (6 + count) why.Syntax) × IfSome come (HasMore end_line))
+-- the node that stood next was read: it meets every rule as the one that follows the earlier ones, and its position was put after theirs
+pub record ReadsNode (head : Head) (earlier kept : List Position) (node : AnyNode) (old new : ReaderState) (left new_left : Option (List ℕ)) : Type 0 where
+  pub reads : ReadsLines (node_line (length earlier) node ∷ []) old new left new_left
+  pub under : SpellsUnder head (length earlier) (node_line (length earlier) node) node
+  pub meets : MeetsRules head earlier (length earlier + 1 == head.count) node
+  pub put : kept ≡ earlier ++ position_of node ∷ []
+
+-- all nodes stood next and were read, each of which meets every rule
+pub record ReadsNodes (head : Head) (nodes : List AnyNode) (old new : ReaderState) (left new_left : Option (List ℕ)) : Type 0 where
+  pub number : length nodes ≡ head.count
+  pub judged : AreJudged head nodes
+  pub reads : ReadsLines (node_lines 0 nodes) old new left new_left
+
+-- a node that stood next was refused, after these nodes, each of which meets every rule
+pub record RefusesNode (head : Head) (fault : CheckFault) (old : ReaderState) (left new_left : Option (List ℕ)) : Type 0 where
+  pub nodes : List AnyNode
+  pub few : length nodes < head.count
+  pub judged : AreJudged head nodes
+  pub refused : RefusesAfter (node_lines 0 nodes) (IsWrongNext (head.start + length nodes) (IsNodeLine head (length nodes)) (IsBrokenNodeLine head (map position_of nodes))) fault old left new_left
+
+-- a whole text stood next and was read, up to its last line
+pub record ReadsText (wanted : Wanted) (head : Head) (nodes : List AnyNode) (old new : ReaderState) (left new_left : Option (List ℕ)) : Type 0 where
+  pub is_head : IsHead wanted head
+  pub number : length nodes ≡ head.count
+  pub judged : AreJudged head nodes
+  pub reads : ReadsLines (lines_of_head head ++ node_lines 0 nodes ++ end_line ∷ []) old new left new_left

@@ -17,6 +17,15 @@ pub enum Why {
     Rule(Rule),
 }
 
+/// Which side of a strategy is wanted.
+#[derive(Clone, Copy, Debug, PartialEq, Eq)]
+pub enum Wanted {
+    /// Either side.
+    Either,
+    /// This side alone.
+    Only(Side),
+}
+
 /// Why a text was not accepted.
 #[derive(Debug, Drop, Error)]
 pub enum CheckFault {

@@ -2,3 +2,4 @@ pub mod MultisetLemmas
 pub mod SameLemmas
 pub mod CounterLemmas
 pub mod MemberLemmas
+pub mod SizesLemmas

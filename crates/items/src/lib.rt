@@ -6,11 +6,13 @@ mod items;
 pub mod laws;
 mod limits;
 mod list;
+mod sizes;
 
 pub use game::{Game, GameFault};
 pub use items::Items;
 pub use limits::{MOST_BINS, MOST_NUMBER, MOST_SIZE, MOST_VOLUME};
 pub use list::{Nums, Sequence};
+pub use sizes::Sizes;
 
 #[cfg(test)]
 mod tests;

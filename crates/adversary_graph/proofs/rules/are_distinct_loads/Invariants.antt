@@ -1,6 +1,6 @@
 use Rattle.std.proofs.Common.{◌≡◌, length, take, map}
 use Rattle.loads.specs.Descending.{distinct}
-use Rattle.adversary_graph.proofs.rules.place_each_load.Given as goal
+use Rattle.adversary_graph.proofs.rules.are_distinct_loads.Given as goal
 
 abbrev pub invariant-loop-i : goal.invariant-loop-i
 invariant-loop-i l =
