@@ -1,480 +1,309 @@
--- The first fault of the whole bytes, from the lines that stood next and the one that was refused.
-use Rattle.std.proofs.Common.{◌≡◌, ◌==◌, inl, inr, ℕ, suc, zero, ◌+◌, ◌<◌, ◌≤◌, List, [], ◌∷◌, ◌++◌, length, get_or, take, map, All, Option, Some, None, sym, ap, ◌∙◌, subst, refl, arith, append_assoc, IfSome}
-use Rattle.std.specs.Prelude.{Result, Ok, Err, IfErr, IsErrAnd}
-use Rattle.std.specs.List.{slice_get, AllByRecursion}
-use Rattle.std.proofs.lemmas.Grind.{flat_map-append}
-use Rattle.std.proofs.lemmas.List.{length-map, length_push}
-use Rattle.std.proofs.lemmas.List.Elements.{All-head, All-tail, All-cons, All-nil}
-use Rattle.std.proofs.lemmas.Option.{slice_get_within, slice_get-get_or, get_or_from_slice_get}
-use Rattle.port_io.specs.Lines.{ReaderState, IsLine, HasNoLf, with_lf}
-use Rattle.port_io.proofs.NextLemmas.{with_lf-only}
+-- The first fault of bytes, from the lines that stand first and what is wrong after them.
+use Rattle.std.proofs.Common.{◌≡◌, ◌≢◌, ◌==◌, inl, inr, ℕ, suc, zero, ◌+◌, ◌<◌, ◌≤◌, List, [], ◌∷◌, ◌++◌, length, get_or, take, map, Option, Some, None, sym, ap, ◌∙◌, subst, refl, arith, length-append, IfSome}
+use Rattle.std.specs.List.{slice_get}
+use Rattle.std.proofs.lemmas.List.{length-map, length_push, append-nil}
+use Rattle.std.proofs.lemmas.Option.{slice_get_within, slice_get-get_or}
+use Rattle.port_io.specs.Lines.{ReaderState, HasNoLf, with_lf}
 use Rattle.items.specs.Game.{GameNumbers, IsGame}
-use Rattle.items.specs.Multiset.{sizes_of}
-use Rattle.strategy_text.specs.declared.node.AdvNode.{AdvNode}
-use Rattle.strategy_text.specs.declared.node.Side.TheVariants.{Adversary, Algorithm}
+use Rattle.loads.specs.declared.position.Position.{Position}
+use Rattle.strategy_text.specs.Spelling.{SpellsGame, SpellsCount, most_nodes}
+use Rattle.strategy_text.specs.Text.{AnyNode, node_line, node_lines, first_line, game_line, side_line, count_line, end_line, text_of_lines}
+use Rattle.strategy_text.specs.declared.node.Format.{Format}
+use Rattle.strategy_text.specs.declared.node.Side.{Side}
 use Rattle.strategy_text.specs.declared.rule.Rule.{Rule}
-use Rattle.strategy_text.specs.Text.{first_line, game_line, side_line, count_line, end_line, adversary_line, adversary_lines, text_of_lines}
-use Rattle.strategy_text.specs.Spelling.{IsSpellable, SpellsAdversary, SpellsGame, SpellsCount}
-use Rattle.strategy_text.specs.Words.{words_left}
-use Rattle.strategy_text.specs.Reading.{game_at, count_at, adversary_at}
-use Rattle.strategy_text.proofs.HeadLines.{game_again, count_again}
-use Rattle.strategy_text.proofs.NodeLines.{node_again}
-use Rattle.adversary_graph.specs.Rules.{position_of, MeetsRules, Breaks, Meets, IsFirstBroken, node_rules}
-use Rattle.adversary_graph.specs.Legal.{EachMeetsRules}
+use Rattle.checker.specs.Accepted.{IsFaultOf, Rejects}
+use Rattle.checker.specs.FirstFault.{HasForm, HasWhole, HasBytesPast, HasPositions, IsWanted, IsFirstLine, IsGameLine, IsSideLine, IsCountLine, HasHead, HeadFault, first_syntax, game_syntax, game_rule, side_syntax, side_rule, count_syntax, BodyFault, node_syntax, node_rule, end_syntax, past_syntax, LineFault, in_head, in_body, FirstFault, HasNoWholeFault}
+use Rattle.checker.specs.Head.{Head, position_of, SpellsUnder, MeetsRules, Breaks, EachMeetsRules, IsNodeLine, IsBrokenNodeLine}
+use Rattle.checker.specs.Progress.{StandFirst, IsWrongNext, IsWrongAfter, RefusesAfter, IsPastEnd, NoRule, BreaksGame, BreaksSide, IsHead, lines_of_head, AreJudged}
 use Rattle.checker.specs.declared.fault.CheckFault.{CheckFault}
 use Rattle.checker.specs.declared.fault.CheckFault.TheVariants.{Rejected, Read, Memory}
+use Rattle.checker.specs.declared.fault.Wanted.{Wanted}
 use Rattle.checker.specs.declared.fault.Why.{Why}
 use Rattle.checker.specs.declared.fault.Why.TheVariants as why
-use Rattle.checker.specs.FirstFault.{HasLine, HasForm, HasBytesPast, IsGameLine, IsSideLine, IsCountLine, IsNodeLine, HasHead, HasNodes, LineFault, first_syntax, game_syntax, game_rule, side_syntax, side_rule, count_syntax, node_syntax, node_rule, end_syntax, past_syntax, FirstFault, IfRejected}
-use Rattle.checker.specs.Progress.{StoodNext, ReadsNodes, HasNext, HasMore, RefusesNext, RefusesNode, RefusesEnd, NoRule, BreaksGame, BreaksSide, BreaksNode}
-use Rattle.checker.proofs.ProgressLemmas.{StoodNext-then, StoodNext-none, length-adversary_lines}
-use Rattle.checker.proofs.RefusalLemmas.{StoodNext-one}
-
--- ---- one line stands in a place
-
-pub no_lf : (lines : List (List ℕ)) → All IsLine lines → All HasNoLf lines
-no_lf lines each k d within = (each k d within).no_lf
-
--- bytes are cut at line feeds in one way
-pub same_rest : (a b : List (List ℕ)) (x y : List ℕ) → All HasNoLf a → All HasNoLf b → length a ≡ length b → text_of_lines a ++ x ≡ text_of_lines b ++ y → x ≡ y
-same_rest [] [] x y p q e is = is
-same_rest [] (m ∷ ms) x y p q e is = absurd (omega arith)
-same_rest (l ∷ ls) [] x y p q e is = absurd (omega arith)
-same_rest (l ∷ ls) (m ∷ ms) x y p q e is =
-    let cut = with_lf-only l m (text_of_lines ls ++ x) (text_of_lines ms ++ y) (All-head HasNoLf l ls p) (All-head HasNoLf m ms q) (sym (append_assoc (with_lf l) (text_of_lines ls) x) ∙ is ∙ append_assoc (with_lf m) (text_of_lines ms) y) in
-    same_rest ls ms x y (All-tail HasNoLf l ls p) (All-tail HasNoLf m ms q) (omega arith) cut.1
-
-HasLine-same : (bytes : List ℕ) (n : ℕ) (a b : List ℕ) → HasLine bytes n a → HasLine bytes n b → a ≡ b
-HasLine-same bytes n a b h k =
-    let rest : with_lf a ++ h.rest ≡ with_lf b ++ k.rest = same_rest h.before k.before (with_lf a ++ h.rest) (with_lf b ++ k.rest) h.lines k.lines (omega arith) (sym h.split ∙ k.split) in
-    (with_lf-only a b h.rest k.rest h.whole.no_lf k.whole.no_lf rest).0
-
-pub game_same : (bytes : List ℕ) (n : ℕ) (g h : GameNumbers) → HasForm bytes n (λ line. SpellsGame line g) → HasForm bytes n (λ line. SpellsGame line h) → g ≡ h
-game_same bytes n g h a b =
-    let x = game_again a.0 g a.2 in
-    let y = game_again b.0 h b.2 in
-    let z = ap (λ (l : List ℕ). game_at (words_left (Some l))) (HasLine-same bytes n a.0 b.0 a.1 b.1) in
-    cc
-
-pub count_same : (bytes : List ℕ) (n : ℕ) (g h : ℕ) → HasForm bytes n (λ line. SpellsCount line g) → HasForm bytes n (λ line. SpellsCount line h) → g ≡ h
-count_same bytes n g h a b =
-    let x = count_again a.0 g a.2 in
-    let y = count_again b.0 h b.2 in
-    let z = ap (λ (l : List ℕ). count_at (words_left (Some l))) (HasLine-same bytes n a.0 b.0 a.1 b.1) in
-    cc
-
-pub node_same : (bytes : List ℕ) (n k : ℕ) (g h : AdvNode) → k ≤ 4294967295 → HasForm bytes n (λ line. SpellsAdversary line k g) → HasForm bytes n (λ line. SpellsAdversary line k h) → g ≡ h
-node_same bytes n k g h le a b =
-    let x = node_again a.0 k g le a.2 in
-    let y = node_again b.0 k h le b.2 in
-    let z = ap (λ (l : List ℕ). adversary_at k (words_left (Some l))) (HasLine-same bytes n a.0 b.0 a.1 b.1) in
-    cc
-
-sides_differ : side_line Adversary ≡ side_line Algorithm → ⊥
-sides_differ e = let d : ◌≡◌ {A = ℕ} 100 108 = ap (λ (l : List ℕ). get_or l 6 0) e in absurd (omega arith)
-
-pub count_high : (bytes : List ℕ) (game : GameNumbers) (count : ℕ) → HasHead bytes game count → count ≤ 4000000000
-count_high bytes game count head = head.nodes.2.high
-
-pub front_same : (a b : List AdvNode) → length a ≤ length b → ((k : ℕ) (x y : AdvNode) → slice_get a k ≡ Some x → slice_get b k ≡ Some y → x ≡ y) → take (length a) b ≡ a
-front_same [] b le h = refl
-front_same (x ∷ a) [] le h = absurd (omega arith)
-front_same (x ∷ a) (y ∷ b) le h =
-    let same : x ≡ y = h zero x y refl refl in
-    let rest : take (length a) b ≡ a = front_same a b (omega arith) (λ k p q e f. h (suc k) p q e f) in
-    cc
-
--- a rule is not broken where each is met
-exclusive : (IsMet : Rule → Type 0) (judged : List Rule) (rule : Rule) → AllByRecursion IsMet judged → IsFirstBroken IsMet judged rule → ⊥
-exclusive IsMet [] rule all broken = broken
-exclusive IsMet (r ∷ rs) rule all (inl h) = h.1 all.0
-exclusive IsMet (r ∷ rs) rule all (inr h) = exclusive IsMet rs rule all.1 h.1
+use Rattle.checker.proofs.HeadLemmas.{sides_same, game_same, side_same, count_same, head_same, first_from, game_from, side_from, head_from}
+use Rattle.checker.proofs.LineLemmas.{no_lf, same_rest, HasLine-same, next_from, form_from, line_at, front_get, after_get, HasWhole-from, few_whole}
+use Rattle.checker.proofs.NodeLemmas.{meets_excludes, HasNodes, node_same, positions_front, HasPositions-from, length-node_lines, node_lines_get}
+use Rattle.checker.proofs.ProgressLemmas.{told_all, told_at}
 
 -- ---- no fault before a line
 
--- nodes stand there, among them one of this number, and each meets every rule
-pub record FaultlessNode (bytes : List ℕ) (game : GameNumbers) (count k : ℕ) : Type 0 where
-  nodes : List AdvNode
-  node : AdvNode
+-- nodes stand in their lines, among them one of this number, and each meets every rule
+record FaultlessNode (bytes : List ℕ) (head : Head) (k : ℕ) : Type 0 where
+  nodes : List AnyNode
+  node : AnyNode
   at : slice_get nodes k ≡ Some node
-  stand : HasNodes bytes nodes
-  each : EachMeetsRules game (sizes_of game) count nodes
+  stand : HasNodes bytes head nodes
+  each : EachMeetsRules head nodes
+
+-- what the lines before line n are after a head, where none of them has a fault
+record FaultlessBody (bytes : List ℕ) (head : Head) (n : ℕ) : Type 0 where
+  node : (k : ℕ) → k < head.count → head.start + k < n → FaultlessNode bytes head k
+  end : head.start + head.count < n → HasForm bytes (head.start + head.count) (λ line. line ≡ end_line)
+  past : head.start + head.count + 1 < n → HasBytesPast bytes (head.start + head.count) → ⊥
 
 -- what the lines before line n are, where none of them has a fault
-pub record Faultless (bytes : List ℕ) (n : ℕ) : Type 0 where
-  first : 1 < n → HasForm bytes 1 (λ line. line ≡ first_line)
+pub record Faultless (wanted : Wanted) (bytes : List ℕ) (n : ℕ) : Type 0 where
+  first : 1 < n → HasForm bytes 1 IsFirstLine
   game : 2 < n → (game : GameNumbers) × HasForm bytes 2 (λ line. SpellsGame line game) × IsGame game
-  side : 3 < n → HasForm bytes 3 (λ line. line ≡ side_line Adversary)
+  side : 3 < n → (side : Side) × HasForm bytes 3 (λ line. line ≡ side_line side) × IsWanted wanted side
   count : 4 < n → HasForm bytes 4 IsCountLine
-  node : (game : GameNumbers) (count k : ℕ) → HasHead bytes game count → k < count → 5 + k < n → FaultlessNode bytes game count k
-  end : (game : GameNumbers) (count : ℕ) → HasHead bytes game count → 5 + count < n → HasForm bytes (5 + count) (λ line. line ≡ end_line)
-  past : (game : GameNumbers) (count : ℕ) → HasHead bytes game count → 6 + count < n → HasBytesPast bytes (5 + count) → ⊥
+  body : (head : Head) → HasHead wanted bytes head → FaultlessBody bytes head n
 
-node_meets : (bytes : List ℕ) (game : GameNumbers) (count : ℕ) (earlier : List AdvNode) (node : AdvNode) (rule : Rule) → FaultlessNode bytes game count (length earlier) → HasHead bytes game count → length earlier < count → HasNodes bytes earlier → HasForm bytes (5 + length earlier) (λ line. SpellsAdversary line (length earlier) node) → Breaks game (sizes_of game) (map position_of earlier) (length earlier + 1 == count) node rule → ⊥
-node_meets bytes game count earlier node rule f head few stand form breaks =
-    let high : count ≤ 4000000000 = count_high bytes game count head in
+no_head_fault : (wanted : Wanted) (bytes : List ℕ) (n : ℕ) → Faultless wanted bytes n → (line : ℕ) (fault : Why) → line < n → HeadFault wanted bytes line fault → ⊥
+no_head_fault wanted bytes n h line fault low (first_syntax never) = never (h.first low)
+no_head_fault wanted bytes n h line fault low (game_syntax never) = let g = h.game low in never (g.1.0, g.1.1, (g.0, g.1.2))
+no_head_fault wanted bytes n h line fault low (game_rule game form never) = let g = h.game low in never (subst IsGame (game_same bytes 2 g.0 game g.1 form) g.2)
+no_head_fault wanted bytes n h line fault low (side_syntax never) = let s = h.side low in never (s.1.0, s.1.1, (s.0, s.1.2))
+no_head_fault wanted bytes n h line fault low (side_rule side form never) = let s = h.side low in never (subst (IsWanted wanted) (side_same bytes 3 s.0 side s.1 form) s.2)
+no_head_fault wanted bytes n h line fault low (count_syntax never) = never (h.count low)
+
+-- a node of a list of which each meets every rule
+meets_at : (head : Head) (nodes : List AnyNode) (k : ℕ) (node : AnyNode) → EachMeetsRules head nodes → slice_get nodes k ≡ Some node → MeetsRules head (map position_of (take k nodes)) (k + 1 == head.count) node
+unfolding EachMeetsRules
+meets_at head nodes k node each at = each k node at
+
+-- a node that meets every rule stands where one is said to break a rule
+node_meets : (bytes : List ℕ) (head : Head) (earlier : List Position) (rule : Rule) → head.count ≤ most_nodes → FaultlessNode bytes head (length earlier) → length earlier < head.count → HasPositions bytes head earlier → HasForm bytes (head.start + length earlier) (IsBrokenNodeLine head earlier rule) → ⊥
+node_meets bytes head earlier rule high f few told form =
+    let broken = form.2 in
     let within : length earlier < length f.nodes = slice_get_within f.nodes (length earlier) f.node f.at in
-    let same : f.node ≡ node = node_same bytes (5 + length earlier) (length earlier) f.node node (omega arith) (f.stand (length earlier) f.node f.at) form in
-    let front : take (length earlier) f.nodes ≡ earlier =
-    front_same earlier f.nodes (omega arith) (λ k x y e g. (let low : k < length earlier = slice_get_within earlier k x e in node_same bytes (5 + k) k x y (omega arith) (stand k x e) (f.stand k y g))) in
-    let meets : MeetsRules game (sizes_of game) (map position_of (take (length earlier) f.nodes)) (length earlier + 1 == count) f.node = f.each (length earlier) f.node f.at in
-    let here : MeetsRules game (sizes_of game) (map position_of earlier) (length earlier + 1 == count) node =
-    subst (λ (n : AdvNode). MeetsRules game (sizes_of game) (map position_of earlier) (length earlier + 1 == count) n) same
-    (subst (λ (ns : List AdvNode). MeetsRules game (sizes_of game) (map position_of ns) (length earlier + 1 == count) f.node) front meets) in
-    exclusive (Meets game (sizes_of game) (map position_of earlier) (length earlier + 1 == count) node) node_rules rule here breaks
+    let same : f.node ≡ broken.0 = node_same bytes head (head.start + length earlier) (length earlier) f.node broken.0 (omega arith) (f.stand (length earlier) f.node f.at) (form.0, form.1, broken.1) in
+    let front : map position_of (take (length earlier) f.nodes) ≡ earlier = positions_front bytes head f.nodes earlier (omega arith) (omega arith) f.stand told in
+    let meets : MeetsRules head (map position_of (take (length earlier) f.nodes)) (length earlier + 1 == head.count) f.node = meets_at head f.nodes (length earlier) f.node f.each f.at in
+    let here : MeetsRules head earlier (length earlier + 1 == head.count) broken.0 =
+    subst (λ (n : AnyNode). MeetsRules head earlier (length earlier + 1 == head.count) n) same
+    (subst (λ (ps : List Position). MeetsRules head ps (length earlier + 1 == head.count) f.node) front meets) in
+    meets_excludes head earlier (length earlier + 1 == head.count) broken.0 rule here broken.2
 
-pub none_below : (bytes : List ℕ) (n : ℕ) → Faultless bytes n → (line : ℕ) (fault : Why) → line < n → LineFault bytes line fault → ⊥
-none_below bytes n h line fault low (first_syntax never) = never (h.first low)
-none_below bytes n h line fault low (game_syntax never) = let g = h.game low in never (g.1.0, g.1.1, (g.0, g.1.2))
-none_below bytes n h line fault low (game_rule game form never) = let g = h.game low in never (subst IsGame (game_same bytes 2 g.0 game g.1 form) g.2)
-none_below bytes n h line fault low (side_syntax never) = let s = h.side low in never (s.0, s.1, (Adversary, s.2))
-none_below bytes n h line fault low (side_rule form) = let s = h.side low in sides_differ (sym s.2 ∙ HasLine-same bytes 3 s.0 form.0 s.1 form.1 ∙ form.2)
-none_below bytes n h line fault low (count_syntax never) = never (h.count low)
-none_below bytes n h line fault low (node_syntax game count k head few never) = let f = h.node game count k head few low in let s = f.stand k f.node f.at in never (s.0, s.1, (f.node, s.2))
-none_below bytes n h line fault low (node_rule game count earlier node rule head few stand form breaks) = node_meets bytes game count earlier node rule (h.node game count (length earlier) head few low) head few stand form breaks
-none_below bytes n h line fault low (end_syntax game count head never) = never (h.end game count head low)
-none_below bytes n h line fault low (past_syntax game count head past) = h.past game count head low past
+no_body_fault : (bytes : List ℕ) (head : Head) (n : ℕ) → head.count ≤ most_nodes → FaultlessBody bytes head n → (line : ℕ) (fault : Why) → line < n → BodyFault bytes head line fault → ⊥
+no_body_fault bytes head n high h line fault low (node_syntax k few never) = let f = h.node k few low in let s = f.stand k f.node f.at in never (s.0, s.1, (f.node, s.2))
+no_body_fault bytes head n high h line fault low (node_rule earlier rule few told form) = node_meets bytes head earlier rule high (h.node (length earlier) few low) few told form
+no_body_fault bytes head n high h line fault low (end_syntax never) = never (h.end low)
+no_body_fault bytes head n high h line fault low (past_syntax past) = h.past low past
 
-FirstFault-at : (bytes : List ℕ) (n line : ℕ) (fault : Why) → line ≡ n → LineFault bytes n fault → Faultless bytes n → FirstFault bytes line fault
-FirstFault-at bytes n line fault e f clean = record {
-  has = subst (λ (i : ℕ). LineFault bytes i fault) (sym e) f;
-  first = λ earlier other low g. none_below bytes n clean earlier other (omega arith) g;
+pub none_below : (wanted : Wanted) (bytes : List ℕ) (n : ℕ) → Faultless wanted bytes n → (line : ℕ) (fault : Why) → line < n → LineFault wanted bytes line fault → ⊥
+none_below wanted bytes n h line fault low (in_head f) = no_head_fault wanted bytes n h line fault low f
+none_below wanted bytes n h line fault low (in_body head has f) = no_body_fault bytes head n has.nodes.2.high (h.body head has) line fault low f
+
+FirstFault-at : (wanted : Wanted) (bytes : List ℕ) (n line : ℕ) (fault : Why) → line ≡ n → LineFault wanted bytes n fault → Faultless wanted bytes n → FirstFault wanted bytes line fault
+FirstFault-at wanted bytes n line fault e f clean = record {
+  has = subst (λ (i : ℕ). LineFault wanted bytes i fault) (sym e) f;
+  first = λ earlier other low g. none_below wanted bytes n clean earlier other (omega arith) g;
 }
 
-slice_at : (nodes : List AdvNode) (k : ℕ) → k < length nodes → (node : AdvNode) × (slice_get nodes k ≡ Some node)
-slice_at [] k within = absurd (omega arith)
-slice_at (node ∷ nodes) k within = let at = get_or (node ∷ nodes) k node in (at, slice_get-get_or (node ∷ nodes) k node within)
+-- ---- lines that stand first have no fault
 
--- the lines before line n, at most line 5
-Faultless-head : (bytes : List ℕ) (n : ℕ) → n ≤ 5 → (1 < n → HasForm bytes 1 (λ line. line ≡ first_line)) → (2 < n → (game : GameNumbers) × HasForm bytes 2 (λ line. SpellsGame line game) × IsGame game) → (3 < n → HasForm bytes 3 (λ line. line ≡ side_line Adversary)) → (4 < n → HasForm bytes 4 IsCountLine) → Faultless bytes n
-Faultless-head bytes n low first game side count = record {
+-- head lines, of which at most four stand
+Faultless-head : (wanted : Wanted) (bytes : List ℕ) (n : ℕ) → n ≤ 5 → (1 < n → HasForm bytes 1 IsFirstLine) → (2 < n → (game : GameNumbers) × HasForm bytes 2 (λ line. SpellsGame line game) × IsGame game) → (3 < n → (side : Side) × HasForm bytes 3 (λ line. line ≡ side_line side) × IsWanted wanted side) → (4 < n → HasForm bytes 4 IsCountLine) → Faultless wanted bytes n
+Faultless-head wanted bytes n low first game side count = record {
   first = first;
   game = game;
   side = side;
   count = count;
-  node = λ g c k head few past. absurd (omega arith);
-  end = λ g c head past. absurd (omega arith);
-  past = λ g c head past. absurd (omega arith);
+  body = λ head has. record {
+    node = λ k few past. absurd (omega (arith, has.start));
+    end = λ past. absurd (omega (arith, has.start));
+    past = λ past. absurd (omega (arith, has.start));
+  };
 }
 
--- the lines behind the head
-pub Faultless-nodes : (bytes : List ℕ) (n : ℕ) (game : GameNumbers) (count : ℕ) (nodes : List AdvNode) → HasHead bytes game count → HasNodes bytes nodes → EachMeetsRules game (sizes_of game) count nodes → ((k : ℕ) → k < count → 5 + k < n → k < length nodes) → (5 + count < n → HasForm bytes (5 + count) (λ line. line ≡ end_line)) → (6 + count < n → HasBytesPast bytes (5 + count) → ⊥) → Faultless bytes n
-Faultless-nodes bytes n game count nodes head stand each reach end past =
-    let game_is = λ (g : GameNumbers) (c : ℕ) (other : HasHead bytes g c). game_same bytes 2 game g head.numbers other.numbers in
-    let count_is = λ (g : GameNumbers) (c : ℕ) (other : HasHead bytes g c). count_same bytes 4 count c head.nodes other.nodes in
-    record {
-      first = λ low. head.first;
-      game = λ low. (game, head.numbers, head.of_game);
-      side = λ low. head.side;
-      count = λ low. (head.nodes.0, head.nodes.1, (count, head.nodes.2));
-      node = λ g c k other few low.
-          (let e : game ≡ g = game_is g c other in
-          let d : count ≡ c = count_is g c other in
-          let within : k < length nodes = reach k (omega arith) low in
-          record {
-            nodes = nodes;
-            node = (slice_at nodes k within).0;
-            at = (slice_at nodes k within).1;
-            stand = stand;
-            each = subst (λ (i : ℕ). EachMeetsRules g (sizes_of g) i nodes) d (subst (λ (h : GameNumbers). EachMeetsRules h (sizes_of h) count nodes) e each);
-          });
-      end = λ g c other low. (let d : count ≡ c = count_is g c other in subst (λ (i : ℕ). HasForm bytes (5 + i) (λ line. line ≡ end_line)) d (end (omega arith)));
-      past = λ g c other low more. (let d : count ≡ c = count_is g c other in past (omega arith) (subst (λ (i : ℕ). HasBytesPast bytes (5 + i)) (sym d) more));
-    }
+slice_at : (nodes : List AnyNode) (k : ℕ) → k < length nodes → (node : AnyNode) × (slice_get nodes k ≡ Some node)
+slice_at [] k within = absurd (omega arith)
+slice_at (node ∷ nodes) k within = let at = get_or (node ∷ nodes) k node in (at, slice_get-get_or (node ∷ nodes) k node within)
 
--- ---- from what stood next
-
-pub stood_bytes : (given : List (List ℕ)) (bytes rest : List ℕ) → StoodNext given (Some bytes) (Some rest) → bytes ≡ text_of_lines given ++ rest
-stood_bytes given bytes rest stood = let e : Some bytes ≡ Some (text_of_lines given ++ rest) = stood.came in cc
-
-stood_none : (given : List (List ℕ)) (bytes : List ℕ) → StoodNext given (Some bytes) None → ⊥
-stood_none given bytes stood = let e : Some bytes ≡ None = stood.came in absurd cc
-
-next_from : (given : List (List ℕ)) (bytes rest : List ℕ) (n : ℕ) (Form : List ℕ → Type 0) → StoodNext given (Some bytes) (Some rest) → length given + 1 ≡ n → HasForm bytes n Form → HasNext Form rest
-next_from given bytes rest n Form stood place form =
-    let l = form.1 in
-    let counted : length l.before + 1 ≡ n = l.place in
-    let same : rest ≡ with_lf form.0 ++ l.rest = same_rest given l.before rest (with_lf form.0 ++ l.rest) (no_lf given stood.whole) l.lines (omega arith) (sym (stood_bytes given bytes rest stood) ∙ l.split) in
-    record { line = form.0; rest = l.rest; whole = l.whole; split = same; form = form.2 }
-
-form_from : (given : List (List ℕ)) (bytes rest : List ℕ) (n : ℕ) (Form : List ℕ → Type 0) → StoodNext given (Some bytes) (Some rest) → length given + 1 ≡ n → HasNext Form rest → HasForm bytes n Form
-form_from given bytes rest n Form stood place next = (
-  next.line,
-  record {
-    before = given;
-    rest = next.rest;
-    place = place;
-    lines = no_lf given stood.whole;
-    whole = next.whole;
-    split = stood_bytes given bytes rest stood ∙ ap (λ more. text_of_lines given ++ more) next.split;
-  },
-  next.form,
-)
-
--- why line n of the bytes was refused
-abbrev RefusedAt : List ℕ → ℕ → (List ℕ → Type 0) → (Rule → List ℕ → Type 0) → CheckFault → Type 0
-RefusedAt bytes n Form Breaking (Rejected line why.Syntax) = (line ≡ n) × (HasForm bytes n Form → ⊥)
-RefusedAt bytes n Form Breaking (Rejected line (why.Rule rule)) = (line ≡ n) × HasForm bytes n (Breaking rule)
-RefusedAt bytes n Form Breaking Read = Unit {0}
-RefusedAt bytes n Form Breaking Memory = Unit {0}
-
-refused_after : (given : List (List ℕ)) (bytes : List ℕ) (mid : Option (List ℕ)) (n : ℕ) (Form : List ℕ → Type 0) (Breaking : Rule → List ℕ → Type 0) (fault : CheckFault) → StoodNext given (Some bytes) mid → length given + 1 ≡ n → RefusesNext n Form Breaking mid fault → RefusedAt bytes n Form Breaking fault
-refused_after given bytes None n Form Breaking fault stood place h = absurd (stood_none given bytes stood)
-refused_after given bytes (Some rest) n Form Breaking (Rejected line why.Syntax) stood place h =
-    (h.0, λ form. h.1 (next_from given bytes rest n Form stood place form))
-refused_after given bytes (Some rest) n Form Breaking (Rejected line (why.Rule rule)) stood place h =
-    (h.0, form_from given bytes rest n (Breaking rule) stood place h.1)
-refused_after given bytes (Some rest) n Form Breaking Read stood place h = tt
-refused_after given bytes (Some rest) n Form Breaking Memory stood place h = tt
-
-split_at : (lines : List (List ℕ)) (k : ℕ) (line : List ℕ) → slice_get lines k ≡ Some line → (before : List (List ℕ)) × (behind : List (List ℕ)) × (length before ≡ k) × (lines ≡ before ++ line ∷ behind)
-split_at [] k line e = let none : None ≡ Some line = e in absurd cc
-split_at (l ∷ ls) zero line e = let same : l ≡ line = cc in ([], ls, refl, ap (λ (x : List ℕ). x ∷ ls) same)
-split_at (l ∷ ls) (suc k) line e =
-    let r = split_at ls k line e in
-    (l ∷ r.0, r.1, ap suc r.2, ap (λ (xs : List (List ℕ)). l ∷ xs) r.3)
-
-All-front : {X : Type 0} (P : X → Type 0) (xs ys : List X) → All P (xs ++ ys) → All P xs
-All-front P [] ys h = All-nil P
-All-front P (x ∷ xs) ys h = All-cons P x xs (All-head P x (xs ++ ys) h) (All-front P xs ys (All-tail P x (xs ++ ys) h))
-
-All-behind : {X : Type 0} (P : X → Type 0) (xs ys : List X) → All P (xs ++ ys) → All P ys
-All-behind P [] ys h = h
-All-behind P (x ∷ xs) ys h = All-behind P xs ys (All-tail P x (xs ++ ys) h)
-
--- the lines that stood next stand in their places
-pub line_at : (lines : List (List ℕ)) (bytes : List ℕ) (mid : Option (List ℕ)) (k n : ℕ) (line : List ℕ) → StoodNext lines (Some bytes) mid → slice_get lines k ≡ Some line → k + 1 ≡ n → HasLine bytes n line
-line_at lines bytes None k n line stood at place = absurd (stood_none lines bytes stood)
-line_at lines bytes (Some rest) k n line stood at place =
-    let s = split_at lines k line at in
-    let all : All IsLine (s.0 ++ line ∷ s.1) = subst (λ (ls : List (List ℕ)). All IsLine ls) s.3 stood.whole in
-    let counted : length s.0 ≡ k = s.2 in
-    record {
-      before = s.0;
-      rest = text_of_lines s.1 ++ rest;
-      place = omega arith;
-      lines = no_lf s.0 (All-front IsLine s.0 (line ∷ s.1) all);
-      whole = All-head IsLine line s.1 (All-behind IsLine s.0 (line ∷ s.1) all);
-      split = stood_bytes lines bytes rest stood ∙ ap (λ (ls : List (List ℕ)). text_of_lines ls ++ rest) s.3 ∙ ap (λ (front : List ℕ). front ++ rest) (flat_map-append (λ line. line ++ 10 ∷ []) s.0 (line ∷ s.1)) ∙ append_assoc (text_of_lines s.0) (with_lf line ++ text_of_lines s.1) rest ∙ ap (λ (more : List ℕ). text_of_lines s.0 ++ more) (append_assoc (with_lf line) (text_of_lines s.1) rest);
-    }
-
-game_spelled : (game : GameNumbers) → IsGame game → SpellsGame (game_line game) game
-game_spelled game of_game = record {
-  bins = omega (arith, of_game.bins.high);
-  capacity = omega (arith, of_game.capacity.high);
-  target = omega (arith, of_game.capacity.high, of_game.target.high);
-  spelled = refl;
+-- a head, nodes and maybe more
+pub Faultless-body : (wanted : Wanted) (bytes : List ℕ) (n : ℕ) (head : Head) (nodes : List AnyNode) → HasHead wanted bytes head → HasNodes bytes head nodes → EachMeetsRules head nodes → ((k : ℕ) → k < head.count → head.start + k < n → k < length nodes) → (head.start + head.count < n → HasForm bytes (head.start + head.count) (λ line. line ≡ end_line)) → (head.start + head.count + 1 < n → HasBytesPast bytes (head.start + head.count) → ⊥) → Faultless wanted bytes n
+Faultless-body wanted bytes n head nodes has stand each reach end past = record {
+  first = λ low. (has.first.0, has.first.1, (head.format, has.first.2));
+  game = λ low. (head.game, has.numbers, has.of_game);
+  side = λ low. (head.side, has.side, has.wanted_side);
+  count = λ low. (has.nodes.0, has.nodes.1, (head.count, has.nodes.2));
+  body = λ other told. subst (λ (h : Head). FaultlessBody bytes h n) (head_same wanted bytes head other has told) (record {
+    node = λ k few low.
+        (let at = slice_at nodes k (reach k few low) in
+        record { nodes = nodes; node = at.0; at = at.1; stand = stand; each = each });
+    end = end;
+    past = past;
+  });
 }
 
--- the lines of a head, with some lines behind them
-abbrev pub head_lines : GameNumbers → ℕ → List (List ℕ) → List (List ℕ)
-head_lines game count lines = first_line ∷ game_line game ∷ side_line Adversary ∷ count_line count ∷ lines
-
-pub head_from : (game : GameNumbers) (count : ℕ) (lines : List (List ℕ)) (bytes : List ℕ) (mid : Option (List ℕ)) → IsGame game → (1 ≤ count) × (count ≤ 4000000000) → StoodNext (head_lines game count lines) (Some bytes) mid → HasHead bytes game count
-head_from game count lines bytes mid of_game range stood = record {
-  first = (first_line, line_at (head_lines game count lines) bytes mid 0 1 first_line stood refl (omega arith), refl);
-  numbers = (game_line game, line_at (head_lines game count lines) bytes mid 1 2 (game_line game) stood refl (omega arith), game_spelled game of_game);
-  of_game = of_game;
-  side = (side_line Adversary, line_at (head_lines game count lines) bytes mid 2 3 (side_line Adversary) stood refl (omega arith), refl);
-  nodes = (count_line count, line_at (head_lines game count lines) bytes mid 3 4 (count_line count) stood refl (omega arith), record { low = range.0; high = range.1; spelled = refl });
-}
-
-lines_get : (number : ℕ) (nodes : List AdvNode) (k : ℕ) (node : AdvNode) → slice_get nodes k ≡ Some node → slice_get (adversary_lines number nodes) k ≡ Some (adversary_line (number + k) node)
-lines_get number [] k node e = let none : None ≡ Some node = e in absurd cc
-lines_get number (first ∷ nodes) zero node e =
-    let same : first ≡ node = cc in
-    let at : number ≡ number + 0 = omega arith in
-    ap (λ (n : AdvNode). Some (adversary_line number n)) same ∙ ap (λ (i : ℕ). Some (adversary_line i node)) at
-lines_get number (first ∷ nodes) (suc k) node e =
-    let at : (number + 1) + k ≡ number + suc k = omega arith in
-    lines_get (number + 1) nodes k node e ∙ ap (λ (i : ℕ). Some (adversary_line i node)) at
-
-pub front_get : (lines more : List (List ℕ)) (k : ℕ) (line : List ℕ) → slice_get lines k ≡ Some line → slice_get (lines ++ more) k ≡ Some line
-front_get [] more k line e = let none : None ≡ Some line = e in absurd cc
-front_get (l ∷ ls) more zero line e = e
-front_get (l ∷ ls) more (suc k) line e = front_get ls more k line e
-
-pub nodes_from : (game : GameNumbers) (count : ℕ) (nodes : List AdvNode) (lines : List (List ℕ)) (bytes : List ℕ) (mid : Option (List ℕ)) → All IsSpellable nodes → ((k : ℕ) (line : List ℕ) → slice_get (adversary_lines 0 nodes) k ≡ Some line → slice_get lines k ≡ Some line) → StoodNext (head_lines game count lines) (Some bytes) mid → HasNodes bytes nodes
-nodes_from game count nodes lines bytes mid spellable front stood k node e =
-    let at : 0 + k ≡ k = omega arith in
-    let get : slice_get lines k ≡ Some (adversary_line k node) = front k (adversary_line k node) (lines_get 0 nodes k node e ∙ ap (λ (i : ℕ). Some (adversary_line i node)) at) in (
-      adversary_line k node,
-      line_at (head_lines game count lines) bytes mid (suc (suc (suc (suc k)))) (5 + k) (adversary_line k node) stood get (omega arith),
-      record {
-        spellable = subst IsSpellable (get_or_from_slice_get nodes k node node e) (spellable k node (slice_get_within nodes k node e));
-        spelled = refl;
-      },
+-- nodes whose lines stand after the head lines
+pub HasNodes-from : (head : Head) (nodes : List AnyNode) (more : List (List ℕ)) (bytes rest : List ℕ) → head.start ≡ 5 → AreJudged head nodes → StandFirst (lines_of_head head ++ node_lines 0 nodes ++ more) bytes rest → HasNodes bytes head nodes
+HasNodes-from head nodes more bytes rest start judged stood k node e =
+    let line : List ℕ = node_line k node in
+    let get : slice_get (node_lines 0 nodes ++ more) k ≡ Some line = front_get (node_lines 0 nodes) more k line (node_lines_get 0 nodes k node e ∙ ap (λ (i : ℕ). Some (node_line i node)) (omega arith)) in (
+      line,
+      line_at (lines_of_head head ++ node_lines 0 nodes ++ more) bytes rest (4 + k) (head.start + k) line stood (after_get (lines_of_head head) (node_lines 0 nodes ++ more) k line get) (omega (arith, start)),
+      judged.spelled k node e,
     )
 
--- ---- the first fault, where a line was refused
+-- ---- what was refused is the first fault
 
--- the fault is the first fault of the source's bytes, where it tells them
-abbrev pub IsFirstOf : Option (List ℕ) → CheckFault → Type 0
-IsFirstOf left fault = IfRejected fault (λ line why. IfSome left (λ bytes. FirstFault bytes line why))
-
-told : (left : Option (List ℕ)) (fault : CheckFault) → ((bytes : List ℕ) → left ≡ Some bytes → IfRejected fault (FirstFault bytes)) → IsFirstOf left fault
-told None (Rejected line why) h = tt
-told (Some bytes) (Rejected line why) h = h bytes refl
-told left Read h = tt
-told left Memory h = tt
-
-first_refused : (bytes : List ℕ) (fault : CheckFault) → RefusedAt bytes 1 (λ line. line ≡ first_line) NoRule fault → IfRejected fault (FirstFault bytes)
-first_refused bytes (Rejected line why.Syntax) h =
-    FirstFault-at bytes 1 line why.Syntax h.0 (first_syntax h.1) (Faultless-head bytes 1 (omega arith) (λ l. absurd (omega arith)) (λ l. absurd (omega arith)) (λ l. absurd (omega arith)) (λ l. absurd (omega arith)))
-first_refused bytes (Rejected line (why.Rule rule)) h = absurd h.1.2
-first_refused bytes Read h = tt
-first_refused bytes Memory h = tt
-
-game_refused : (bytes : List ℕ) (fault : CheckFault) → HasForm bytes 1 (λ line. line ≡ first_line) → RefusedAt bytes 2 IsGameLine BreaksGame fault → IfRejected fault (FirstFault bytes)
-game_refused bytes (Rejected line why.Syntax) one h =
-    FirstFault-at bytes 2 line why.Syntax h.0 (game_syntax h.1) (Faultless-head bytes 2 (omega arith) (λ l. one) (λ l. absurd (omega arith)) (λ l. absurd (omega arith)) (λ l. absurd (omega arith)))
-game_refused bytes (Rejected line (why.Rule rule)) one h =
-    let form = h.1 in
-    let breaks = form.2 in
-    FirstFault-at bytes 2 line (why.Rule rule) h.0
-    (subst (λ (r : Rule). LineFault bytes 2 (why.Rule r)) (sym breaks.0) (game_rule breaks.1.0 (form.0, form.1, breaks.1.1) breaks.1.2))
-    (Faultless-head bytes 2 (omega arith) (λ l. one) (λ l. absurd (omega arith)) (λ l. absurd (omega arith)) (λ l. absurd (omega arith)))
-game_refused bytes Read one h = tt
-game_refused bytes Memory one h = tt
-
-side_refused : (bytes : List ℕ) (game : GameNumbers) (fault : CheckFault) → HasForm bytes 1 (λ line. line ≡ first_line) → HasForm bytes 2 (λ line. SpellsGame line game) → IsGame game → RefusedAt bytes 3 IsSideLine BreaksSide fault → IfRejected fault (FirstFault bytes)
-side_refused bytes game (Rejected line why.Syntax) one two of_game h =
-    FirstFault-at bytes 3 line why.Syntax h.0 (side_syntax h.1) (Faultless-head bytes 3 (omega arith) (λ l. one) (λ l. (game, two, of_game)) (λ l. absurd (omega arith)) (λ l. absurd (omega arith)))
-side_refused bytes game (Rejected line (why.Rule rule)) one two of_game h =
-    let form = h.1 in
-    let breaks = form.2 in
-    FirstFault-at bytes 3 line (why.Rule rule) h.0
-    (subst (λ (r : Rule). LineFault bytes 3 (why.Rule r)) (sym breaks.0) (side_rule (form.0, form.1, breaks.1)))
-    (Faultless-head bytes 3 (omega arith) (λ l. one) (λ l. (game, two, of_game)) (λ l. absurd (omega arith)) (λ l. absurd (omega arith)))
-side_refused bytes game Read one two of_game h = tt
-side_refused bytes game Memory one two of_game h = tt
-
-count_refused : (bytes : List ℕ) (game : GameNumbers) (fault : CheckFault) → HasForm bytes 1 (λ line. line ≡ first_line) → HasForm bytes 2 (λ line. SpellsGame line game) → IsGame game → HasForm bytes 3 (λ line. line ≡ side_line Adversary) → RefusedAt bytes 4 IsCountLine NoRule fault → IfRejected fault (FirstFault bytes)
-count_refused bytes game (Rejected line why.Syntax) one two of_game three h =
-    FirstFault-at bytes 4 line why.Syntax h.0 (count_syntax h.1) (Faultless-head bytes 4 (omega arith) (λ l. one) (λ l. (game, two, of_game)) (λ l. three) (λ l. absurd (omega arith)))
-count_refused bytes game (Rejected line (why.Rule rule)) one two of_game three h = absurd h.1.2
-count_refused bytes game Read one two of_game three h = tt
-count_refused bytes game Memory one two of_game three h = tt
-
--- a line that spells a node that breaks a rule behind these nodes
-broken_node : (game : GameNumbers) (count : ℕ) (nodes : List AdvNode) (rule : Rule) (line : List ℕ) → BreaksNode game count (map position_of nodes) rule line → (node : AdvNode) × SpellsAdversary line (length nodes) node × Breaks game (sizes_of game) (map position_of nodes) (length nodes + 1 == count) node rule
-broken_node game count nodes rule line b = (
-  b.0,
-  subst (λ (i : ℕ). SpellsAdversary line i b.0) (length-map nodes position_of) b.1,
-  subst (λ (i : ℕ). Breaks game (sizes_of game) (map position_of nodes) (i + 1 == count) b.0 rule) (length-map nodes position_of) b.2,
-)
-
-node_refused : (bytes : List ℕ) (game : GameNumbers) (count : ℕ) (nodes : List AdvNode) (fault : CheckFault) → HasHead bytes game count → HasNodes bytes nodes → EachMeetsRules game (sizes_of game) count nodes → length nodes < count → RefusedAt bytes (5 + length nodes) (IsNodeLine (length nodes)) (BreaksNode game count (map position_of nodes)) fault → IfRejected fault (FirstFault bytes)
-node_refused bytes game count nodes (Rejected line why.Syntax) head stand each few h =
-    FirstFault-at bytes (5 + length nodes) line why.Syntax h.0 (node_syntax game count (length nodes) head few h.1)
-    (Faultless-nodes bytes (5 + length nodes) game count nodes head stand each (λ k low past. omega arith) (λ past. absurd (omega arith)) (λ past. absurd (omega arith)))
-node_refused bytes game count nodes (Rejected line (why.Rule rule)) head stand each few h =
-    let form = h.1 in
-    let b = broken_node game count nodes rule form.0 form.2 in
-    FirstFault-at bytes (5 + length nodes) line (why.Rule rule) h.0 (node_rule game count nodes b.0 rule head few stand (form.0, form.1, b.1) b.2)
-    (Faultless-nodes bytes (5 + length nodes) game count nodes head stand each (λ k low past. omega arith) (λ past. absurd (omega arith)) (λ past. absurd (omega arith)))
-node_refused bytes game count nodes Read head stand each few h = tt
-node_refused bytes game count nodes Memory head stand each few h = tt
-
-end_refused : (bytes : List ℕ) (game : GameNumbers) (count : ℕ) (nodes : List AdvNode) (fault : CheckFault) → HasHead bytes game count → HasNodes bytes nodes → EachMeetsRules game (sizes_of game) count nodes → length nodes ≡ count → RefusedAt bytes (5 + count) (λ line. line ≡ end_line) NoRule fault → IfRejected fault (FirstFault bytes)
-end_refused bytes game count nodes (Rejected line why.Syntax) head stand each all h =
-    FirstFault-at bytes (5 + count) line why.Syntax h.0 (end_syntax game count head h.1)
-    (Faultless-nodes bytes (5 + count) game count nodes head stand each (λ k low past. omega arith) (λ past. absurd (omega arith)) (λ past. absurd (omega arith)))
-end_refused bytes game count nodes (Rejected line (why.Rule rule)) head stand each all h = absurd h.1.2
-end_refused bytes game count nodes Read head stand each all h = tt
-end_refused bytes game count nodes Memory head stand each all h = tt
-
--- bytes stood behind the end line
-past_refused : (bytes : List ℕ) (game : GameNumbers) (count : ℕ) (nodes : List AdvNode) (fault : CheckFault) → HasHead bytes game count → HasNodes bytes nodes → EachMeetsRules game (sizes_of game) count nodes → length nodes ≡ count → HasForm bytes (5 + count) (λ line. line ≡ end_line) → HasBytesPast bytes (5 + count) → fault ≡ Rejected (6 + count) why.Syntax → IfRejected fault (FirstFault bytes)
-past_refused bytes game count nodes fault head stand each all end past is =
-    subst (λ (f : CheckFault). IfRejected f (FirstFault bytes)) (sym is)
-    (FirstFault-at bytes (6 + count) (6 + count) why.Syntax refl (past_syntax game count head past)
-    (Faultless-nodes bytes (6 + count) game count nodes head stand each (λ k low far. omega arith) (λ far. end) (λ far. absurd (omega arith))))
-
--- ---- from the steps of the reading
-
-stood_told : (given : List (List ℕ)) (left come mid : Option (List ℕ)) (bytes : List ℕ) → come ≡ left → left ≡ Some bytes → StoodNext given come mid → StoodNext given (Some bytes) mid
-stood_told given left come mid bytes fresh e stood = subst (λ (c : Option (List ℕ)). StoodNext given c mid) (fresh ∙ e) stood
-
--- the first line was refused
-pub exit_first : (left come : Option (List ℕ)) (fault : CheckFault) → come ≡ left → RefusesNext 1 (λ text. text ≡ first_line) NoRule come fault → IsFirstOf left fault
-exit_first left come fault fresh h =
-    told left fault (λ bytes e. first_refused bytes fault (refused_after [] bytes come 1 (λ text. text ≡ first_line) NoRule fault (stood_told [] left come come bytes fresh e (StoodNext-none come)) refl h))
-
--- the game's line was refused
-pub exit_game : (left come first : Option (List ℕ)) (fault : CheckFault) → come ≡ left → StoodNext (first_line ∷ []) come first → RefusesNext 2 IsGameLine BreaksGame first fault → IsFirstOf left fault
-exit_game left come first fault fresh one h =
-    told left fault (λ bytes e. (let given : List (List ℕ) = first_line ∷ [] in
-    let s = stood_told given left come first bytes fresh e one in
-    game_refused bytes fault (first_line, line_at given bytes first 0 1 first_line s refl (omega arith), refl) (refused_after given bytes first 2 IsGameLine BreaksGame fault s refl h)))
-
--- the side's line was refused
-pub exit_side : (game : GameNumbers) (left come first second : Option (List ℕ)) (fault : CheckFault) → come ≡ left → IsGame game → StoodNext (first_line ∷ []) come first → StoodNext (game_line game ∷ []) first second → RefusesNext 3 IsSideLine BreaksSide second fault → IsFirstOf left fault
-exit_side game left come first second fault fresh of_game one two h =
-    told left fault (λ bytes e. (let given : List (List ℕ) = first_line ∷ game_line game ∷ [] in
-    let s = stood_told given left come second bytes fresh e (StoodNext-then (first_line ∷ []) (game_line game ∷ []) come first second one two) in
-    side_refused bytes game fault (first_line, line_at given bytes second 0 1 first_line s refl (omega arith), refl) (game_line game, line_at given bytes second 1 2 (game_line game) s refl (omega arith), game_spelled game of_game) of_game (refused_after given bytes second 3 IsSideLine BreaksSide fault s refl h)))
-
--- the line of the number of nodes was refused
-pub exit_count : (game : GameNumbers) (left come first second third : Option (List ℕ)) (fault : CheckFault) → come ≡ left → IsGame game → StoodNext (first_line ∷ []) come first → StoodNext (game_line game ∷ []) first second → StoodNext (side_line Adversary ∷ []) second third → RefusesNext 4 IsCountLine NoRule third fault → IsFirstOf left fault
-exit_count game left come first second third fault fresh of_game one two three h =
-    told left fault (λ bytes e. (let given : List (List ℕ) = first_line ∷ game_line game ∷ side_line Adversary ∷ [] in
-    let s = stood_told given left come third bytes fresh e (StoodNext-then (first_line ∷ []) (game_line game ∷ side_line Adversary ∷ []) come first third one (StoodNext-then (game_line game ∷ []) (side_line Adversary ∷ []) first second third two three)) in
-    count_refused bytes game fault (first_line, line_at given bytes third 0 1 first_line s refl (omega arith), refl) (game_line game, line_at given bytes third 1 2 (game_line game) s refl (omega arith), game_spelled game of_game) of_game (side_line Adversary, line_at given bytes third 2 3 (side_line Adversary) s refl (omega arith), refl) (refused_after given bytes third 4 IsCountLine NoRule fault s refl h)))
-
--- the lines of a head stood next, and then some lines
-head_stood : (game : GameNumbers) (count : ℕ) (lines : List (List ℕ)) (come first second third fourth last : Option (List ℕ)) → StoodNext (first_line ∷ []) come first → StoodNext (game_line game ∷ []) first second → StoodNext (side_line Adversary ∷ []) second third → StoodNext (count_line count ∷ []) third fourth → StoodNext lines fourth last → StoodNext (head_lines game count lines) come last
-head_stood game count lines come first second third fourth last one two three four more =
-    StoodNext-then (first_line ∷ []) (game_line game ∷ side_line Adversary ∷ count_line count ∷ lines) come first last one
-    (StoodNext-then (game_line game ∷ []) (side_line Adversary ∷ count_line count ∷ lines) first second last two
-    (StoodNext-then (side_line Adversary ∷ []) (count_line count ∷ lines) second third last three
-    (StoodNext-then (count_line count ∷ []) lines third fourth last four more)))
-
-length-head_lines : (game : GameNumbers) (count : ℕ) (nodes : List AdvNode) → length (head_lines game count (adversary_lines 0 nodes)) ≡ 4 + length nodes
-length-head_lines game count nodes = omega (arith, length-adversary_lines 0 nodes)
-
--- a node's line was refused
-pub exit_nodes : (game : GameNumbers) (count : ℕ) (left come first second third fourth : Option (List ℕ)) (fault : CheckFault) → come ≡ left → IsGame game → (1 ≤ count) × (count ≤ 4000000000) → StoodNext (first_line ∷ []) come first → StoodNext (game_line game ∷ []) first second → StoodNext (side_line Adversary ∷ []) second third → StoodNext (count_line count ∷ []) third fourth → RefusesNode game count fourth fault → IsFirstOf left fault
-exit_nodes game count left come first second third fourth fault fresh of_game range one two three four h =
-    told left fault (λ bytes e. (let lines : List (List ℕ) = adversary_lines 0 h.nodes in
-    let given : List (List ℕ) = head_lines game count lines in
-    let s = stood_told given left come h.mid bytes fresh e (head_stood game count lines come first second third fourth h.mid one two three four h.stood) in
-    let place : length given + 1 ≡ 5 + length h.nodes = omega (arith, length-head_lines game count h.nodes) in
-    node_refused bytes game count h.nodes fault (head_from game count lines bytes h.mid of_game range s) (nodes_from game count h.nodes lines bytes h.mid h.spellable (λ k line at. at) s) h.each h.few (refused_after given bytes h.mid (5 + length h.nodes) (IsNodeLine (length h.nodes)) (BreaksNode game count (map position_of h.nodes)) fault s place h.refused)))
-
--- bytes stood behind these lines and the end line
-past_from : (given : List (List ℕ)) (bytes rest : List ℕ) (n : ℕ) → StoodNext given (Some bytes) (Some rest) → length given + 1 ≡ n → HasMore end_line rest → HasBytesPast bytes n
-past_from given bytes rest n stood place more =
-    let both = StoodNext-then given (end_line ∷ []) (Some bytes) (Some rest) (Some more.rest) stood (StoodNext-one end_line (Some rest) (Some more.rest) more.whole (ap Some more.split)) in
+-- What is wrong after lines that have no fault is the first fault. Where a read failed after them, no whole line has a fault.
+conclude : (wanted : Wanted) (given : List (List ℕ)) (Wrong : CheckFault → List ℕ → Type 0) (fault : CheckFault) (old : ReaderState) (left new_left : Option (List ℕ)) → ((bytes rest : List ℕ) → StandFirst given bytes rest → Faultless wanted bytes (length given + 1)) → ((bytes rest : List ℕ) (line : ℕ) (cause : Why) → StandFirst given bytes rest → Wrong (Rejected line cause) rest → (line ≡ length given + 1) × LineFault wanted bytes (length given + 1) cause) → RefusesAfter given Wrong fault old left new_left → IsFaultOf wanted old.held fault left new_left
+conclude wanted given Wrong (Rejected line cause) old left new_left clean wrong r =
+    let first : (bytes : List ℕ) → IsWrongAfter given Wrong (Rejected line cause) bytes → FirstFault wanted bytes line cause = λ bytes w. (let f = wrong bytes w.0 line cause w.1 w.2 in FirstFault-at wanted bytes (length given + 1) line cause f.0 f.1 (clean bytes w.0 w.1)) in
     record {
-      before = given ++ end_line ∷ [];
-      rest = more.rest;
-      place = omega (arith, length_push given end_line);
-      lines = no_lf (given ++ end_line ∷ []) both.whole;
-      some = more.some;
-      split = stood_bytes (given ++ end_line ∷ []) bytes more.rest both;
+      read = r.read;
+      gone = r.gone;
+      first = first (old.held ++ r.read) r.in_hand;
+      first_of_input = told_all (λ bytes. FirstFault wanted (old.held ++ bytes) line cause) left (λ bytes e. first (old.held ++ bytes) (told_at (λ bytes. IsWrongAfter given Wrong (Rejected line cause) (old.held ++ bytes)) left bytes r.in_all e));
     }
+conclude wanted given Wrong Read old left new_left clean wrong r =
+    let n = r.no_line refl in
+    record {
+      read = r.read;
+      gone = r.gone;
+      faultless = λ line rest fault whole f. none_below wanted (old.held ++ r.read) (length given + 1) (clean (old.held ++ r.read) n.0 n.1) line fault (omega (arith, few_whole given (old.held ++ r.read) n.0 rest line n.1 n.2 whole)) f;
+    }
+conclude wanted given Wrong Memory old left new_left clean wrong r = (r.read, r.gone)
 
-end_from : (bytes : List ℕ) (game : GameNumbers) (count : ℕ) (nodes : List AdvNode) (given : List (List ℕ)) (mid : Option (List ℕ)) (fault : CheckFault) → HasHead bytes game count → HasNodes bytes nodes → EachMeetsRules game (sizes_of game) count nodes → length nodes ≡ count → StoodNext given (Some bytes) mid → length given + 1 ≡ 5 + count → RefusesEnd count mid fault → IfRejected fault (FirstFault bytes)
-end_from bytes game count nodes given mid fault head stand each all stood place (inl h) =
-    end_refused bytes game count nodes fault head stand each all (refused_after given bytes mid (5 + count) (λ text. text ≡ end_line) NoRule fault stood place h)
-end_from bytes game count nodes given None fault head stand each all stood place (inr h) = absurd (stood_none given bytes stood)
-end_from bytes game count nodes given (Some rest) fault head stand each all stood place (inr h) =
-    let more = h.1 in
-    past_refused bytes game count nodes fault head stand each all
-    (form_from given bytes rest (5 + count) (λ text. text ≡ end_line) stood place (record { line = end_line; rest = more.rest; whole = more.whole; split = more.split; form = refl }))
-    (past_from given bytes rest (5 + count) stood place more) h.0
+-- what is wrong with line n
+abbrev RefusedAt : List ℕ → ℕ → (List ℕ → Type 0) → (Rule → List ℕ → Type 0) → Why → Type 0
+RefusedAt bytes n Form Breaking why.Syntax = HasForm bytes n Form → ⊥
+RefusedAt bytes n Form Breaking (why.Rule rule) = HasForm bytes n (Breaking rule)
 
--- the end was refused
-pub exit_end : (game : GameNumbers) (count : ℕ) (left come first second third fourth fifth : Option (List ℕ)) (reader : ReaderState) (fault : CheckFault) → come ≡ left → IsGame game → (1 ≤ count) × (count ≤ 4000000000) → StoodNext (first_line ∷ []) come first → StoodNext (game_line game ∷ []) first second → StoodNext (side_line Adversary ∷ []) second third → StoodNext (count_line count ∷ []) third fourth → ReadsNodes game count reader fourth fifth → RefusesEnd count fifth fault → IsFirstOf left fault
-exit_end game count left come first second third fourth fifth reader fault fresh of_game range one two three four r h =
-    told left fault (λ bytes e. (let lines : List (List ℕ) = adversary_lines 0 r.nodes in
-    let given : List (List ℕ) = head_lines game count lines in
-    let s = stood_told given left come fifth bytes fresh e (head_stood game count lines come first second third fourth fifth one two three four r.lines.stood) in
-    let place : length given + 1 ≡ 5 + count = omega (arith, length-head_lines game count r.nodes, r.number) in
-    end_from bytes game count r.nodes given fifth fault (head_from game count lines bytes fifth of_game range s) (nodes_from game count r.nodes lines bytes fifth r.spellable (λ k line at. at) s) r.each r.number s place h))
+refused_at : (given : List (List ℕ)) (n : ℕ) (Form : List ℕ → Type 0) (Breaking : Rule → List ℕ → Type 0) (bytes rest : List ℕ) (line : ℕ) (cause : Why) → length given + 1 ≡ n → StandFirst given bytes rest → IsWrongNext n Form Breaking (Rejected line cause) rest → (line ≡ n) × RefusedAt bytes n Form Breaking cause
+refused_at given n Form Breaking bytes rest line why.Syntax place stood h = (h.0, λ form. h.1 (next_from given bytes rest n Form stood place form))
+refused_at given n Form Breaking bytes rest line (why.Rule rule) place stood h = (h.0, form_from given bytes rest n (Breaking rule) stood place h.1)
 
--- the fault of a step is the answer's
-pub passed_on : {X : Type 0} (left : Option (List ℕ)) (fault : CheckFault) (result : Result X CheckFault) → IsErrAnd result (λ y. y ≡ fault) → IsFirstOf left fault → IfErr result (IsFirstOf left)
-passed_on left fault (Ok x) h k = tt
-passed_on left fault (Err y) h k = subst (IsFirstOf left) (sym h) k
+first_fault : (wanted : Wanted) (bytes : List ℕ) (cause : Why) → RefusedAt bytes 1 IsFirstLine NoRule cause → LineFault wanted bytes 1 cause
+first_fault wanted bytes why.Syntax h = in_head (first_syntax h)
+first_fault wanted bytes (why.Rule rule) h = absurd h.2
+
+game_fault : (wanted : Wanted) (bytes : List ℕ) (cause : Why) → RefusedAt bytes 2 IsGameLine BreaksGame cause → LineFault wanted bytes 2 cause
+game_fault wanted bytes why.Syntax h = in_head (game_syntax h)
+game_fault wanted bytes (why.Rule rule) h =
+    let breaks = h.2 in
+    subst (λ (r : Rule). LineFault wanted bytes 2 (why.Rule r)) (sym breaks.0) (in_head (game_rule breaks.1.0 (h.0, h.1, breaks.1.1) breaks.1.2))
+
+side_fault : (wanted : Wanted) (bytes : List ℕ) (cause : Why) → RefusedAt bytes 3 IsSideLine (BreaksSide wanted) cause → LineFault wanted bytes 3 cause
+side_fault wanted bytes why.Syntax h = in_head (side_syntax h)
+side_fault wanted bytes (why.Rule rule) h =
+    let breaks = h.2 in
+    subst (λ (r : Rule). LineFault wanted bytes 3 (why.Rule r)) (sym breaks.0) (in_head (side_rule breaks.1.0 (h.0, h.1, breaks.1.1) breaks.1.2))
+
+count_fault : (wanted : Wanted) (bytes : List ℕ) (cause : Why) → RefusedAt bytes 4 IsCountLine NoRule cause → LineFault wanted bytes 4 cause
+count_fault wanted bytes why.Syntax h = in_head (count_syntax h)
+count_fault wanted bytes (why.Rule rule) h = absurd h.2
+
+-- ---- where a head line was refused
+
+pub exit_first : (wanted : Wanted) (fault : CheckFault) (old : ReaderState) (left new_left : Option (List ℕ)) → RefusesAfter [] (IsWrongNext 1 IsFirstLine NoRule) fault old left new_left → IsFaultOf wanted old.held fault left new_left
+exit_first wanted fault old left new_left r =
+    conclude wanted [] (IsWrongNext 1 IsFirstLine NoRule) fault old left new_left
+    (λ bytes rest stood. Faultless-head wanted bytes 1 (omega arith) (λ l. absurd (omega arith)) (λ l. absurd (omega arith)) (λ l. absurd (omega arith)) (λ l. absurd (omega arith)))
+    (λ bytes rest line cause stood w. let f = refused_at [] 1 IsFirstLine NoRule bytes rest line cause refl stood w in (f.0, first_fault wanted bytes cause f.1))
+    r
+
+pub exit_game : (wanted : Wanted) (format : Format) (fault : CheckFault) (old : ReaderState) (left new_left : Option (List ℕ)) → RefusesAfter (first_line format ∷ []) (IsWrongNext 2 IsGameLine BreaksGame) fault old left new_left → IsFaultOf wanted old.held fault left new_left
+exit_game wanted format fault old left new_left r =
+    conclude wanted (first_line format ∷ []) (IsWrongNext 2 IsGameLine BreaksGame) fault old left new_left
+    (λ bytes rest stood. let one = first_from format [] bytes rest stood in Faultless-head wanted bytes 2 (omega arith) (λ l. (one.0, one.1, (format, one.2))) (λ l. absurd (omega arith)) (λ l. absurd (omega arith)) (λ l. absurd (omega arith)))
+    (λ bytes rest line cause stood w. let f = refused_at (first_line format ∷ []) 2 IsGameLine BreaksGame bytes rest line cause refl stood w in (f.0, game_fault wanted bytes cause f.1))
+    r
+
+pub exit_side : (wanted : Wanted) (format : Format) (game : GameNumbers) (fault : CheckFault) (old : ReaderState) (left new_left : Option (List ℕ)) → IsGame game → RefusesAfter (first_line format ∷ game_line game ∷ []) (IsWrongNext 3 IsSideLine (BreaksSide wanted)) fault old left new_left → IsFaultOf wanted old.held fault left new_left
+exit_side wanted format game fault old left new_left of_game r =
+    conclude wanted (first_line format ∷ game_line game ∷ []) (IsWrongNext 3 IsSideLine (BreaksSide wanted)) fault old left new_left
+    (λ bytes rest stood.
+        let one = first_from format (game_line game ∷ []) bytes rest stood in
+        Faultless-head wanted bytes 3 (omega arith) (λ l. (one.0, one.1, (format, one.2))) (λ l. (game, game_from (first_line format) game [] bytes rest of_game stood, of_game)) (λ l. absurd (omega arith)) (λ l. absurd (omega arith)))
+    (λ bytes rest line cause stood w. let f = refused_at (first_line format ∷ game_line game ∷ []) 3 IsSideLine (BreaksSide wanted) bytes rest line cause refl stood w in (f.0, side_fault wanted bytes cause f.1))
+    r
+
+pub exit_count : (wanted : Wanted) (format : Format) (game : GameNumbers) (side : Side) (fault : CheckFault) (old : ReaderState) (left new_left : Option (List ℕ)) → IsGame game → IsWanted wanted side → RefusesAfter (first_line format ∷ game_line game ∷ side_line side ∷ []) (IsWrongNext 4 IsCountLine NoRule) fault old left new_left → IsFaultOf wanted old.held fault left new_left
+exit_count wanted format game side fault old left new_left of_game of_side r =
+    conclude wanted (first_line format ∷ game_line game ∷ side_line side ∷ []) (IsWrongNext 4 IsCountLine NoRule) fault old left new_left
+    (λ bytes rest stood.
+        let one = first_from format (game_line game ∷ side_line side ∷ []) bytes rest stood in
+        Faultless-head wanted bytes 4 (omega arith) (λ l. (one.0, one.1, (format, one.2))) (λ l. (game, game_from (first_line format) game (side_line side ∷ []) bytes rest of_game stood, of_game)) (λ l. (side, side_from (first_line format) (game_line game) side [] bytes rest stood, of_side)) (λ l. absurd (omega arith)))
+    (λ bytes rest line cause stood w. let f = refused_at (first_line format ∷ game_line game ∷ side_line side ∷ []) 4 IsCountLine NoRule bytes rest line cause refl stood w in (f.0, count_fault wanted bytes cause f.1))
+    r
+
+-- ---- where a line after the head was refused
+
+-- the bytes in which a head and nodes stand first
+record Stands (wanted : Wanted) (head : Head) (nodes : List AnyNode) (bytes : List ℕ) : Type 0 where
+  has : HasHead wanted bytes head
+  stand : HasNodes bytes head nodes
+
+stands_from : (wanted : Wanted) (head : Head) (nodes : List AnyNode) (more : List (List ℕ)) (bytes rest : List ℕ) → IsHead wanted head → AreJudged head nodes → StandFirst (lines_of_head head ++ node_lines 0 nodes ++ more) bytes rest → Stands wanted head nodes bytes
+stands_from wanted head nodes more bytes rest is judged stood = record {
+  has = head_from wanted head (node_lines 0 nodes ++ more) bytes rest is stood;
+  stand = HasNodes-from head nodes more bytes rest is.start judged stood;
+}
+
+node_fault : (wanted : Wanted) (head : Head) (nodes : List AnyNode) (bytes : List ℕ) (cause : Why) → Stands wanted head nodes bytes → length nodes < head.count → RefusedAt bytes (head.start + length nodes) (IsNodeLine head (length nodes)) (IsBrokenNodeLine head (map position_of nodes)) cause → LineFault wanted bytes (head.start + length nodes) cause
+node_fault wanted head nodes bytes why.Syntax s few h = in_body head s.has (node_syntax (length nodes) few h)
+node_fault wanted head nodes bytes (why.Rule rule) s few h =
+    let same : length (map position_of nodes) ≡ length nodes = length-map nodes position_of in
+    in_body head s.has
+    (subst (λ (i : ℕ). BodyFault bytes head (head.start + i) (why.Rule rule)) same
+    (node_rule (map position_of nodes) rule (omega (arith, same)) (HasPositions-from bytes head nodes s.stand) (subst (λ (i : ℕ). HasForm bytes (head.start + i) (IsBrokenNodeLine head (map position_of nodes) rule)) (sym same) h)))
+
+pub exit_node : (wanted : Wanted) (head : Head) (nodes : List AnyNode) (fault : CheckFault) (old : ReaderState) (left new_left : Option (List ℕ)) → IsHead wanted head → AreJudged head nodes → length nodes < head.count → RefusesAfter (lines_of_head head ++ node_lines 0 nodes) (IsWrongNext (head.start + length nodes) (IsNodeLine head (length nodes)) (IsBrokenNodeLine head (map position_of nodes))) fault old left new_left → IsFaultOf wanted old.held fault left new_left
+exit_node wanted head nodes fault old left new_left is judged few r =
+    let given : List (List ℕ) = lines_of_head head ++ node_lines 0 nodes in
+    let place : length given + 1 ≡ head.start + length nodes = omega (arith, length-append (lines_of_head head) (node_lines 0 nodes), length-node_lines 0 nodes, is.start) in
+    let stands = λ (bytes rest : List ℕ) (stood : StandFirst given bytes rest). stands_from wanted head nodes [] bytes rest is judged (subst (λ (lines : List (List ℕ)). StandFirst (lines_of_head head ++ lines) bytes rest) (sym (append-nil (node_lines 0 nodes))) stood) in
+    conclude wanted given (IsWrongNext (head.start + length nodes) (IsNodeLine head (length nodes)) (IsBrokenNodeLine head (map position_of nodes))) fault old left new_left
+    (λ bytes rest stood.
+        let s = stands bytes rest stood in
+        Faultless-body wanted bytes (length given + 1) head nodes s.has s.stand judged.each (λ k low past. omega (arith, place)) (λ past. absurd (omega (arith, place))) (λ past. absurd (omega (arith, place))))
+    (λ bytes rest line cause stood w.
+        let f = refused_at given (head.start + length nodes) (IsNodeLine head (length nodes)) (IsBrokenNodeLine head (map position_of nodes)) bytes rest line cause place stood w in
+        (f.0 ∙ sym place, subst (λ (i : ℕ). LineFault wanted bytes i cause) (sym place) (node_fault wanted head nodes bytes cause (stands bytes rest stood) few f.1)))
+    r
+
+end_fault : (wanted : Wanted) (head : Head) (bytes : List ℕ) (cause : Why) → HasHead wanted bytes head → RefusedAt bytes (head.start + head.count) (λ line. line ≡ end_line) NoRule cause → LineFault wanted bytes (head.start + head.count) cause
+end_fault wanted head bytes why.Syntax has h = in_body head has (end_syntax h)
+end_fault wanted head bytes (why.Rule rule) has h = absurd h.2
+
+pub exit_end : (wanted : Wanted) (head : Head) (nodes : List AnyNode) (fault : CheckFault) (old : ReaderState) (left new_left : Option (List ℕ)) → IsHead wanted head → AreJudged head nodes → length nodes ≡ head.count → RefusesAfter (lines_of_head head ++ node_lines 0 nodes) (IsWrongNext (head.start + head.count) (λ line. line ≡ end_line) NoRule) fault old left new_left → IsFaultOf wanted old.held fault left new_left
+exit_end wanted head nodes fault old left new_left is judged all r =
+    let given : List (List ℕ) = lines_of_head head ++ node_lines 0 nodes in
+    let place : length given + 1 ≡ head.start + head.count = omega (arith, length-append (lines_of_head head) (node_lines 0 nodes), length-node_lines 0 nodes, is.start, all) in
+    let stands = λ (bytes rest : List ℕ) (stood : StandFirst given bytes rest). stands_from wanted head nodes [] bytes rest is judged (subst (λ (lines : List (List ℕ)). StandFirst (lines_of_head head ++ lines) bytes rest) (sym (append-nil (node_lines 0 nodes))) stood) in
+    conclude wanted given (IsWrongNext (head.start + head.count) (λ line. line ≡ end_line) NoRule) fault old left new_left
+    (λ bytes rest stood.
+        let s = stands bytes rest stood in
+        Faultless-body wanted bytes (length given + 1) head nodes s.has s.stand judged.each (λ k low past. omega (arith, all)) (λ past. absurd (omega (arith, place))) (λ past. absurd (omega (arith, place))))
+    (λ bytes rest line cause stood w.
+        let f = refused_at given (head.start + head.count) (λ line. line ≡ end_line) NoRule bytes rest line cause place stood w in
+        (f.0 ∙ sym place, subst (λ (i : ℕ). LineFault wanted bytes i cause) (sym place) (end_fault wanted head bytes cause (stands bytes rest stood).has f.1)))
+    r
+
+past_fault : (n line : ℕ) (cause : Why) (rest : List ℕ) → IsPastEnd n (Rejected line cause) rest → (line ≡ n) × (cause ≡ why.Syntax) × (rest ≢ [])
+past_fault n line why.Syntax rest h = (h.0, refl, h.1)
+past_fault n line (why.Rule rule) rest h = absurd h
+
+-- the lines of a whole text
+pub lines_of_text : Head → List AnyNode → List (List ℕ)
+lines_of_text head nodes = lines_of_head head ++ node_lines 0 nodes ++ end_line ∷ []
+
+length-lines_of_text : (head : Head) (nodes : List AnyNode) → length (lines_of_text head nodes) ≡ 5 + length nodes
+unfolding lines_of_text
+length-lines_of_text head nodes = omega (arith, length-append (lines_of_head head) (node_lines 0 nodes ++ end_line ∷ []), length_push (node_lines 0 nodes) end_line, length-node_lines 0 nodes)
+
+-- where a whole text stands first, no line up to its last has a fault
+pub Faultless-text : (wanted : Wanted) (head : Head) (nodes : List AnyNode) (bytes rest : List ℕ) → IsHead wanted head → AreJudged head nodes → length nodes ≡ head.count → StandFirst (lines_of_text head nodes) bytes rest → Faultless wanted bytes (head.start + head.count + 1)
+unfolding lines_of_text
+Faultless-text wanted head nodes bytes rest is judged all stood =
+    let s = stands_from wanted head nodes (end_line ∷ []) bytes rest is judged stood in
+    let get : slice_get (lines_of_text head nodes) (4 + (length (node_lines 0 nodes) + 0)) ≡ Some end_line = after_get (lines_of_head head) (node_lines 0 nodes ++ end_line ∷ []) (length (node_lines 0 nodes) + 0) end_line (after_get (node_lines 0 nodes) (end_line ∷ []) 0 end_line refl) in
+    let end : HasForm bytes (head.start + head.count) (λ line. line ≡ end_line) = (end_line, line_at (lines_of_text head nodes) bytes rest (4 + (length (node_lines 0 nodes) + 0)) (head.start + head.count) end_line stood get (omega (arith, length-node_lines 0 nodes, is.start, all)), refl) in
+    Faultless-body wanted bytes (head.start + head.count + 1) head nodes s.has s.stand judged.each (λ k low past. omega (arith, all)) (λ past. end) (λ past. absurd (omega arith))
+
+pub exit_past : (wanted : Wanted) (head : Head) (nodes : List AnyNode) (fault : CheckFault) (old : ReaderState) (left new_left : Option (List ℕ)) → IsHead wanted head → AreJudged head nodes → length nodes ≡ head.count → RefusesAfter (lines_of_text head nodes) (IsPastEnd (head.start + head.count + 1)) fault old left new_left → IsFaultOf wanted old.held fault left new_left
+unfolding lines_of_text
+exit_past wanted head nodes fault old left new_left is judged all r =
+    let place : length (lines_of_text head nodes) + 1 ≡ head.start + head.count + 1 = omega (arith, length-lines_of_text head nodes, is.start, all) in
+    conclude wanted (lines_of_text head nodes) (IsPastEnd (head.start + head.count + 1)) fault old left new_left
+    (λ bytes rest stood. subst (λ (i : ℕ). Faultless wanted bytes i) (sym place) (Faultless-text wanted head nodes bytes rest is judged all stood))
+    (λ bytes rest line cause stood w.
+        let p = past_fault (head.start + head.count + 1) line cause rest w in
+        let s = stands_from wanted head nodes (end_line ∷ []) bytes rest is judged stood in
+        let whole : HasWhole bytes (head.start + head.count) rest = subst (λ (i : ℕ). HasWhole bytes i rest) (omega (arith, place)) (HasWhole-from (lines_of_text head nodes) bytes rest stood) in
+        (p.0 ∙ sym place, subst (λ (i : ℕ). LineFault wanted bytes i cause) (sym place) (subst (λ (c : Why). LineFault wanted bytes (head.start + head.count + 1) c) (sym p.1) (in_body head s.has (past_syntax (rest, whole, p.2))))))
+    r

@@ -1,5 +1,5 @@
+pub mod LineLemmas
 pub mod ProgressLemmas
-pub mod RefusalLemmas
+pub mod HeadLemmas
+pub mod NodeLemmas
 pub mod FaultLemmas
-pub mod LegalText
-pub mod OneFault

@@ -2,15 +2,19 @@
 use Rattle.std.specs.Prelude.{◌≡◌, ◌≢◌, ◌==◌, ℕ, ◌+◌, ◌<◌, ◌≤◌, List, [], ◌∷◌, ◌++◌, length, All, Option, None, Some, IfSome, map, slice_get}
 use Rattle.port_io.specs.Lines.{ReaderState, HasNoLf, IsLine, with_lf}
 use Rattle.items.specs.Game.{GameNumbers, IsGame}
+use Rattle.items.specs.Multiset.{sizes_of}
 use Rattle.loads.specs.declared.position.Position.{Position}
 use Rattle.strategy_text.specs.Spelling.{SpellsGame, most_nodes}
-use Rattle.strategy_text.specs.Text.{AnyNode, node_line, node_lines, first_line, game_line, side_line, count_line, head_lines, end_line, text_of_lines}
+use Rattle.strategy_text.specs.Text.{AnyNode, of_adversary, of_algorithm, node_line, node_lines, first_line, game_line, side_line, count_line, head_lines, end_line, text_of_lines}
 use Rattle.strategy_text.specs.declared.node.Format.{Format}
 use Rattle.strategy_text.specs.declared.node.Side.{Side}
 use Rattle.strategy_text.specs.declared.rule.Rule.{Rule}
 use Rattle.strategy_text.specs.declared.rule.Rule.TheVariants as rules
-use Rattle.checker.specs.Head.{Head, position_of, SpellsUnder, MeetsRules, EachMeetsRules, IsNodeLine, IsBrokenNodeLine}
-use Rattle.checker.specs.Accepted.{IsGone}
+use Rattle.checker.specs.declared.head.Head as declared
+use Rattle.checker.specs.declared.node.Node.{Node}
+use Rattle.checker.specs.declared.node.Node.TheVariants as read
+use Rattle.checker.specs.Head.{Head, head_of_game, position_of, SpellsUnder, MeetsRules, Breaks, EachMeetsRules, IsNodeLine, IsBrokenNodeLine}
+use Rattle.checker.specs.Accepted.{IsGone, IsReadWhole}
 use Rattle.checker.specs.FirstFault.{IsWanted, IsFirstLine, IsGameLine, IsSideLine, IsCountLine}
 use Rattle.checker.specs.declared.fault.CheckFault.{CheckFault}
 use Rattle.checker.specs.declared.fault.CheckFault.TheVariants.{Rejected, Read, Memory}
@@ -82,12 +86,14 @@ BreaksGame rule line = (rule ≡ rules.Game) × ((game : GameNumbers) × SpellsG
 abbrev pub BreaksSide : Wanted → Rule → List ℕ → Type 0
 BreaksSide wanted rule line = (rule ≡ rules.Side) × ((side : Side) × (line ≡ side_line side) × ¬ (IsWanted wanted side))
 
--- the numbers of a head are in their ranges, and its side is wanted
+-- a head of four lines over the whole game, whose numbers are in their ranges, and whose side is wanted
 pub record IsHead (wanted : Wanted) (head : Head) : Type 0 where
   pub of_game : IsGame head.game
   pub wanted_side : IsWanted wanted head.side
   pub low : 1 ≤ head.count
   pub high : head.count ≤ most_nodes
+  pub whole_game : head.sizes ≡ sizes_of head.game
+  pub start : head.start ≡ 5
 
 -- the head lines that tell this
 abbrev pub lines_of_head : Head → List (List ℕ)
@@ -98,12 +104,32 @@ pub record AreJudged (head : Head) (nodes : List AnyNode) : Type 0 where
   pub spelled : (k : ℕ) (node : AnyNode) → slice_get nodes k ≡ Some node → SpellsUnder head k (node_line k node) node
   pub each : EachMeetsRules head nodes
 
--- the node that stood next was read: it meets every rule as the one that follows the earlier ones, and its position was put after theirs
-pub record ReadsNode (head : Head) (earlier kept : List Position) (node : AnyNode) (old new : ReaderState) (left new_left : Option (List ℕ)) : Type 0 where
-  pub reads : ReadsLines (node_line (length earlier) node ∷ []) old new left new_left
-  pub under : SpellsUnder head (length earlier) (node_line (length earlier) node) node
+-- a line of this number was refused, which is to be of a form and to break no rule, or memory was
+abbrev pub IsRefusedLine : ℕ → (List ℕ → Type 0) → (Rule → List ℕ → Type 0) → CheckFault → List ℕ → Type 0
+IsRefusedLine number Form Breaking (Rejected line why.Syntax) text = (line ≡ number) × (Form text → ⊥)
+IsRefusedLine number Form Breaking (Rejected line (why.Rule rule)) text = (line ≡ number) × Breaking rule text
+IsRefusedLine number Form Breaking Read text = ⊥
+IsRefusedLine number Form Breaking Memory text = Unit {0}
+
+-- a node in the line of this number was refused, since it breaks a rule, or memory was
+abbrev pub IsBrokenBy : Head → List Position → ℕ → AnyNode → CheckFault → Type 0
+IsBrokenBy head earlier number node (Rejected line why.Syntax) = ⊥
+IsBrokenBy head earlier number node (Rejected line (why.Rule rule)) =
+    (line ≡ number) × Breaks head earlier (length earlier + 1 == head.count) node rule
+IsBrokenBy head earlier number node Read = ⊥
+IsBrokenBy head earlier number node Memory = Unit {0}
+
+-- the line spells a node that meets every rule as the one that follows the earlier ones, and its position was put after theirs
+pub record TakesNode (head : Head) (earlier kept : List Position) (node : AnyNode) (text : List ℕ) : Type 0 where
+  pub under : SpellsUnder head (length earlier) text node
   pub meets : MeetsRules head earlier (length earlier + 1 == head.count) node
   pub put : kept ≡ earlier ++ position_of node ∷ []
+
+-- the node that stood next was read: it meets every rule as the one that follows the earlier ones, and its position was put after theirs
+pub record ReadsNode (head : Head) (earlier kept : List Position) (node : AnyNode) (old new : ReaderState) (left new_left : Option (List ℕ)) : Type 0 where
+  pub text : List ℕ
+  pub reads : ReadsLines (text ∷ []) old new left new_left
+  pub takes : TakesNode head earlier kept node text
 
 -- all nodes stood next and were read, each of which meets every rule
 pub record ReadsNodes (head : Head) (nodes : List AnyNode) (old new : ReaderState) (left new_left : Option (List ℕ)) : Type 0 where
@@ -124,3 +150,18 @@ pub record ReadsText (wanted : Wanted) (head : Head) (nodes : List AnyNode) (old
   pub number : length nodes ≡ head.count
   pub judged : AreJudged head nodes
   pub reads : ReadsLines (lines_of_head head ++ node_lines 0 nodes ++ end_line ∷ []) old new left new_left
+
+-- the head that the numbers read tell
+abbrev pub told_by : declared.Head → Head
+told_by head = head_of_game head.format head.game head.side head.count
+
+-- a node of either side, as it was read
+abbrev pub any_node : Node → AnyNode
+any_node (read.Adversary node) = of_adversary node
+any_node (read.Algorithm node) = of_algorithm node
+
+-- the input ended: nothing was held and nothing was read, and nothing is left, where the source tells what is left
+pub record ReadsEnd (old : ReaderState) (left new_left : Option (List ℕ)) : Type 0 where
+  pub held : old.held ≡ []
+  pub gone : IsGone [] left new_left
+  pub whole : IsReadWhole new_left

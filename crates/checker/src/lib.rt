@@ -2,11 +2,9 @@
 #![tactic(auto)]
 
 mod fault;
-pub mod laws;
+mod head;
+mod node;
 mod reading;
 
-pub use fault::{Accepted, CheckFault, Why};
+pub use fault::{Accepted, CheckFault, Wanted, Why};
 pub use reading::check;
-
-#[cfg(test)]
-mod tests;
