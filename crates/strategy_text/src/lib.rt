@@ -25,3 +25,6 @@ pub use node::{
 pub use rule::Rule;
 pub use text::{Text, text_of};
 pub use writing::write_strategy;
+
+#[cfg(test)]
+mod tests;
