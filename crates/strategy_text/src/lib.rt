@@ -27,4 +27,6 @@ pub use text::{Text, text_of};
 pub use writing::write_strategy;
 
 #[cfg(test)]
+mod file_tests;
+#[cfg(test)]
 mod tests;

@@ -1,9 +1,5 @@
-ghost use Rattle.std.specs.Prelude.{◌≤◌, All, IfOk, length};
-ghost use Rattle.strategy_text.specs.Spelling.{IsSpellableAdversary, IsSpellableAlgorithm, IsSpellable};
-
 use super::*;
-use items::{Game, Nums};
-use port_io::{Failed, MemSink};
+use items::Nums;
 use std::alloc::{AllocError, Global};
 use std::process::Abort;
 use std::test::*;
@@ -135,7 +131,9 @@ fn replies(alloc: Global, line: &str) -> Result<(bool, bool), AllocError> {
 }
 
 #[test]
-fn lines_of_the_adversary_are_read_exactly_where_they_spell_a_node(rt: HostRuntime) -> Result<(), Fail> {
+fn lines_of_the_adversary_are_read_exactly_where_they_spell_a_node(
+    rt: HostRuntime,
+) -> Result<(), Fail> {
     for line in SENDS {
         assert_eq!(rt; sends(rt.alloc(), line)?, (true, true), "{line}");
         assert_eq!(rt; replies(rt.alloc(), line)?, (false, false), "{line}");
@@ -150,7 +148,9 @@ fn lines_of_the_adversary_are_read_exactly_where_they_spell_a_node(rt: HostRunti
 }
 
 #[test]
-fn lines_of_the_algorithm_are_read_exactly_where_they_spell_a_node(rt: HostRuntime) -> Result<(), Fail> {
+fn lines_of_the_algorithm_are_read_exactly_where_they_spell_a_node(
+    rt: HostRuntime,
+) -> Result<(), Fail> {
     for line in REPLIES {
         assert_eq!(rt; replies(rt.alloc(), line)?, (true, true), "{line}");
         assert_eq!(rt; sends(rt.alloc(), line)?, (false, false), "{line}");
@@ -164,8 +164,8 @@ fn lines_of_the_algorithm_are_read_exactly_where_they_spell_a_node(rt: HostRunti
     Ok(())
 }
 
-/// A line of 39 bytes more than twice so many items and the bytes of the last one.
-fn long_line(alloc: Global, ones: usize, last: &[u8]) -> Result<Text, AllocError> {
+/// A node of the adversary whose line has 39 bytes, two for each of so many items and those of the last item.
+pub(crate) fn long_line(alloc: Global, ones: usize, last: &[u8]) -> Result<Text, AllocError> {
     let mut line = Text::new(alloc);
     line.push_all(b"0 loads - items")?;
     for _ in 0..ones {
@@ -215,7 +215,13 @@ fn a_sending_node_has_the_parts_of_its_line(rt: HostRuntime) -> Result<(), Fail>
     assert_eq!(rt; size, 12);
     same_bins(&rt, pack.bins(), &[&[10, 1], &[], &[7]]);
     let next = Then::To(1);
-    let want = [Placement { load: 1, next }, Placement { load: 0, next: Then::Over }];
+    let want = [
+        Placement { load: 1, next },
+        Placement {
+            load: 0,
+            next: Then::Over,
+        },
+    ];
     assert_eq!(rt; placements.as_slice(), want.as_slice());
     Ok(())
 }
@@ -241,7 +247,18 @@ fn a_node_of_the_algorithm_has_the_parts_of_its_line(rt: HostRuntime) -> Result<
     let Act::Reply(entries) = node.act else {
         return Err("replies".into());
     };
-    let want = [Entry { size: 1, load: 1, to: 4 }, Entry { size: 2, load: 3, to: 6 }];
+    let want = [
+        Entry {
+            size: 1,
+            load: 1,
+            to: 4,
+        },
+        Entry {
+            size: 2,
+            load: 3,
+            to: 6,
+        },
+    ];
     assert_eq!(rt; entries.as_slice(), want.as_slice());
     let node = parse_algorithm(rt.alloc(), Format::Two, b"0 loads 2 2 items 2 2 big 1", 0)?;
     let Act::Big(kept) = node.ok_or("a node")?.act else {
@@ -268,7 +285,13 @@ fn the_lines_of_a_head_are_read_exactly(rt: HostRuntime) {
 fn the_numbers_of_a_game_are_read_exactly(rt: HostRuntime) {
     assert_eq!(rt; parse_game(b"game 2 3 4"), Some((2, 3, 4)));
     assert_eq!(rt; parse_game(b"game 0 65535 10"), Some((0, 65535, 10)));
-    for line in ["game 2 65536 4", "game 2 3", "game 2 3 4 5", "game 2 03 4", "game  2 3 4"] {
+    for line in [
+        "game 2 65536 4",
+        "game 2 3",
+        "game 2 3 4 5",
+        "game 2 03 4",
+        "game  2 3 4",
+    ] {
         assert_eq!(rt; parse_game(line.as_bytes()), None, "{line}");
     }
 }
@@ -277,14 +300,25 @@ fn the_numbers_of_a_game_are_read_exactly(rt: HostRuntime) {
 fn a_number_of_nodes_is_from_1_to_4_000_000_000(rt: HostRuntime) {
     assert_eq!(rt; parse_nodes(b"nodes 1"), Some(1));
     assert_eq!(rt; parse_nodes(b"nodes 4000000000"), Some(4_000_000_000));
-    for line in ["nodes 4000000001", "nodes 0", "nodes 05", "nodes 5 ", "nodes"] {
+    for line in [
+        "nodes 4000000001",
+        "nodes 0",
+        "nodes 05",
+        "nodes 5 ",
+        "nodes",
+    ] {
         assert_eq!(rt; parse_nodes(line.as_bytes()), None, "{line}");
     }
 }
 
 #[test]
 fn rules_and_sides_have_their_words(rt: HostRuntime) -> Result<(), Fail> {
-    let printed = format!(in rt.alloc(); "{:?} {:?} {:?}", Rule::Game, Side::Adversary, Format::Two)?;
+    let printed = format!(in rt.alloc();
+        "{:?} {:?} {:?}",
+        Rule::Game,
+        Side::Adversary,
+        Format::Two
+    )?;
     assert_eq!(rt; printed.as_str(), "Game Adversary Two");
     assert_eq!(rt; Side::Adversary.word(), "adversary");
     assert_eq!(rt; Side::Algorithm.word(), "algorithm");
