@@ -16,3 +16,4 @@ pub mod NodesSame
 pub mod Texts
 pub mod Written
 pub mod Spaced
+pub mod TextPieces

@@ -57,3 +57,33 @@ writes_past (Err failed) a mid new m n held piece p empty ok rose some count =
 pub writes_stopped : {X E : Type 0} (r : Result X E) (a b : Standing) (piece : List ℕ) → IsErr r → Stopped a b piece → Writes r a b piece
 writes_stopped (Ok done) a b piece e p = absurd cc
 writes_stopped (Err failed) a b piece e p = p
+
+-- ---- a piece that was written whole
+
+pub written_count : {X E : Type 0} (r : Result X E) (a b : Standing) (piece : List ℕ) → Writes r a b piece → a.faults ≤ b.faults
+written_count (Ok done) a b piece w = w.count
+written_count (Err failed) a b piece w = w.count
+
+pub written_rose : {X E : Type 0} (r : Result X E) (a b : Standing) (piece : List ℕ) → Writes r a b piece → OnErr r (Rose a.faults b.faults)
+written_rose (Ok done) a b piece w = tt
+written_rose (Err failed) a b piece w = w.rose
+
+pub written_prefix : {X E : Type 0} (r : Result X E) (a b : Standing) (piece : List ℕ) → a.held ≡ [] → Writes r a b piece → OnErr r (AppendsSome a.written b.written piece)
+written_prefix (Ok done) a b piece empty w = tt
+written_prefix (Err failed) a b piece empty w = rw empty at w.some
+
+all_sent : (held piece sent left : List ℕ) → held ≡ [] → left ≡ [] → held ++ piece ≡ sent ++ left → piece ≡ sent
+all_sent held piece sent left e f g = sym (ap (λ (t : List ℕ). t ++ piece) e) ∙ g ∙ ap (λ (t : List ℕ). sent ++ t) f ∙ append-nil sent
+
+pub written_whole : {X E : Type 0} (r : Result X E) (a b : Standing) (piece : List ℕ) → a.held ≡ [] → OnOk r (b.held ≡ []) → Writes r a b piece → OnOk r (b.written ≡ append_known a.written piece)
+written_whole (Ok done) a b piece empty left w = w.told ∙ ap (append_known a.written) (sym (all_sent a.held piece w.sent b.held empty left w.same))
+written_whole (Err failed) a b piece empty left w = tt
+
+-- what is held went to the sink after a piece
+pub writes_flushed : {X E : Type 0} (r : Result X E) (a b c : Standing) (piece : List ℕ) → Took a b piece → Writes r b c [] → Writes r a c piece
+writes_flushed r a b c piece p w = subst (Writes r a c) (append-nil piece) (writes_then r a b c piece [] p w)
+
+-- nothing is said where a function failed
+pub failed_not_ok : {X E : Type 0} (r : Result X E) (P : Type 0) → IsErr r → OnOk r P
+failed_not_ok (Ok done) P e = absurd cc
+failed_not_ok (Err failed) P e = tt

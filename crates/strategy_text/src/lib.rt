@@ -11,8 +11,9 @@ mod position;
 mod rule;
 mod spelled;
 mod stop;
+mod text;
 mod words;
-
+mod writing;
 
 pub use adversary::parse_adversary;
 pub use algorithm::parse_algorithm;
@@ -22,3 +23,10 @@ pub use node::{
     Placements, Side, Step, Strategy, Then,
 };
 pub use rule::Rule;
+pub use text::{Text, text_of};
+pub use writing::write_strategy;
+
+#[cfg(test)]
+mod file_tests;
+#[cfg(test)]
+mod tests;

@@ -1,7 +1,7 @@
 //! Strategies, their nodes and the parts of nodes.
 
-ghost use Rattle.std.specs.Prelude.{◌≡◌};
-ghost use Rattle.strategy_text.specs.Text.{side_word};
+ghost use Rattle.std.specs.Prelude.{◌≡◌, length};
+ghost use Rattle.strategy_text.specs.Text.{side_word, nodes_of, side_of};
 
 use items::{Game, Nums, Sequence};
 use packing_witness::Packing;
@@ -144,6 +144,28 @@ pub enum Nodes {
     Adversary(AdvNodes),
     /// The algorithm's.
     Algorithm(AlgNodes),
+}
+
+impl Nodes {
+    /// How many nodes there are.
+    pub fn len(&self) -> usize
+        ensures value { result ≡ length (nodes_of self.now) }
+    {
+        match self {
+            Nodes::Adversary(list) => list.len(),
+            Nodes::Algorithm(list) => list.len(),
+        }
+    }
+
+    /// Whose nodes they are.
+    pub fn side(&self) -> Side
+        ensures value { result ≡ side_of self.now }
+    {
+        match self {
+            Nodes::Adversary(_) => Side::Adversary,
+            Nodes::Algorithm(_) => Side::Algorithm,
+        }
+    }
 }
 
 /// A strategy of either side for a game.

@@ -99,9 +99,18 @@ impl Spelled for Placement {
     fn put<K: Sink>(&self, buffer: &mut Buffer, sink: &mut K) -> Result<(), Failed> {
         let load = Word::Size(self.load);
         match self.next {
-            Then::Over => put_each(&[Word::Keyword("on"), load, Word::Keyword("over")], buffer, sink),
+            Then::Over => put_each(
+                &[Word::Keyword("on"), load, Word::Keyword("over")],
+                buffer,
+                sink,
+            ),
             Then::To(child) => {
-                let to = [Word::Keyword("on"), load, Word::Keyword("to"), Word::Number(child)];
+                let to = [
+                    Word::Keyword("on"),
+                    load,
+                    Word::Keyword("to"),
+                    Word::Number(child),
+                ];
                 put_each(&to, buffer, sink)
             }
         }
@@ -208,11 +217,7 @@ fn burst<K: Sink>(
         (standing (K.written sink.old) (K.faults sink.old) buffer.old)
         (standing (K.written sink.new) (K.faults sink.new) buffer.new) (spaced (step_words (Burst count size pack.now))) }
 {
-    let words = [
-        Word::Keyword("burst"),
-        Word::Size(count),
-        Word::Size(size),
-    ];
+    let words = [Word::Keyword("burst"), Word::Size(count), Word::Size(size)];
     put_each(&words, buffer, sink)?;
     packing(pack, buffer, sink)
 }
