@@ -86,7 +86,7 @@ burst_wins game allowed size may low (suc n) p most packable = (
 
 -- ---- nodes before a node
 
-slice_get-take : {X : Type 0} (xs : List X) (k i : ℕ) (x : X) → slice_get (take k xs) i ≡ Some x → (slice_get xs i ≡ Some x) × (i < k)
+pub slice_get-take : {X : Type 0} (xs : List X) (k i : ℕ) (x : X) → slice_get (take k xs) i ≡ Some x → (slice_get xs i ≡ Some x) × (i < k)
 slice_get-take xs zero i x e = absurd (none-some x e)
 slice_get-take [] (suc k) i x e = absurd (none-some x e)
 slice_get-take (y ∷ ys) (suc k) zero x e = (e, omega arith)

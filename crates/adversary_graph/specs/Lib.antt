@@ -4,3 +4,4 @@ pub mod Rules
 pub mod Legal
 pub mod Judging
 pub mod Laws
+pub mod Pools

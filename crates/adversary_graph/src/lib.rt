@@ -2,7 +2,9 @@
 #![tactic(auto)]
 
 pub mod laws;
+mod pool;
 mod rules;
 mod step;
 
+pub use pool::AdvPool;
 pub use rules::{judge, node_fault};
