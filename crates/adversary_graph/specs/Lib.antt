@@ -5,3 +5,5 @@ pub mod Legal
 pub mod Judging
 pub mod Laws
 pub mod Pools
+pub mod Play
+pub mod Playing
