@@ -2,3 +2,4 @@ pub mod MultisetLemmas
 pub mod SameLemmas
 pub mod CounterLemmas
 pub mod SizesLemmas
+pub mod MemberLemmas

@@ -8,4 +8,5 @@ use Rattle.items.specs.declared.game.GameFault.TheVariants.{Bins, Capacity, Targ
 abbrev pub IsFaultOf : GameNumbers → GameFault → Type 0
 IsFaultOf game Bins = (game.bins < 2) ⊎ (MOST_BINS < game.bins)
 IsFaultOf game Capacity = HasBins game.bins × ((game.capacity < 1) ⊎ (MOST_SIZE < game.capacity))
-IsFaultOf game Target = HasBins game.bins × HasCapacity game.capacity × ((game.target ≤ game.capacity) ⊎ (2 * game.capacity < game.target))
+IsFaultOf game Target =
+    HasBins game.bins × HasCapacity game.capacity × ((game.target ≤ game.capacity) ⊎ (2 * game.capacity < game.target))

@@ -11,7 +11,8 @@ use Rattle.items.specs.Game.{GameNumbers, IsGame}
 use Rattle.items.specs.Multiset.{count, Same}
 use Rattle.loads.specs.Descending.{IsDescending, put_descending, take_out}
 use Rattle.loads.specs.Loads.{AreLoads, IsLoads, IsLowestBin, loads_after}
-use Rattle.loads.proofs.DescendingLemmas.{IsDescending-tail, IsDescending-head, IsDescending-put, IsDescending-take_out, All-put, All-take_out, length-put, length-take_out, take_out-remove, put_descending-insert, unwrap_or-position}
+use Rattle.loads.proofs.DescendingLemmas.{IsDescending-tail, IsDescending-head, IsDescending-put, IsDescending-take_out, All-put}
+use Rattle.loads.proofs.DescendingLemmas.{All-take_out, length-put, length-take_out, take_out-remove, put_descending-insert, unwrap_or-position}
 use Rattle.items.proofs.MultisetLemmas.{count-sum_by}
 use Rattle.loads.proofs.CountLemmas.{Contains-Same, sum_by-put, sum_by-take_out, equal_from_Same}
 
@@ -24,7 +25,8 @@ AreLoads-of_game game loads g h = record {
 }
 
 -- an item in a bin that stays below the target leaves loads of the game
-pub IsLoads-after : (game : GameNumbers) (loads : List ℕ) (load size : ℕ) → IsLoads game loads → Contains loads load → load + size < game.target → IsLoads game (loads_after loads load size)
+pub IsLoads-after : (game : GameNumbers) (loads : List ℕ) (load size : ℕ) → IsLoads game loads → Contains loads load → load + size < game.target
+    → IsLoads game (loads_after loads load size)
 IsLoads-after game loads load size h member below = record {
   one_each = omega (arith, h.one_each, length-put (load + size) (take_out load loads), length-take_out load loads member);
   descending = IsDescending-put (load + size) (take_out load loads) (IsDescending-take_out load loads h.descending);

@@ -9,7 +9,7 @@ pub record IsLoads (game : GameNumbers) (loads : List ℕ) : Type 0 where
   pub descending : IsDescending loads
   pub below_target : All (λ load. load < game.target) loads
 
--- loads of some game: no more than a game has bins, descending, each below the greatest target, twice the greatest capacity
+-- loads of some game: no more than the most bins, descending, each below the greatest target
 pub record AreLoads (loads : List ℕ) : Type 0 where
   pub few : length loads ≤ MOST_BINS
   pub descending : IsDescending loads

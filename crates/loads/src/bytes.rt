@@ -8,8 +8,8 @@ ghost use Rattle.loads.specs.Packed.{ArePositionBytes, position_in};
 
 use crate::position::Position;
 use crate::sorted_loads::Loads;
-use items::{Items, MOST_SIZE};
 use items::laws::items_are_a_multiset;
+use items::{Items, MOST_SIZE};
 use smallvec::SmallVec;
 use std::alloc::{AllocError, Global};
 

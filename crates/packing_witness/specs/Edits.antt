@@ -11,7 +11,8 @@ first_out item (x ∷ xs) = if item == x then Some xs else option_map (λ rest. 
 abbrev pub without : ℕ → List (List ℕ) → Option (List (List ℕ))
 without item [] = None
 without item (bin ∷ bins) =
-    option_or (option_map (λ rest. rest ∷ bins) (first_out item bin)) (option_map (λ rest. bin ∷ rest) (without item bins))
+    option_or (option_map (λ rest. rest ∷ bins) (first_out item bin))
+    (option_map (λ rest. bin ∷ rest) (without item bins))
 
 -- each number of each bin times a factor
 abbrev pub scaled : ℕ → List (List ℕ) → List (List ℕ)
