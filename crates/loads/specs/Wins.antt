@@ -1,4 +1,4 @@
-use Rattle.std.specs.Prelude.{◌≡◌, ℕ, zero, suc, ◌+◌, ◌≤◌, Bool, IsTrue, List, [], ◌∷◌, ◌++◌, ◌⊎◌, Contains, replicate}
+use Rattle.std.specs.Prelude.{ℕ, zero, suc, ◌+◌, ◌≤◌, Bool, IsTrue, List, [], ◌∷◌, ◌++◌, ◌⊎◌, Contains, replicate}
 use Rattle.items.specs.Game.{GameNumbers}
 use Rattle.items.specs.Packable.{Packable}
 use Rattle.loads.specs.declared.position.Position.{Position}
@@ -10,7 +10,7 @@ pub record IsWinningSize (game : GameNumbers) (allowed : List ℕ → ℕ → Bo
   pub allows : IsTrue (allowed position.items size)
   pub may_come : Packable game (position.items ++ size ∷ [])
   pub each_load : (load : ℕ) → Contains position.loads load
-    → (game.target ≤ load + size) ⊎ IsWonNext (after position load size)
+      → (game.target ≤ load + size) ⊎ IsWonNext (after position load size)
 
 -- the adversary wins from a position with at most so many items, each of a size that is allowed at the items before it
 unfoldable pub Wins : GameNumbers → (List ℕ → ℕ → Bool) → ℕ → Position → Type 0

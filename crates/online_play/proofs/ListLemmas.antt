@@ -1,12 +1,14 @@
 -- The packable lists of a game, written out.
-use Rattle.std.proofs.Common.{◌≡◌, ℕ, zero, suc, ◌+◌, ◌-◌, ◌*◌, ◌<◌, ◌≤◌, Bool, true, ◌&&◌, List, [], ◌∷◌, length, get_or, map, sum, refl, sym, ap, ◌∙◌, ◌⊎◌, ⊎_elim, inl, inr, subst, arith}
+use Rattle.std.proofs.Common.{◌≡◌, ℕ, zero, suc, ◌+◌, ◌-◌, ◌*◌, ◌<◌, ◌≤◌, Bool, true, ◌&&◌, List, [], ◌∷◌, length, get_or, map, sum, refl, sym, ap, ◌∙◌, ◌⊎◌, ⊎_elim, inl}
+use Rattle.std.proofs.Common.{inr, subst, arith}
 use Rattle.std.specs.Prelude.{All, Contains, nat_le, filter}
 use Rattle.std.specs.List.{range_with_len, flat_map, list_any}
 use Rattle.std.proofs.lemmas.Bool.{leb-true, le-leb, and_parts, and_from, cases_Bool, cases_lt, true≢false}
 use Rattle.std.proofs.lemmas.List.FromFn.{length-range_with_len, get_or-range_with_len}
 use Rattle.std.proofs.lemmas.List.Folds.{Any-from_list_any, list_any-from_Any}
 use Rattle.std.proofs.lemmas.List.Sums.{AllPass-from_list_all, list_all-from_AllPass, sum_by-cons}
-use Rattle.std.proofs.lemmas.List.Elements.{All-nil, All-cons, All-head, All-tail, All-append, All-map, All-weaker, All-contains, All-contains_itself, Contains-append_left, Contains-append_right, filter_passes}
+use Rattle.std.proofs.lemmas.List.Elements.{All-nil, All-cons, All-head, All-tail, All-append, All-map, All-weaker, All-contains, All-contains_itself}
+use Rattle.std.proofs.lemmas.List.Elements.{Contains-append_left, Contains-append_right, filter_passes}
 use Rattle.items.specs.Game.{GameNumbers}
 use Rattle.items.specs.Multiset.{IsSize, sizes_of}
 use Rattle.items.specs.Packable.{Packable, bin_total}
@@ -37,7 +39,8 @@ module _ {X : Type 0} where
   pub Contains-filter : (p : X → Bool) (xs : List X) (y : X) → Contains xs y → p y ≡ true → Contains (filter p xs) y
   Contains-filter p [] y h pass = absurd (none y h)
   Contains-filter p (x ∷ xs) y h pass = elim (cases_Bool (p x)) [
-    | inl e ↦ rw e (⊎_elim (λ q. subst (Contains (x ∷ filter p xs)) q (Contains-here x (filter p xs))) (λ later. Contains-later x (filter p xs) y (Contains-filter p xs y later pass)) (Contains-cons_cases x xs y h))
+    | inl e ↦ rw e (⊎_elim (λ q. subst (Contains (x ∷ filter p xs)) q (Contains-here x (filter p xs)))
+        (λ later. Contains-later x (filter p xs) y (Contains-filter p xs y later pass)) (Contains-cons_cases x xs y h))
     | inr e ↦ rw e (⊎_elim (λ q. absurd (true≢false (sym pass ∙ ap p (sym q) ∙ e))) (λ later. Contains-filter p xs y later pass) (Contains-cons_cases x xs y h))
   ]
 
@@ -45,12 +48,14 @@ module _ {X Y : Type 0} where
   pub Contains-map : (f : X → Y) (xs : List X) (x : X) → Contains xs x → Contains (map f xs) (f x)
   Contains-map f [] x h = absurd (none x h)
   Contains-map f (y ∷ xs) x h =
-      ⊎_elim (λ q. subst (Contains (f y ∷ map f xs)) (ap f q) (Contains-here (f y) (map f xs))) (λ later. Contains-later (f y) (map f xs) (f x) (Contains-map f xs x later)) (Contains-cons_cases y xs x h)
+      ⊎_elim (λ q. subst (Contains (f y ∷ map f xs)) (ap f q) (Contains-here (f y) (map f xs)))
+      (λ later. Contains-later (f y) (map f xs) (f x) (Contains-map f xs x later)) (Contains-cons_cases y xs x h)
 
   pub Contains-flat_map : (f : X → List Y) (xs : List X) (x : X) (y : Y) → Contains xs x → Contains (f x) y → Contains (flat_map f xs) y
   Contains-flat_map f [] x y h k = absurd (none x h)
   Contains-flat_map f (z ∷ xs) x y h k =
-      ⊎_elim (λ q. Contains-append_left (f z) (flat_map f xs) y (subst (λ w. Contains (f w) y) (sym q) k)) (λ later. Contains-append_right (f z) (flat_map f xs) y (Contains-flat_map f xs x y later k)) (Contains-cons_cases z xs x h)
+      ⊎_elim (λ q. Contains-append_left (f z) (flat_map f xs) y (subst (λ w. Contains (f w) y) (sym q) k))
+      (λ later. Contains-append_right (f z) (flat_map f xs) y (Contains-flat_map f xs x y later k)) (Contains-cons_cases z xs x h)
 
   pub All-flat_map : (P : X → Type 0) (Q : Y → Type 0) (f : X → List Y) → ((x : X) → P x → All Q (f x)) → (xs : List X) → All P xs → All Q (flat_map f xs)
   All-flat_map P Q f each [] h = All-nil Q
@@ -75,7 +80,8 @@ record IsListOver (choices : List ℕ) (n : ℕ) (xs : List ℕ) : Type 0 where
 longer : (choices : List ℕ) (n : ℕ) (rest : List ℕ) → IsListOver choices n rest → All (IsListOver choices (suc n)) (map (λ x. x ∷ rest) choices)
 longer choices n rest h =
     All-map (IsListOver choices (suc n)) (λ x. x ∷ rest) choices
-    (All-weaker (Contains choices) (λ x. IsListOver choices (suc n) (x ∷ rest)) (λ x c. record { length_is = ap suc h.length_is; chosen = All-cons (Contains choices) x rest c h.chosen }) choices (All-contains_itself choices))
+    (All-weaker (Contains choices) (λ x. IsListOver choices (suc n) (x ∷ rest))
+    (λ x c. record { length_is = ap suc h.length_is; chosen = All-cons (Contains choices) x rest c h.chosen }) choices (All-contains_itself choices))
 
 lists_are_over : (choices : List ℕ) (n : ℕ) → All (IsListOver choices n) (lists_of_length choices n)
 lists_are_over choices zero = All-cons (IsListOver choices 0) [] [] (record { length_is = refl; chosen = All-nil (Contains choices) }) (All-nil (IsListOver choices 0))

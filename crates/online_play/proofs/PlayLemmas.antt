@@ -41,7 +41,8 @@ module _ (game : GameNumbers) (answer : List ℕ → ℕ) (history : List ℕ) (
       let within = algorithm (take (i + 1) history) some (Packable-take game (i + 1) history packable) in
       omega (arith, ap length e, length-run game answer (take i history), is, within)
 
-  pub load_fits : (i bin : ℕ) (actual : List ℕ) → actual ≡ run game answer (take i history) → bin < length actual → i < length history → get_or actual bin 0 + get_or history i 0 < 65536
+  pub load_fits : (i bin : ℕ) (actual : List ℕ) → actual ≡ run game answer (take i history) → bin < length actual → i < length history
+      → get_or actual bin 0 + get_or history i 0 < 65536
   load_fits i bin actual e l h =
       let n = length-run game answer (take i history) in
       let load = get_or-loads_by_bin game (take i history) (bins_of answer (take i history)) bin 0 (omega (arith, ap length e, n, l)) in
@@ -51,7 +52,8 @@ module _ (game : GameNumbers) (answer : List ℕ → ℕ) (history : List ℕ) (
       let total = sum_small game history legal packable in
       omega (arith, ap {B = ℕ} (λ loads. get_or loads bin 0) e)
 
-  pub run_more : (i bin : ℕ) (actual next : List ℕ) → actual ≡ run game answer (take i history) → i < length history → bin < length actual → bin ≡ answer (take (i + 1) history) → next ≡ placed actual bin (get_or history i 0)
+  pub run_more : (i bin : ℕ) (actual next : List ℕ) → actual ≡ run game answer (take i history) → i < length history → bin < length actual
+      → bin ≡ answer (take (i + 1) history) → next ≡ placed actual bin (get_or history i 0)
       → next ≡ run game answer (take (i + 1) history)
   run_more i bin actual next e h l is put =
       let more = take_more history i 0 h in

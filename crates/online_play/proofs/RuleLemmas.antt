@@ -52,7 +52,8 @@ named_in_range rule target size bin loads actual e l is =
     omega arith
 
 -- the loads of a replay stay small
-pub replay_fits : (game : GameNumbers) (history actual : List ℕ) (i bin : ℕ) → IsGame game → Packable game history → i < length history → sum actual ≤ sum (take i history) → bin < length actual
+pub replay_fits : (game : GameNumbers) (history actual : List ℕ) (i bin : ℕ) → IsGame game → Packable game history → i < length history
+    → sum actual ≤ sum (take i history) → bin < length actual
     → get_or actual bin 0 + get_or history i 0 < 65536
 replay_fits game history actual i bin legal packable l total within =
     let load = get_or-le-sum_by (λ x. x) actual bin 0 within in
@@ -61,7 +62,8 @@ replay_fits game history actual i bin legal packable l total within =
     let all = sum_small game history legal packable in
     omega arith
 
-pub replay_total : (history actual : List ℕ) (i bin : ℕ) → i < length history → sum actual ≤ sum (take i history) → bin < length actual → sum (placed actual bin (get_or history i 0)) ≤ sum (take (i + 1) history)
+pub replay_total : (history actual : List ℕ) (i bin : ℕ) → i < length history → sum actual ≤ sum (take i history) → bin < length actual
+    → sum (placed actual bin (get_or history i 0)) ≤ sum (take (i + 1) history)
 replay_total history actual i bin l total within =
     let more = sum_by_more (λ x. x) history i 0 l in
     let put = sum_by-set (λ x. x) actual bin (get_or actual bin 0 + get_or history i 0) 0 within in

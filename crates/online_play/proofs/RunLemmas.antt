@@ -25,7 +25,8 @@ pub length-bins_of : (answer : List ℕ → ℕ) (items : List ℕ) → length (
 length-bins_of answer items = length-map (prefixes items) answer ∙ length-prefixes items
 
 -- one more item adds to the bin that it went to
-pub bin_total-push : (bin size to : ℕ) (items bins : List ℕ) → length bins ≡ length items → bin_total bin (items ++ size ∷ []) (bins ++ to ∷ []) ≡ bin_total bin items bins + cond (eqb bin to) size 0
+pub bin_total-push : (bin size to : ℕ) (items bins : List ℕ) → length bins ≡ length items
+    → bin_total bin (items ++ size ∷ []) (bins ++ to ∷ []) ≡ bin_total bin items bins + cond (eqb bin to) size 0
 bin_total-push bin size to [] [] e = omega arith
 bin_total-push bin size to [] (b ∷ bins) e = absurd (omega arith)
 bin_total-push bin size to (i ∷ items) [] e = absurd (omega arith)

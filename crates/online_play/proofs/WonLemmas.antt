@@ -1,5 +1,5 @@
 -- From a won position every algorithm is forced.
-use Rattle.std.proofs.Common.{◌≡◌, ℕ, zero, suc, ◌+◌, ◌<◌, ◌≤◌, Bool, List, [], ◌∷◌, ◌++◌, ◌⊎◌, length, get_or, set, replicate, refl, sym, ◌∙◌, ⊎_elim, inl, inr, subst, arith}
+use Rattle.std.proofs.Common.{◌≡◌, ℕ, zero, suc, ◌+◌, ◌<◌, ◌≤◌, Bool, List, [], ◌∷◌, ◌++◌, length, get_or, set, replicate, refl, sym, ◌∙◌, ⊎_elim, inl, inr, subst, arith}
 use Rattle.std.specs.Prelude.{All, Any, Contains, IsTrue}
 use Rattle.std.proofs.lemmas.List.Elements.{All-head, All-tail, Contains-get_or}
 use Rattle.std.proofs.lemmas.List.Quantifiers.{any-set}
@@ -18,7 +18,7 @@ use Rattle.loads.specs.Wins.{IsWinningSize, Wins, IsWon, empty_position}
 use Rattle.loads.proofs.CountLemmas.{Contains-Same}
 use Rattle.loads.proofs.LoadsLemmas.{Same-loads_after}
 use Rattle.online_play.specs.Algorithm.{IsAlgorithm, run, Forced, KeepsBelow, ForcesEvery}
-use Rattle.online_play.specs.Laws.{LeadsTo}
+use Rattle.online_play.specs.Laws.{ComesTo}
 use Rattle.online_play.proofs.RunLemmas.{run-push, length-run}
 
 push_not_empty : (items : List ℕ) (item : ℕ) → items ++ item ∷ [] ≡ [] → ⊥
@@ -28,7 +28,7 @@ push_not_empty (x ∷ items) item e = cc
 Same-push : (xs ys : List ℕ) (x : ℕ) → Same xs ys → Same (xs ++ x ∷ []) (ys ++ x ∷ [])
 Same-push xs ys x s = Same-append xs ys (x ∷ []) (x ∷ []) s (λ z. refl)
 
-module _ (game : GameNumbers) (answer : List ℕ → ℕ) (history : List ℕ) (position : Position) (size : ℕ) (at : LeadsTo game answer history position) where
+module _ (game : GameNumbers) (answer : List ℕ → ℕ) (history : List ℕ) (position : Position) (size : ℕ) (at : ComesTo game answer history position) where
   -- the load of the bin that the algorithm answers
   pub load_hit : ℕ
   load_hit = get_or (run game answer history) (answer (history ++ size ∷ [])) 0
@@ -38,12 +38,13 @@ module _ (game : GameNumbers) (answer : List ℕ → ℕ) (history : List ℕ) (
   loads_next within = run-push game answer history size (answer (history ++ size ∷ [])) refl within
 
   -- one more item leads to the position after it
-  pub LeadsTo-after : Packable game (history ++ size ∷ []) → answer (history ++ size ∷ []) < game.bins → LeadsTo game answer (history ++ size ∷ []) (after position load_hit size)
+  pub ComesTo-after : Packable game (history ++ size ∷ []) → answer (history ++ size ∷ []) < game.bins → ComesTo game answer (history ++ size ∷ []) (after position load_hit size)
   unfolding load_hit
-  LeadsTo-after packable within = record {
+  ComesTo-after packable within = record {
     packable = packable;
     loads = subst (λ loads. Same loads (loads_after position.loads load_hit size)) (sym (loads_next within))
-        (Same-loads_after (run game answer history) position.loads (answer (history ++ size ∷ [])) load_hit size at.loads (omega (arith, length-run game answer history, within)) refl);
+        (Same-loads_after (run game answer history) position.loads (answer (history ++ size ∷ [])) load_hit size at.loads
+        (omega (arith, length-run game answer history, within)) refl);
     items = λ x. Same-push history position.items size at.items x ∙ Same-push_put size position.items x;
   }
 
@@ -54,7 +55,8 @@ module _ (game : GameNumbers) (answer : List ℕ → ℕ) (history : List ℕ) (
     record {
       packable = packable;
       reached = subst (Any (λ load. game.target ≤ load)) (sym (loads_next within))
-          (any-set (λ load. game.target ≤ load) (run game answer history) (answer (history ++ size ∷ [])) (load_hit + size) (omega (arith, length-run game answer history, within)) reached);
+          (any-set (λ load. game.target ≤ load) (run game answer history) (answer (history ++ size ∷ [])) (load_hit + size)
+          (omega (arith, length-run game answer history, within)) reached);
     },
   )
 
@@ -65,7 +67,7 @@ module _ (game : GameNumbers) (answer : List ℕ → ℕ) (history : List ℕ) (
       (Contains-get_or (run game answer history) (answer (history ++ size ∷ [])) 0 (omega (arith, length-run game answer history, within)))
 
 pub won_forces : (game : GameNumbers) (allowed : List ℕ → ℕ → Bool) (answer : List ℕ → ℕ) → IsAlgorithm game answer
-    → (n : ℕ) (history : List ℕ) (position : Position) → LeadsTo game answer history position → Wins game allowed n position → Forced game answer
+    → (n : ℕ) (history : List ℕ) (position : Position) → ComesTo game answer history position → Wins game allowed n position → Forced game answer
 unfolding Wins
 won_forces game allowed answer algorithm zero history position at wins = absurd wins
 won_forces game allowed answer algorithm (suc n) history position at wins =
@@ -74,7 +76,8 @@ won_forces game allowed answer algorithm (suc n) history position at wins =
     Packable-Same game (position.items ++ size ∷ []) (history ++ size ∷ []) (λ x. sym (Same-push history position.items size at.items x)) wins.1.may_come in
     let within : answer (history ++ size ∷ []) < game.bins = algorithm (history ++ size ∷ []) (push_not_empty history size) packable in
     ⊎_elim (λ reached. forced_next game answer history position size at packable within reached)
-    (λ next. won_forces game allowed answer algorithm n (history ++ size ∷ []) (after position (load_hit game answer history position size at) size) (LeadsTo-after game answer history position size at packable within) next)
+    (λ next. won_forces game allowed answer algorithm n (history ++ size ∷ []) (after position (load_hit game answer history position size at) size)
+    (ComesTo-after game answer history position size at packable within) next)
     (wins.1.each_load (load_hit game answer history position size at) (hit_is_load game answer history position size at within))
 
 -- before the first item
@@ -84,15 +87,15 @@ Packable-nil game = ([], record { item_list = λ k d l. absurd (omega arith); on
 pub run-nil : (game : GameNumbers) (answer : List ℕ → ℕ) → replicate game.bins 0 ≡ run game answer []
 run-nil game answer = fill_by_all (λ bin. 0) (replicate game.bins 0) game.bins 0 (length-replicate game.bins 0) (λ k l. get_or-replicate game.bins k 0 0 l)
 
-pub LeadsTo-empty : (game : GameNumbers) (answer : List ℕ → ℕ) → LeadsTo game answer [] (empty_position game)
-LeadsTo-empty game answer = record {
+pub ComesTo-empty : (game : GameNumbers) (answer : List ℕ → ℕ) → ComesTo game answer [] (empty_position game)
+ComesTo-empty game answer = record {
   packable = Packable-nil game;
   loads = subst (λ loads. Same loads (replicate game.bins 0)) (run-nil game answer) (λ x. refl);
   items = λ x. refl;
 }
 
 pub won_game_forces : (game : GameNumbers) (allowed : List ℕ → ℕ → Bool) → IsWon game allowed (empty_position game) → ForcesEvery game
-won_game_forces game allowed won answer algorithm = won_forces game allowed answer algorithm won.0 [] (empty_position game) (LeadsTo-empty game answer) won.1
+won_game_forces game allowed won answer algorithm = won_forces game allowed answer algorithm won.0 [] (empty_position game) (ComesTo-empty game answer) won.1
 
 -- an algorithm that is forced does not keep below the target
 pub forced_not_below : (game : GameNumbers) (answer : List ℕ → ℕ) → Forced game answer → KeepsBelow game answer → ⊥
@@ -118,7 +121,8 @@ lower_target_forces game target le forces answer algorithm =
 
 -- an item that wins still wins where what is allowed, packable, reached or won next is more
 winning_size : (game other : GameNumbers) (allowed wider : List ℕ → ℕ → Bool) (P Q : Position → Type 0) (position : Position) (size : ℕ)
-    → (IsTrue (allowed position.items size) → IsTrue (wider position.items size)) → (Packable game (position.items ++ size ∷ []) → Packable other (position.items ++ size ∷ [])) → other.target ≤ game.target
+    → (IsTrue (allowed position.items size) → IsTrue (wider position.items size))
+    → (Packable game (position.items ++ size ∷ []) → Packable other (position.items ++ size ∷ [])) → other.target ≤ game.target
     → ((next : Position) → P next → Q next) → IsWinningSize game allowed P position size → IsWinningSize other wider Q position size
 winning_size game other allowed wider P Q position size more fit le each w = record {
   allows = more w.allows;
@@ -126,7 +130,8 @@ winning_size game other allowed wider P Q position size more fit le each w = rec
   each_load = λ load member. ⊎_elim (λ reached. inl (omega (arith, le, reached))) (λ next. inr (each (after position load size) next)) (w.each_load load member);
 }
 
-pub Wins-more_items : (game : GameNumbers) (allowed : List ℕ → ℕ → Bool) (few many : ℕ) (position : Position) → few ≤ many → Wins game allowed few position → Wins game allowed many position
+pub Wins-more_items : (game : GameNumbers) (allowed : List ℕ → ℕ → Bool) (few many : ℕ) (position : Position) → few ≤ many → Wins game allowed few position
+    → Wins game allowed many position
 unfolding Wins
 Wins-more_items game allowed zero many position le wins = absurd wins
 Wins-more_items game allowed (suc few) zero position le wins = absurd (omega arith)
@@ -136,7 +141,8 @@ Wins-more_items game allowed (suc few) (suc many) position le wins = (
       (λ next w. Wins-more_items game allowed few many next (omega arith) w) wins.1,
 )
 
-pub Wins-more_sizes : (game : GameNumbers) (allowed wider : List ℕ → ℕ → Bool) (n : ℕ) (position : Position) → ((items : List ℕ) (size : ℕ) → IsTrue (allowed items size) → IsTrue (wider items size))
+pub Wins-more_sizes : (game : GameNumbers) (allowed wider : List ℕ → ℕ → Bool) (n : ℕ) (position : Position)
+    → ((items : List ℕ) (size : ℕ) → IsTrue (allowed items size) → IsTrue (wider items size))
     → Wins game allowed n position → Wins game wider n position
 unfolding Wins
 Wins-more_sizes game allowed wider zero position more wins = absurd wins
@@ -152,7 +158,8 @@ unfolding Wins
 Wins-lower_target game target allowed zero position le wins = absurd wins
 Wins-lower_target game target allowed (suc n) position le wins = (
   wins.0,
-  winning_size game (numbers game.bins game.capacity target) allowed allowed (Wins game allowed n) (Wins (numbers game.bins game.capacity target) allowed n) position wins.0 (λ h. h)
+  winning_size game (numbers game.bins game.capacity target) allowed allowed (Wins game allowed n)
+      (Wins (numbers game.bins game.capacity target) allowed n) position wins.0 (λ h. h)
       (Packable-at_target game target (position.items ++ wins.0 ∷ [])) le (λ next w. Wins-lower_target game target allowed n next le w) wins.1,
 )
 
@@ -166,5 +173,6 @@ all_zero (suc n) (load ∷ loads) e h =
     let others = all_zero n loads (omega arith) (All-tail (λ load. load ≡ 0) load loads h) in
     cc
 
-pub empty_is : (game : GameNumbers) (position : Position) → length position.loads ≡ game.bins → All (λ load. load ≡ 0) position.loads → position.items ≡ [] → position ≡ empty_position game
+pub empty_is : (game : GameNumbers) (position : Position) → length position.loads ≡ game.bins → All (λ load. load ≡ 0) position.loads → position.items ≡ []
+    → position ≡ empty_position game
 empty_is game position n zeros none = let loads = all_zero game.bins position.loads n zeros in λ i. record { loads = loads i; items = none i }

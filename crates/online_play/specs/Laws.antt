@@ -1,4 +1,5 @@
-use Rattle.std.specs.Prelude.{◌≡◌, ◌<◌, ◌≤◌, ◌↔◌, ℕ, Bool, IsTrue, List, [], ◌∷◌, ◌++◌, All, Contains, length, replicate, sum}
+use Rattle.std.specs.Prelude.{◌≡◌, ◌<◌, ◌≤◌, ◌↔◌, ℕ, Bool, IsTrue, List, [], ◌∷◌, ◌++◌, All, Contains, length}
+use Rattle.std.specs.Prelude.{replicate, sum}
 use Rattle.items.specs.Game.{GameNumbers, numbers}
 use Rattle.items.specs.Multiset.{Same}
 use Rattle.items.specs.Packable.{Packable}
@@ -54,25 +55,27 @@ abbrev pub LoadsAreWithinTheTotal : Type 0
 LoadsAreWithinTheTotal =
     (game : GameNumbers) (answer : List ℕ → ℕ) (items : List ℕ) → All (λ load. load ≤ sum items) (run game answer items)
 
--- a position that is won stays won when more items may be sent, when more sizes are allowed, and at a lower target
+-- a position that is won with at most so many items is won with at most more
 abbrev pub WonWithMoreItems : Type 0
 WonWithMoreItems =
     (game : GameNumbers) (allowed : List ℕ → ℕ → Bool) (few many : ℕ) (position : Position) → few ≤ many
     → Wins game allowed few position → Wins game allowed many position
 
+-- a position that is won stays won when more sizes are allowed
 abbrev pub WonWithMoreSizes : Type 0
 WonWithMoreSizes =
     (game : GameNumbers) (allowed wider : List ℕ → ℕ → Bool) (n : ℕ) (position : Position)
     → ((items : List ℕ) (size : ℕ) → IsTrue (allowed items size) → IsTrue (wider items size))
     → Wins game allowed n position → Wins game wider n position
 
+-- a position that is won is won at a lower target too
 abbrev pub WonAtLowerTargets : Type 0
 WonAtLowerTargets =
     (game : GameNumbers) (target : ℕ) (allowed : List ℕ → ℕ → Bool) (n : ℕ) (position : Position) → target ≤ game.target
     → Wins game allowed n position → Wins (numbers game.bins game.capacity target) allowed n position
 
--- the items of a history led an algorithm to a position, but for the numbers of the bins and the order of the items
-pub record LeadsTo (game : GameNumbers) (answer : List ℕ → ℕ) (history : List ℕ) (position : Position) : Type 0 where
+-- a history brings an algorithm to a position, but for the numbers of the bins and the order of the items
+pub record ComesTo (game : GameNumbers) (answer : List ℕ → ℕ) (history : List ℕ) (position : Position) : Type 0 where
   pub packable : Packable game history
   pub loads : Same (run game answer history) position.loads
   pub items : Same history position.items
@@ -81,7 +84,7 @@ pub record LeadsTo (game : GameNumbers) (answer : List ℕ → ℕ) (history : L
 abbrev pub WonPositionsForce : Type 0
 WonPositionsForce =
     (game : GameNumbers) (allowed : List ℕ → ℕ → Bool) (answer : List ℕ → ℕ) (history : List ℕ) (position : Position)
-    → IsAlgorithm game answer → LeadsTo game answer history position → IsWon game allowed position → Forced game answer
+    → IsAlgorithm game answer → ComesTo game answer history position → IsWon game allowed position → Forced game answer
 
 -- where the adversary wins from the position before the first item, every algorithm is forced
 abbrev pub WonGamesForceEvery : Type 0

@@ -1,4 +1,5 @@
-use Rattle.std.specs.Prelude.{ℕ, ◌+◌, ◌==◌, Bool, ◌&&◌, nat_lt, List, [], ◌∷◌, filter, fold, position, unwrap_or, max, min}
+use Rattle.std.specs.Prelude.{ℕ, ◌+◌, ◌==◌, Bool, ◌&&◌, nat_lt, List, [], ◌∷◌, filter, fold, position, unwrap_or, max}
+use Rattle.std.specs.Prelude.{min}
 
 -- whether a load stays below the target with one more item
 abbrev pub stays_below : ℕ → ℕ → ℕ → Bool

@@ -6,7 +6,6 @@ ghost use Rattle.online_play.specs.Algorithm.{run};
 
 use crate::actual::Actual;
 use items::Game;
-use std::alloc::Global;
 
 /// A deterministic online algorithm. Its answer is a function of the value, the game and the history, so
 /// asking twice gives the same bin.
@@ -15,8 +14,10 @@ pub trait Online: Drop {
     ghost use Rattle.items.specs.Game.{GameNumbers, IsGame};
     ghost use Rattle.online_play.specs.Algorithm.{IsAlgorithm};
 
+    // The bin that a value answers, by the game and the history.
     ghost answer: { Self → GameNumbers → List ℕ → ℕ };
 
+    // What a value answers is an algorithm of each game. This stands above `place`, so that a boxed player keeps it.
     ghost is_algorithm: { (player : Self) (game : GameNumbers) → IsGame game → IsAlgorithm game (answer player game) };
 
     /// The bin, below m, for the last item of a history, which is not empty and is packable. Takes no memory.
@@ -26,6 +27,7 @@ pub trait Online: Drop {
         ensures value { result ≡ answer self.now game.now history.now };
 }
 
+// A boxed player answers what the player inside does.
 impl Online for Box<dyn Online> {
     ghost answer = { λ b. (Online-box b).answer b.value };
 

@@ -1,6 +1,7 @@
 //! The rules of the named players: the bin that each names for an item, by the loads by bin number.
 
-ghost use Rattle.std.specs.Prelude.{◌≡◌, ◌≢◌, ◌<◌, ◌≤◌, ◌&&◌, ◌==◌, [], IfSome, filter, length, nat_lt, position, unwrap_or};
+ghost use Rattle.std.specs.Prelude.{◌≡◌, ◌≢◌, ◌<◌, ◌≤◌, ◌&&◌, ◌==◌, [], IfSome, filter, length, nat_lt, position};
+ghost use Rattle.std.specs.Prelude.{unwrap_or};
 ghost use Rattle.items.specs.Packable.{Packable};
 ghost use Rattle.online_play.specs.Rules.{best_fit, first_fit, greatest, least, least_loaded, lowest_bin};
 ghost use Rattle.online_play.specs.Replays.{answer_under, rule_of};
