@@ -1,2 +1,4 @@
 pub mod RuleLemmas
 pub mod WonLemmas
+pub mod PoolLemmas
+pub mod PlayLemmas

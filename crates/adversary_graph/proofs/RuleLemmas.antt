@@ -1,10 +1,10 @@
 -- What the rules of a node rest on: sizes, sums of loads, items put in at their places, and totals of packings.
-use Rattle.std.proofs.Common.{◌≡◌, ℕ, ◌+◌, ◌*◌, ◌<◌, ◌≤◌, List, [], ◌∷◌, ◌++◌, length, get_or, arith, sum, Contains, mul-le-mul}
+use Rattle.std.proofs.Common.{◌≡◌, ℕ, ◌+◌, ◌*◌, ◌<◌, ◌≤◌, List, [], ◌∷◌, ◌++◌, length, get_or, arith, refl, ap, zero, suc, replicate, sum, Contains, mul-le-mul}
 use Rattle.std.specs.List.{All}
 use Rattle.std.proofs.lemmas.List.Elements.{All-weaker, All-contains, All-contains_itself, All-get_or}
 use Rattle.std.proofs.lemmas.List.Sums.{sum_by-le, sum_by-cons}
 use Rattle.items.specs.Game.{GameNumbers, IsGame}
-use Rattle.items.specs.Multiset.{IsMultiset, IsSize, count, Same, sizes_of}
+use Rattle.items.specs.Multiset.{put_ascending, IsMultiset, IsSize, put_times, count, Same, sizes_of}
 use Rattle.items.proofs.SizesLemmas.{size_from_Contains}
 use Rattle.items.proofs.MultisetLemmas.{count-append, count-put_ascending, sum-put_ascending}
 use Rattle.loads.specs.Loads.{IsLoads}
@@ -41,6 +41,10 @@ sum-put_all (y ∷ ys) xs = omega (arith, sum-put_ascending y (put_all ys xs), s
 pub count-put_all : (x : ℕ) (ys xs : List ℕ) → count x (put_all ys xs) ≡ count x ys + count x xs
 count-put_all x [] xs = omega arith
 count-put_all x (y ∷ ys) xs = omega (arith, count-put_ascending x y (put_all ys xs), count-put_all x ys xs)
+
+pub put_all-replicate : (n x : ℕ) (xs : List ℕ) → put_times n x xs ≡ put_all (replicate n x) xs
+put_all-replicate zero x xs = refl
+put_all-replicate (suc n) x xs = ap (put_ascending x) (put_all-replicate n x xs)
 
 pub Same-put_all : (ys xs : List ℕ) → Same (xs ++ ys) (put_all ys xs)
 Same-put_all ys xs = λ x. omega (arith, count-append x xs ys, count-put_all x ys xs)

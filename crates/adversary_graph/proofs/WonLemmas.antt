@@ -56,7 +56,7 @@ Wins-more game allowed (suc m) (suc n) p l w = (
 )
 
 -- after one item of a burst one item less can come
-one_less : (game : GameNumbers) (size load : ℕ) (loads : List ℕ) → 1 ≤ size → Contains loads load → load + size < game.target
+pub one_less : (game : GameNumbers) (size load : ℕ) (loads : List ℕ) → 1 ≤ size → Contains loads load → load + size < game.target
     → most_below_target game size (loads_after loads load size) + 1 ≡ most_below_target game size loads
 one_less game size load loads low c below =
     let room : (ℕ → ℕ) = λ x. (game.target - 1 - x) / size in
@@ -86,7 +86,7 @@ burst_wins game allowed size may low (suc n) p most packable = (
 
 -- ---- nodes before a node
 
-slice_get-take : {X : Type 0} (xs : List X) (k i : ℕ) (x : X) → slice_get (take k xs) i ≡ Some x → (slice_get xs i ≡ Some x) × (i < k)
+pub slice_get-take : {X : Type 0} (xs : List X) (k i : ℕ) (x : X) → slice_get (take k xs) i ≡ Some x → (slice_get xs i ≡ Some x) × (i < k)
 slice_get-take xs zero i x e = absurd (none-some x e)
 slice_get-take [] (suc k) i x e = absurd (none-some x e)
 slice_get-take (y ∷ ys) (suc k) zero x e = (e, omega arith)
@@ -162,16 +162,16 @@ packable_step game format sizes loads items (Burst number size bins) earlier z p
     Packable-from_packing game bins (items ++ replicate number size) z packed.holds
 
 -- the rules that are met, by name
-record Met (format : Format) (game : GameNumbers) (sizes : List ℕ) (earlier : List Position) (node : AdvNode) : Type 0 where
-  items : All (Contains sizes) node.items
-  send : Contains sizes (sent_size node.step)
-  burst : IsLongEnough game node.loads node.step
-  pack : IsPacked game format node
-  placements : PlacesEachLoad node.loads node.step
-  over : All (IsOverAtTarget game (sent_size node.step)) (placements_of node.step)
-  child : All (λ placement. LeadsTo earlier placement.next (after (position_of node) placement.load (sent_size node.step))) (placements_of node.step)
+pub record Met (format : Format) (game : GameNumbers) (sizes : List ℕ) (earlier : List Position) (node : AdvNode) : Type 0 where
+  pub items : All (Contains sizes) node.items
+  pub send : Contains sizes (sent_size node.step)
+  pub burst : IsLongEnough game node.loads node.step
+  pub pack : IsPacked game format node
+  pub placements : PlacesEachLoad node.loads node.step
+  pub over : All (IsOverAtTarget game (sent_size node.step)) (placements_of node.step)
+  pub child : All (λ placement. LeadsTo earlier placement.next (after (position_of node) placement.load (sent_size node.step))) (placements_of node.step)
 
-met : (format : Format) (game : GameNumbers) (sizes : List ℕ) (earlier : List Position) (last : Bool) (node : AdvNode) → MeetsRules format game sizes earlier last node → Met format game sizes earlier node
+pub met : (format : Format) (game : GameNumbers) (sizes : List ℕ) (earlier : List Position) (last : Bool) (node : AdvNode) → MeetsRules format game sizes earlier last node → Met format game sizes earlier node
 met format game sizes earlier last node m = record {
   items = m.1.0.allowed;
   send = m.1.1.0;

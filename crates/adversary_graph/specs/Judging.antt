@@ -1,7 +1,9 @@
 -- What the private contracts of judging a node cite; nothing here has to be believed.
 use Rattle.std.specs.Prelude.{◌≡◌, ℕ, ◌+◌, ◌<◌, Bool, List, [], ◌∷◌, Option, sum, MatchOption}
+use Rattle.items.specs.declared.limits.TheConstants.{MOST_VOLUME}
 use Rattle.items.specs.Game.{GameNumbers}
-use Rattle.items.specs.Multiset.{put_ascending}
+use Rattle.items.specs.Multiset.{put_ascending, IsMultiset}
+use Rattle.loads.specs.Loads.{IsLoads}
 use Rattle.loads.specs.After.{after}
 use Rattle.loads.specs.declared.position.Position.{Position}
 use Rattle.strategy_text.specs.Rules.{IsFirstBroken}
@@ -25,7 +27,7 @@ put_all (y ∷ ys) xs = put_ascending y (put_all ys xs)
 -- the items with more items, as a multiset; none where their total is above the limit
 abbrev pub AreItems : List ℕ → List ℕ → Option (List ℕ) → Type 0
 AreItems items more all =
-    MatchOption all (1912 < sum items + sum more) (λ made. made ≡ put_all more items)
+    MatchOption all (MOST_VOLUME < sum items + sum more) (λ made. made ≡ put_all more items)
 
 -- the first rule past `items` that the node breaks
 abbrev pub BreaksPastItems : Format → GameNumbers → List ℕ → List Position → Bool → AdvNode → Rule → Type 0
@@ -36,3 +38,8 @@ BreaksPastItems format game sizes earlier last node rule =
 -- after the placement the play is over, or goes on at an earlier node at the position after it
 abbrev pub LeadsOn : List Position → Position → ℕ → Placement → Type 0
 LeadsOn earlier position size placement = LeadsTo earlier placement.next (after position placement.load size)
+
+-- a node's loads are loads of the game, and its items a multiset of sizes of the game
+pub record HasPosition (game : GameNumbers) (node : AdvNode) : Type 0 where
+  pub loads : IsLoads game node.loads
+  pub items : IsMultiset game.capacity node.items

@@ -4,3 +4,6 @@ pub mod Rules
 pub mod Legal
 pub mod Judging
 pub mod Laws
+pub mod Pools
+pub mod Play
+pub mod Playing

@@ -1,7 +1,7 @@
 //! The rules of an adversary's node.
 
 ghost use Rattle.std.specs.Prelude.{◌≡◌, ◌<◌, ◌↔◌, ◌+◌, ◌-◌, ◌/◌, ◌*◌, ◌≤◌, ◌∷◌, [], ◌++◌, All, IsTrue, MatchOption};
-ghost use Rattle.std.specs.Prelude.{MatchResult, Contains, Some, length, replicate, sum, map};
+ghost use Rattle.std.specs.Prelude.{MatchResult, Contains, Some, length, sum, map};
 ghost use Rattle.items.specs.Multiset.{sizes_of, put_ascending, IsSize, IsMultiset};
 ghost use Rattle.items.specs.Packable.{IsPacking};
 ghost use Rattle.loads.specs.After.{after};
@@ -12,10 +12,10 @@ ghost use Rattle.strategy_text.specs.Rules.{AllMet, IsFirstBroken};
 ghost use Rattle.adversary_graph.specs.Nodes.{position_of, sent_size, sent_items, placements_of, IsOfFormat};
 ghost use Rattle.adversary_graph.specs.Rules.{MeetsRules, Breaks, Meets, rules_past_items, most_below_target};
 ghost use Rattle.adversary_graph.specs.Rules.{IsLongEnough, IsPacked, PlacesEachLoad, IsOverAtTarget};
-ghost use Rattle.adversary_graph.specs.Judging.{node_at, put_all, AreItems, BreaksPastItems, LeadsOn};
+ghost use Rattle.adversary_graph.specs.Judging.{node_at, AreItems, BreaksPastItems, LeadsOn};
 
-use crate::step::{is_packing_asked, sent_number, sent_size};
-use items::{Game, Items, Sizes};
+use crate::step::{is_packing_asked, packing_of, sent_number, sent_size};
+use items::{Game, Items, MOST_SIZE, MOST_VOLUME, Sizes};
 use loads::{EarlierPositions, Loads, Position};
 use packing_witness::Packing;
 use strategy_text::{AdvNode, Format, Placement, Rule, Step, Then};
@@ -190,28 +190,15 @@ fn most_on_load(game: &Game, size: u16, load: u16) -> u16
 
 // The items with all that the step sends; None exactly where their total is above the limit of a multiset.
 fn all_items(items: &Items, step: &Step) -> Option<Items>
-    requires { IsSize 120 (sent_size step.now) }
+    requires { IsSize MOST_SIZE (sent_size step.now) }
     ensures { AreItems items.now (sent_items step.now) result }
 {
     let size = sent_size(step);
     let number = sent_number(step);
-    if u32::from(items.volume()) + u32::from(number) * u32::from(size) > 1912 {
+    if u32::from(items.volume()) + u32::from(number) * u32::from(size) > u32::from(MOST_VOLUME) {
         return None;
     }
-    Some(add_times(items, size, number))
-}
-
-// The multiset with so many more items of one size.
-fn add_times(items: &Items, size: u16, number: u16) -> Items
-    requires size { IsSize 120 size }
-    requires fits { sum items.now + number * size ≤ 1912 }
-    ensures { result ≡ put_all (replicate number size) items.now }
-{
-    let mut made = items.copy();
-    for _i in 0..number {
-        made.put(size);
-    }
-    made
+    Some(items.add_times(size, number))
 }
 
 // Whether a packing is shown exactly where it is asked for, and packs the items with all that the step sends.
@@ -226,13 +213,9 @@ fn is_packed(
     ensures { IsTrue result ↔ IsPacked game.now format (node_at position.now step.now) }
 {
     let asked = is_packing_asked(format, step);
-    match step {
-        Step::Send {
-            pack: Some(pack),
-            ..
-        } => asked && packs(game, pack, position, step, all),
-        Step::Send { pack: None, .. } => !asked,
-        Step::Burst { pack, .. } => asked && packs(game, pack, position, step, all),
+    match packing_of(step) {
+        Some(pack) => asked && packs(game, pack, position, step, all),
+        None => !asked,
     }
 }
 

@@ -1,9 +1,11 @@
 //! What a step of the adversary sends, and where it asks for a packing.
 
 ghost use Rattle.std.specs.Prelude.{◌≡◌, ◌↔◌, IsTrue, All, replicate};
-ghost use Rattle.adversary_graph.specs.Nodes.{sent_size, sent_items};
+ghost use Rattle.std.specs.Option.{option_copied};
+ghost use Rattle.adversary_graph.specs.Nodes.{sent_size, sent_items, packing_of};
 ghost use Rattle.adversary_graph.specs.Rules.{IsOver, IsPackingAsked};
 
+use packing_witness::Packing;
 use strategy_text::{Format, Placement, Step, Then};
 
 // The size that a step sends, once or in a burst.
@@ -23,6 +25,20 @@ pub fn sent_number(step: &Step) -> u16
     match step {
         Step::Send { .. } => 1,
         Step::Burst { count, .. } => *count,
+    }
+}
+
+// The packing that a step shows, if it shows one.
+pub fn packing_of(step: &Step) -> Option<&Packing>
+    ensures { option_copied result ≡ packing_of step.now }
+{
+    match step {
+        Step::Send {
+            pack: Some(pack),
+            ..
+        } => Some(pack),
+        Step::Send { pack: None, .. } => None,
+        Step::Burst { pack, .. } => Some(pack),
     }
 }
 

@@ -1,6 +1,6 @@
 //! Lists that grow at their end.
 
-ghost use Rattle.std.specs.Prelude.{◌≡◌, ◌↔◌, [], ◌∷◌, ◌++◌, length, slice_get, IsTrue, IfOk, OnOk, OnErr};
+ghost use Rattle.std.specs.Prelude.{◌≡◌, ◌↔◌, [], ◌∷◌, ◌++◌, length, slice_get, take, IsTrue, IfOk, OnOk, OnErr};
 ghost use Rattle.std.specs.Option.{option_copied};
 
 use std::alloc::{AllocError, Global};
@@ -75,6 +75,13 @@ impl<T: Drop> Sequence<T> {
     {
         self.elements.push(element)?;
         Ok(())
+    }
+
+    /// Drops the elements from a place on, counted from 0. Takes no memory.
+    pub fn truncate(&mut self, n: usize)
+        ensures kept { self.new ≡ take n self.old }
+    {
+        self.elements.truncate(n);
     }
 }
 

@@ -1,0 +1,114 @@
+-- Pools: a node that comes next, the positions of the nodes, and legal strategies from pools and to pools.
+use Rattle.std.proofs.Common.{◌≡◌, ℕ, zero, suc, ◌+◌, ◌<◌, ◌≤◌, Bool, IsTrue, false, List, [], ◌∷◌, ◌++◌, Some, length, take, map, arith, refl, ap, sym, subst, true, ◌∙◌, inl, inr, ◌⊎◌, ⊎_elim, eqb}
+use Rattle.std.specs.List.{All, slice_get}
+use Rattle.std.proofs.lemmas.Bool.{eqb-true}
+use Rattle.std.proofs.lemmas.List.{take-append-le, length-take-le, map-append, length-append}
+use Rattle.std.proofs.lemmas.List.Elements.{All-push, All-nil, All-take}
+use Rattle.std.proofs.lemmas.Option.{same_Some, none-some, slice_get_within, slice_get-get_or}
+use Rattle.std.proofs.Math.Seq.{take-append_seam}
+use Rattle.items.specs.Game.{GameNumbers, IsGame}
+use Rattle.items.specs.Multiset.{sizes_of}
+use Rattle.loads.specs.Position.{IsEmptyPosition}
+use Rattle.loads.specs.declared.position.Position.{Position}
+use Rattle.strategy_text.specs.declared.node.AdvNode.{AdvNode}
+use Rattle.strategy_text.specs.declared.node.Format.{Format}
+use Rattle.strategy_text.specs.Spelling.{most_nodes}
+use Rattle.adversary_graph.specs.Judging.{HasPosition}
+use Rattle.adversary_graph.specs.Legal.{EachFollows, EachMeetsRules, IsLegal}
+use Rattle.adversary_graph.specs.Nodes.{position_of, IsOfFormat}
+use Rattle.adversary_graph.specs.Pools.{Pool, IsPool, MayComeNext, IsRoot, nodes_up_to, pool_of}
+use Rattle.adversary_graph.specs.Rules.{MeetsRules}
+use Rattle.adversary_graph.proofs.RuleLemmas.{multiset_from_items, sizes_are_sizes}
+use Rattle.adversary_graph.proofs.WonLemmas.{EachFollows-from_legal, slice_get-take}
+
+-- a node that meets its rules has loads and items of the game
+pub HasPosition-from_rules : (format : Format) (game : GameNumbers) (earlier : List Position) (last : Bool) (node : AdvNode)
+    → IsGame game → MeetsRules format game (sizes_of game) earlier last node → HasPosition game node
+HasPosition-from_rules format game earlier last node g m =
+    record { loads = m.0; items = multiset_from_items game (sizes_of game) node.loads node.items g (sizes_are_sizes game) m.0 m.1.0 }
+
+-- a rule that speaks of the last node alone
+with_root : (format : Format) (game : GameNumbers) (sizes : List ℕ) (earlier : List Position) (last : Bool) (node : AdvNode)
+    → MeetsRules format game sizes earlier false node → (IsTrue last → IsEmptyPosition (position_of node)) → MeetsRules format game sizes earlier last node
+with_root format game sizes earlier last node m root =
+    (m.0, (m.1.0, (m.1.1.0, (m.1.1.1.0, (m.1.1.1.1.0, (m.1.1.1.1.1.0, (m.1.1.1.1.1.1.0, (m.1.1.1.1.1.1.1.0, (root, tt)))))))))
+
+-- the elements of a list with one more at its end
+slice_get_push : {X : Type 0} (xs : List X) (y : X) (k : ℕ) (z : X) → slice_get (xs ++ y ∷ []) k ≡ Some z → (slice_get xs k ≡ Some z) ⊎ ((k ≡ length xs) × (y ≡ z))
+slice_get_push [] y zero z e = inr (refl, same_Some y z e)
+slice_get_push [] y (suc k) z e = absurd (none-some z e)
+slice_get_push (x ∷ xs) y zero z e = inl e
+slice_get_push (x ∷ xs) y (suc k) z e =
+    ⊎_elim (λ here. inl here) (λ last. inr (ap suc last.0, last.1)) (slice_get_push xs y k z e)
+
+take-take : {X : Type 0} (xs : List X) (i k : ℕ) → i ≤ k → take i (take k xs) ≡ take i xs
+take-take xs zero k l = refl
+take-take xs (suc i) zero l = absurd (omega arith)
+take-take [] (suc i) (suc k) l = refl
+take-take (x ∷ xs) (suc i) (suc k) l = ap (λ ys. x ∷ ys) (take-take xs i k (omega arith))
+
+pub IsPool-nil : (format : Format) (game : GameNumbers) → IsGame game → IsPool (pool_of format game [])
+unfolding EachFollows
+IsPool-nil format game g = record {
+  of_game = g;
+  few = omega arith;
+  formed = All-nil (λ (node : AdvNode). IsOfFormat format node.step);
+  follow = λ k node e. absurd (none-some node e);
+}
+
+pub IsPool-push : (pool : Pool) (node : AdvNode) → IsPool pool → MayComeNext pool node → IsPool (pool_of pool.format pool.game (pool.nodes ++ node ∷ []))
+unfolding EachFollows
+IsPool-push pool node p next =
+    let rules = λ (earlier : List AdvNode) (last : AdvNode). MeetsRules pool.format pool.game (sizes_of pool.game) (map position_of earlier) false last in
+    record {
+      of_game = p.of_game;
+      few = omega (arith, length-append pool.nodes (node ∷ []), next.room);
+      formed = All-push (λ (n : AdvNode). IsOfFormat pool.format n.step) pool.nodes node p.formed next.formed;
+      follow = λ k other e. ⊎_elim
+        (λ here. subst (λ earlier. rules earlier other) (sym (take-append-le k pool.nodes (node ∷ []) (omega (arith, slice_get_within pool.nodes k other here)))) (p.follow k other here))
+        (λ last. subst (λ n. rules (take n (pool.nodes ++ node ∷ [])) other) (sym last.0)
+          (subst (λ earlier. rules earlier other) (sym (take-append_seam pool.nodes (node ∷ [])))
+            (subst (λ n. rules pool.nodes n) last.1 next.follows)))
+        (slice_get_push pool.nodes node k other e);
+    }
+
+pub map-push : (nodes : List AdvNode) (node : AdvNode) → map position_of (nodes ++ node ∷ []) ≡ map position_of nodes ++ position_of node ∷ []
+map-push nodes node = map-append position_of nodes (node ∷ [])
+
+-- the nodes of a pool up to one with the empty position are legal
+pub IsLegal-from_pool : (pool : Pool) (root : ℕ) → IsPool pool → IsRoot pool.nodes root → IsLegal pool.format pool.game (sizes_of pool.game) (nodes_up_to root pool.nodes)
+unfolding EachFollows EachMeetsRules
+IsLegal-from_pool pool root p r =
+    let sizes = sizes_of pool.game in
+    let within = slice_get_within pool.nodes root r.0 r.1 in
+    let number : length (take (root + 1) pool.nodes) ≡ root + 1 = length-take-le (root + 1) pool.nodes (omega (arith, within)) in
+    record {
+      of_game = p.of_game;
+      low = omega (arith, number);
+      high = omega (arith, number, within, p.few);
+      formed = All-take (λ (node : AdvNode). IsOfFormat pool.format node.step) (root + 1) pool.nodes p.formed;
+      each = λ k node e.
+        let h = slice_get-take pool.nodes (root + 1) k node e in
+        let last = eqb (k + 1) (length (take (root + 1) pool.nodes)) in
+        let empty = λ (is_last : last ≡ true).
+          let k_is : k ≡ root = omega (arith, eqb-true (k + 1) (length (take (root + 1) pool.nodes)) is_last, number) in
+          let same : node ≡ r.0 = same_Some node r.0 (sym h.0 ∙ ap (slice_get pool.nodes) k_is ∙ r.1) in
+          subst (λ (n : AdvNode). IsEmptyPosition (position_of n)) (sym same) r.2 in
+        with_root pool.format pool.game sizes (map position_of (take k (take (root + 1) pool.nodes))) last node
+          (subst (λ earlier. MeetsRules pool.format pool.game sizes (map position_of earlier) false node) (sym (take-take pool.nodes k (root + 1) (omega (arith, h.1)))) (p.follow k node h.0))
+          empty;
+    }
+
+-- the nodes of a legal strategy are a pool, and have positions
+pub IsPool-from_legal : (format : Format) (game : GameNumbers) (nodes : List AdvNode) → IsLegal format game (sizes_of game) nodes → IsPool (pool_of format game nodes)
+IsPool-from_legal format game nodes legal = record {
+  of_game = legal.of_game;
+  few = legal.high;
+  formed = legal.formed;
+  follow = EachFollows-from_legal format game (sizes_of game) nodes legal;
+}
+
+pub each_has_position : (format : Format) (game : GameNumbers) (nodes : List AdvNode) → IsPool (pool_of format game nodes) → All (HasPosition game) nodes
+unfolding EachFollows
+each_has_position format game nodes p k d l =
+    HasPosition-from_rules format game (map position_of (take k nodes)) false _ p.of_game (p.follow k _ (slice_get-get_or nodes k d l))

@@ -1,0 +1,7 @@
+use Rattle.std.proofs.Common.{refl}
+use Rattle.adversary_graph.proofs.PoolLemmas.{IsPool-nil}
+use Rattle.adversary_graph.proofs.pool.AdvPool.new.Goals as goal
+
+pub invariant_of-result : goal.invariant_of-result
+invariant_of-result c =
+    rw (c.new.ensures.empty, c.new-2.ensures.empty) (IsPool-nil c.args.format c.args.game.now c.g-capacity.ensures.legal, refl)

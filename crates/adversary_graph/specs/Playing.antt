@@ -1,0 +1,41 @@
+-- What the private contracts of a play cite; nothing here but `play_of` has to be believed.
+use Rattle.std.specs.Prelude.{◌≡◌, ℕ, ◌<◌, List, Option, Some, None, slice_get}
+use Rattle.items.specs.Game.{GameNumbers}
+use Rattle.online_play.specs.Algorithm.{bins_of, run}
+use Rattle.online_play.specs.Laws.{LeadsTo}
+use Rattle.online_play.specs.declared.transcript.Transcript.{Transcript}
+use Rattle.strategy_text.specs.declared.node.AdvNode.{AdvNode}
+use Rattle.adversary_graph.specs.Nodes.{position_of}
+use Rattle.adversary_graph.specs.Play.{Play, End, end_at, end_by_step}
+use Rattle.adversary_graph.specs.declared.plays.Course.{Course}
+
+-- the play that a transcript tells
+abbrev pub play_of : Transcript → Play
+play_of transcript = record {
+  items = transcript.items;
+  bins = transcript.bins;
+  loads = transcript.loads;
+  packing = transcript.packing;
+}
+
+-- the bins and the loads of a play so far are those of the algorithm
+pub record IsCourse (game : GameNumbers) (answer : List ℕ → ℕ) (course : Course) : Type 0 where
+  pub bins : course.bins ≡ bins_of answer course.items
+  pub actual : course.actual ≡ run game answer course.items
+
+-- the items so far led the algorithm to the position of the node of this number
+abbrev pub StandsReady : GameNumbers → (List ℕ → ℕ) → List AdvNode → ℕ → List ℕ → Type 0
+StandsReady game answer nodes number items =
+    (node : AdvNode) × (slice_get nodes number ≡ Some node) × LeadsTo game answer items (position_of node)
+
+-- the play goes on at a child that has a lower number, or ends
+abbrev pub GoesOn : GameNumbers → (List ℕ → ℕ) → List AdvNode → ℕ → Option ℕ → List ℕ → (ℕ → List ℕ → Option End) → Option End → Type 0
+GoesOn game answer nodes number (Some child) items end_of end =
+    (child < number) × StandsReady game answer nodes child items × (end ≡ end_of child items)
+GoesOn game answer nodes number None items end_of end = end ≡ Some (end_at items number)
+
+-- one step of a play, whatever comes after it
+abbrev pub IsStep : GameNumbers → (List ℕ → ℕ) → List AdvNode → ℕ → List ℕ → Option ℕ → List ℕ → Type 0
+IsStep game answer nodes number history next items =
+    (node : AdvNode) × (slice_get nodes number ≡ Some node)
+    × ((end_of : ℕ → List ℕ → Option End) → GoesOn game answer nodes number next items end_of (end_by_step game answer end_of number history node.step))

@@ -1,0 +1,153 @@
+//! Plays of the adversary's nodes against a player.
+
+ghost use Rattle.std.specs.Prelude.{◌≡◌, ◌<◌, ◌+◌, ◌++◌, ◌∷◌, [], ℕ, List, Option, Some, None, MatchOption, OnOk, IfOk, length, replicate, slice_get};
+ghost use Rattle.std.specs.Option.{option_and_then};
+ghost use Rattle.items.specs.Packable.{Packable};
+ghost use Rattle.online_play.specs.Algorithm.{bins_of, run};
+ghost use Rattle.adversary_graph.specs.Play.{IsLost, Play, child_of, end_of, end_packing, first_child, load_hit, next_at, play, without_all, beyond};
+ghost use Rattle.adversary_graph.specs.Pools.{IsRoot};
+ghost use Rattle.adversary_graph.specs.Playing.{IsCourse, IsStep, StandsReady, play_of};
+
+use crate::pool::AdvPool;
+use crate::step::packing_of;
+use items::{Game, Nums};
+use online_play::{Actual, Bins, Online, Transcript};
+use packing_witness::Packing;
+use std::alloc::{AllocError, Global};
+use strategy_text::{Placement, Step, Then};
+
+/// The play of a pool's nodes against a player, from the root of this number on. The player loses: the items can be
+/// packed, as the packing shows, and one of the loads reaches the target. Asks the player once for each item; the
+/// cost besides is linear in the items times the bins.
+pub fn refute<O: Online>(alloc: Global, pool: &AdvPool, root: u32, player: &O) -> Result<Transcript, AllocError>
+    requires root { IsRoot pool.now.nodes root }
+    ensures played { IfOk result (λ transcript. play pool.now.game pool.now.nodes root (O.answer player.now pool.now.game) ≡ Some (play_of transcript)) }
+    ensures lost { IfOk result (λ transcript. IsLost pool.now.game (play_of transcript)) }
+{
+    let mut course = Course::new(alloc, &pool.game());
+    let end = play_on(pool, root, player, &mut course)?;
+    let packing = packing_for(pool, end, &course.items)?;
+    let loads = Nums::from_slice(alloc, course.actual.as_slice())?;
+    Ok(Transcript {
+        items: course.items,
+        bins: course.bins,
+        loads,
+        packing,
+    })
+}
+
+// A play so far.
+#[derive(Drop)]
+struct Course {
+    items: Nums,
+    bins: Bins,
+    actual: Actual,
+}
+
+impl Course {
+    fn new(alloc: Global, game: &Game) -> Course
+        ensures items { result.items ≡ [] }
+        ensures course { (answer : List ℕ → ℕ) → IsCourse game.now answer result }
+    {
+        Course {
+            items: Nums::new(alloc),
+            bins: Bins::new(alloc),
+            actual: Actual::zero(game),
+        }
+    }
+
+    // Sends an item, and gives the load of the bin that the player answers, before the item.
+    fn send<O: Online>(&mut self, game: &Game, player: &O, size: u16) -> Result<u16, AllocError>
+        requires course { IsCourse game.now (O.answer player.now game.now) self.old }
+        requires packable { Packable game.now (self.old.items ++ size ∷ []) }
+        ensures sent { OnOk result (self.new.items ≡ self.old.items ++ size ∷ []) }
+        ensures course { OnOk result (IsCourse game.now (O.answer player.now game.now) self.new) }
+        ensures load { IfOk result (λ load. load ≡ load_hit game.now (O.answer player.now game.now) self.old.items size) }
+    {
+        self.items.push(size)?;
+        let bin = player.place(game, self.items.as_slice());
+        self.bins.push(bin)?;
+        let load = self.actual.as_slice()[usize::from(bin)];
+        self.actual.put(bin, size);
+        Ok(load)
+    }
+
+    // Sends an item several times.
+    fn send_times<O: Online>(&mut self, game: &Game, player: &O, size: u16, times: u16) -> Result<(), AllocError>
+        requires course { IsCourse game.now (O.answer player.now game.now) self.old }
+        requires packable { Packable game.now (self.old.items ++ replicate times size) }
+        ensures sent { OnOk result (self.new.items ≡ self.old.items ++ replicate times size) }
+        ensures course { OnOk result (IsCourse game.now (O.answer player.now game.now) self.new) }
+    {
+        for _i in 0..times {
+            let _load = self.send(game, player, size)?;
+        }
+        Ok(())
+    }
+}
+
+// Plays from the root to the end, and gives the number of the node that sent the last item.
+fn play_on<O: Online>(pool: &AdvPool, root: u32, player: &O, course: &mut Course) -> Result<u32, AllocError>
+    requires root { IsRoot pool.now.nodes root }
+    requires none { course.old.items ≡ [] }
+    requires course { IsCourse pool.now.game (O.answer player.now pool.now.game) course.old }
+    ensures course { OnOk result (IsCourse pool.now.game (O.answer player.now pool.now.game) course.new) }
+    ensures end { IfOk result (λ number. end_of pool.now.game (O.answer player.now pool.now.game) pool.now.nodes (root + 1) root []
+        ≡ Some (record { items = course.new.items; number = number })) }
+{
+    let mut number = root;
+    loop {
+        match play_step(pool, number, player, course)? {
+            Some(child) => number = child,
+            None => return Ok(number),
+        }
+    }
+}
+
+// Sends what the node of this number sends, and gives the child at which the play goes on, if it does.
+fn play_step<O: Online>(pool: &AdvPool, number: u32, player: &O, course: &mut Course) -> Result<Option<u32>, AllocError>
+    requires course { IsCourse pool.now.game (O.answer player.now pool.now.game) course.old }
+    requires ready { StandsReady pool.now.game (O.answer player.now pool.now.game) pool.now.nodes number course.old.items }
+    ensures course { OnOk result (IsCourse pool.now.game (O.answer player.now pool.now.game) course.new) }
+    ensures step { IfOk result (λ next. IsStep pool.now.game (O.answer player.now pool.now.game) pool.now.nodes number course.old.items next course.new.items) }
+{
+    let game = pool.game();
+    match &pool.node(number).step {
+        Step::Send { size, placements, .. } => {
+            let load = course.send(&game, player, *size)?;
+            Ok(child_at(load, placements.as_slice()))
+        }
+        Step::Burst { count, size, .. } => {
+            course.send_times(&game, player, *size, *count)?;
+            Ok(None)
+        }
+    }
+}
+
+// The child of the first placement of this load, if it has one.
+fn child_at(load: u16, placements: &[Placement]) -> Option<u32>
+    ensures { result ≡ option_and_then child_of (next_at load placements.now) }
+{
+    for placement in placements {
+        if placement.load == load {
+            return child_of(placement.next);
+        }
+    }
+    None
+}
+
+fn child_of(next: Then) -> Option<u32>
+    ensures { result ≡ child_of next }
+{
+    match next {
+        Then::Over => None,
+        Then::To(child) => Some(child),
+    }
+}
+
+// A packing of a play's items: the end packing of its last node without what that has beyond the items.
+fn packing_for(pool: &AdvPool, number: u32, items: &Nums) -> Result<Packing, AllocError>
+    requires stub { ⊥ }
+{
+    unreachable!()
+}
