@@ -8,7 +8,7 @@ use Rattle.std.proofs.lemmas.List.Elements.{All-push, All-cons, All-head, All-ta
 use Rattle.items.specs.Game.{GameNumbers}
 use Rattle.items.specs.Multiset.{IsSize}
 use Rattle.items.specs.Packable.{IsAssignment, bin_total}
-use Rattle.reachable_loads.specs.Reached.{totals}
+use Rattle.reach_planes.specs.Reached.{totals}
 
 -- the totals by bin number
 pub length-totals : (game : GameNumbers) (items bins : List ℕ) → length (totals game items bins) ≡ game.bins

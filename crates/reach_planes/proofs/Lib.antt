@@ -1,0 +1,6 @@
+pub mod AssignmentLemmas
+pub mod TotalsLemmas
+pub mod BitLemmas
+pub mod RowLemmas
+pub mod PassLemmas
+pub mod PlaneLemmas

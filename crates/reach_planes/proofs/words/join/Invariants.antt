@@ -1,0 +1,5 @@
+use Rattle.reach_planes.specs.Words.{AreJoined}
+use Rattle.reach_planes.proofs.words.join.Given as goal
+
+abbrev pub invariant-loop-k : goal.invariant-loop-k
+invariant-loop-k l = AreJoined l.by.up l.by.down l.by.mask l.k l.to l.from l.source l.fn.words l.words
