@@ -70,7 +70,7 @@ All-push_parts P (y ∷ ys) x a =
     (All-cons P y ys (All-head P y (ys ++ x ∷ []) a) r.0, r.1)
 
 -- a list that is not empty is its front and its last
-front_and_last : (xs : List ℕ) (n : ℕ) → length xs ≡ n + 1 → xs ≡ take n xs ++ get_or xs n 0 ∷ []
+pub front_and_last : (xs : List ℕ) (n : ℕ) → length xs ≡ n + 1 → xs ≡ take n xs ++ get_or xs n 0 ∷ []
 front_and_last xs n e = sym (take_all (n + 1) xs (omega arith)) ∙ take_more xs n 0 (omega arith)
 
 -- the parts of an assignment whose bins are given as the earlier ones and the last

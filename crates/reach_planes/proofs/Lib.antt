@@ -4,3 +4,4 @@ pub mod BitLemmas
 pub mod RowLemmas
 pub mod PassLemmas
 pub mod PlaneLemmas
+pub mod LoadLemmas

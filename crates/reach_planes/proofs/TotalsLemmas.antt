@@ -127,7 +127,7 @@ at_end first last k e = get_or-append_right first (last ∷ []) (length first) k
 set_end : (first : List ℕ) (last k v : ℕ) → k ≡ length first → set (first ++ last ∷ []) k v ≡ first ++ v ∷ []
 set_end first last k v e = set-append_right first (last ∷ []) (length first) k v refl (omega (arith, e)) ∙ ap (λ i. first ++ set (last ∷ []) i v) (let z : k - length first ≡ 0 = omega (arith, e) in z)
 
-sum_end : (first : List ℕ) (last : ℕ) → sum (first ++ last ∷ []) ≡ sum first + last
+pub sum_end : (first : List ℕ) (last : ℕ) → sum (first ++ last ∷ []) ≡ sum first + last
 sum_end first last = omega (arith, sum_by-append (λ x. x) first (last ∷ []), sum_by-cons (λ x. x) last [])
 
 -- the last load that goes with first loads

@@ -13,6 +13,11 @@ abbrev pub row_of : ℕ → List ℕ → ℕ
 row_of base [] = 0
 row_of base (digit ∷ digits) = digit + base * row_of base digits
 
+-- so many digits of a number, from the least on
+abbrev pub digits_of : ℕ → ℕ → ℕ → List ℕ
+digits_of base zero number = []
+digits_of base (suc places) number = (number % base) ∷ digits_of base places (number / base)
+
 -- the sum of so many digits of a number, from the least on
 abbrev pub digit_sum : ℕ → ℕ → ℕ → ℕ
 digit_sum base zero number = 0
@@ -77,3 +82,21 @@ pub record IsPutInBin (stride base size : ℕ) (source before after : List ℕ) 
 -- a total that stands still at 65,535
 abbrev pub held_total : List ℕ → ℕ
 held_total items = min (sum items) 65535
+
+-- what is kept beside the items
+pub record ArePlanes (game : GameNumbers) (items : List ℕ) (total : ℕ) (sums words : List ℕ) : Type 0 where
+  pub total_is : total ≡ held_total items
+  pub sums_are : AreDigitSums game sums
+  pub plane : IsPlaneOf game items words
+
+-- a number that is the least load with a bit set in some row
+pub record IsLeastBit (rows halves : ℕ) (words : List ℕ) (load : ℕ) : Type 0 where
+  pub row : ℕ
+  pub in_rows : row < rows
+  pub in_halves : load / 64 < halves
+  pub is_set : IsSet words (word_at rows (load / 64) row) (load % 64)
+  pub none_below : (half r bit : ℕ) → half < halves → r < rows → bit < 64 → 64 * half + bit < load → IsSet words (word_at rows half r) bit → ⊥
+
+-- no bit is set in so many halves
+abbrev pub NoBits : ℕ → ℕ → List ℕ → Type 0
+NoBits rows halves words = (half row bit : ℕ) → half < halves → row < rows → bit < 64 → IsSet words (word_at rows half row) bit → ⊥

@@ -1,14 +1,14 @@
 //! The rows of a plane, and what an item does to them.
 
-ghost use Rattle.std.specs.Prelude.{◌≡◌, ◌↔◌, ℕ, ◌+◌, ◌-◌, ◌*◌, ◌/◌, ◌%◌, ◌^◌, ◌<◌, ◌≤◌, ◌∷◌, ◌++◌, ◌⊎◌, List, [], length, slice_index, sum, IfOk, All};
+ghost use Rattle.std.specs.Prelude.{◌≡◌, ◌↔◌, ℕ, ◌+◌, ◌-◌, ◌*◌, ◌/◌, ◌%◌, ◌^◌, ◌<◌, ◌≤◌, ◌∷◌, ◌++◌, ◌⊎◌, List, [], length, slice_index, sum, IfOk, OnOk, All, MatchOption};
 ghost use Rattle.std.specs.Int.{bit_at};
 ghost use Rattle.items.specs.Multiset.{IsSize};
 ghost use Rattle.reach_planes.specs.Words.{IsSet};
-ghost use Rattle.reach_planes.specs.Layout.{AreDigitSums, IsKept, IsPlaneOf, IsPutInBin, IsPutInFirst, digit_sum, halves_of, held_total, row_of, rows_of, word_at};
+ghost use Rattle.reach_planes.specs.Layout.{AreDigitSums, IsKept, IsPlaneOf, IsPutInBin, IsPutInFirst, digit_sum, digits_of, halves_of, held_total, row_of, rows_of, word_at};
 ghost use Rattle.reach_planes.specs.Planes.{FitsInPlanes};
 
 use crate::words::{Move, join};
-use items::Game;
+use items::{Game, Nums};
 use std::alloc::{AllocError, Global};
 
 /// How many words a row has: one for the loads 0 to 63, and one for the loads from 64 on.
@@ -49,6 +49,66 @@ fn digit_sum(number: usize, base: usize, places: u16) -> u16
         return 0;
     }
     (number % base) as u16 + digit_sum(number / base, base, places - 1)
+}
+
+/// The number that digits spell in a base, the least digit first.
+pub fn row_of(digits: &[u16], base: usize) -> usize
+    requires few { length digits.now ≤ 6 }
+    requires low { 1 ≤ base }
+    requires high { base ≤ 121 }
+    requires digits { All (λ digit. digit + 1 ≤ base) digits.now }
+    ensures { result ≡ row_of base digits.now }
+{
+    let mut row = 0;
+    for i in (0..digits.len()).rev() {
+        row = row * base + usize::from(digits[i]);
+    }
+    row
+}
+
+/// Puts so many digits of a number at the end of a list, from the least on.
+pub fn push_digits(
+    list: &mut Nums,
+    number: usize,
+    base: usize,
+    places: u16,
+) -> Result<(), AllocError>
+    requires low { 1 ≤ base }
+    requires high { base ≤ 121 }
+    ensures { OnOk result (list.new ≡ list.old ++ digits_of base places number) }
+{
+    if places == 0 {
+        return Ok(());
+    }
+    list.push((number % base) as u16)?;
+    push_digits(list, number / base, base, places - 1)
+}
+
+/// The bits that are set in any of so many words from a place on.
+pub fn any_of(words: &[u64], from: usize, count: usize) -> u64
+    requires { from + count ≤ length words.now }
+    ensures { (bit : ℕ) → (bit_at result bit ≡ 1) ↔ ((k : ℕ) × (k < count) × IsSet words.now (from + k) bit) }
+{
+    let mut all = 0u64;
+    for k in 0..count {
+        all |= words[from + k];
+    }
+    all
+}
+
+/// Which of so many words from a place on is the first that is not 0; None where all are.
+pub fn first_set(words: &[u64], from: usize, count: usize) -> Option<usize>
+    requires { from + count ≤ length words.now }
+    ensures { MatchOption result
+        ((k : ℕ) → k < count → slice_index words.now (from + k) ≡ 0)
+        (λ found. (found < count) × (slice_index words.now (from + found) ≡ 0 → ⊥)) }
+{
+    for k in 0..count {
+        if words[from + k] != 0 {
+            return Some(k);
+        }
+    }
+    None
 }
 
 /// Joins the plane with its bits moved to where the item has gone to each bin. Before, the words are
