@@ -14,3 +14,7 @@ moved up down mask word = bit_and (word * 2 ^ up % 2 ^ 64 / 2 ^ down) mask
 pub record AreJoined (up down mask count to from : ℕ) (source before after : List ℕ) : Type 0 where
   pub joined : (k : ℕ) → k < count → slice_index after (to + k) ≡ bit_or (slice_index before (to + k)) (moved up down mask (slice_index source (from + k)))
   pub others : (i : ℕ) → (i < to) ⊎ (to + count ≤ i) → slice_index after i ≡ slice_index before i
+
+-- four words with their bits moved, lane by lane
+abbrev pub HasMovedLanes : ℕ → ℕ → ℕ → List ℕ → List ℕ → Type 0
+HasMovedLanes up down mask words result = (k : ℕ) → k < 4 → slice_index result k ≡ moved up down mask (slice_index words k)

@@ -6,3 +6,6 @@ mod rows;
 mod words;
 
 pub use planes::Planes;
+
+#[cfg(test)]
+mod tests;
