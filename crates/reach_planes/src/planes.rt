@@ -88,6 +88,13 @@ impl Planes {
         })
     }
 
+    /// The game.
+    pub fn game(&self) -> &Game
+        ensures value { result.now ≡ self.now.game }
+    {
+        &self.game
+    }
+
     /// Whether some assignment of the items has these loads, in whatever order. Takes no memory, and a time
     /// that does not depend on the size of the plane.
     pub fn contains(&self, loads: &[u16]) -> bool

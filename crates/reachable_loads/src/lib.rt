@@ -3,6 +3,7 @@
 
 mod packing;
 mod reach;
+mod sets;
 
 pub use packing::pack;
 pub use reach::Reach;

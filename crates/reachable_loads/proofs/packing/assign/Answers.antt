@@ -1,6 +1,6 @@
 use Rattle.std.proofs.Common.{◌≡◌, ◌∙◌, length, get_or, ap, subst, arith}
 use Rattle.items.specs.Packable.{Packable}
-use Rattle.reachable_loads.specs.Reached.{ItemsSent, sent, IsReached}
+use Rattle.reachable_loads.specs.Reached.{ItemsSent, sent, HasTotals}
 use Rattle.reachable_loads.proofs.PackLemmas.{at_prefix, whole_prefix, length-prefixes_of}
 use Rattle.reachable_loads.proofs.packing.assign.Goals as goal
 use Rattle.reachable_loads.proofs.packing.assign.Goals.{After-index}
@@ -16,7 +16,7 @@ whole c =
 
 pub walk_back-requires-clause-reached : goal.walk_back-requires-clause-reached
 walk_back-requires-clause-reached c =
-    subst (λ (x : ItemsSent). IsReached x.game x.items c.in-Some.loads.now) (whole (goal.at.walk_back-requires-clause-reached c).After-index) c.in-Some.ensures
+    subst (λ (x : ItemsSent). HasTotals x.game x.items c.in-Some.loads.now) (whole (goal.at.walk_back-requires-clause-reached c).After-index) c.in-Some.ensures
 
 pub returns : goal.returns
 returns c =

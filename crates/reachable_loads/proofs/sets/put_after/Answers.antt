@@ -10,8 +10,8 @@ use Rattle.reachable_loads.specs.Reached.{IsAfter}
 use Rattle.reachable_loads.proofs.SetLemmas.{inserted}
 use Rattle.reachable_loads.proofs.PutLemmas.{HasPut, IsAfterEarly, HasPut-start, HasPut-more, HasPut-past, HasPut-all, unwrapped}
 use Rattle.reachable_loads.proofs.ReachLemmas.{IsLoads-offline}
-use Rattle.reachable_loads.proofs.reach.put_after.Goals as goal
-use Rattle.reachable_loads.proofs.reach.put_after.Goals.{then-load-s+in_ok-insert, else-load-s}
+use Rattle.reachable_loads.proofs.sets.put_after.Goals as goal
+use Rattle.reachable_loads.proofs.sets.put_after.Goals.{then-load-s+in_ok-insert, else-load-s}
 
 pub overflow_add-load : goal.overflow_add-load
 overflow_add-load c =

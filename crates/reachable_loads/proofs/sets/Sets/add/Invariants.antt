@@ -1,5 +1,5 @@
 use Rattle.reachable_loads.proofs.ReachLemmas.{HasAfter}
-use Rattle.reachable_loads.proofs.reach.Reach.add.Given as goal
+use Rattle.reachable_loads.proofs.sets.Sets.add.Given as goal
 
 abbrev pub invariant-loop-loads : goal.invariant-loop-loads
 invariant-loop-loads l = record {

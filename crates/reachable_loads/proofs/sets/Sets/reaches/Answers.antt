@@ -4,7 +4,7 @@ use Rattle.std.proofs.lemmas.Map.Lookups.{exact_bytes}
 use Rattle.std.proofs.lemmas.Map.Views.{btree_set_contains_iff}
 use Rattle.reachable_loads.proofs.ReachLemmas.{IsReachOf-seen}
 use Rattle.reachable_loads.proofs.PackLemmas.{HasTotals-from_member, member_from_HasTotals}
-use Rattle.reachable_loads.proofs.reach.Reach.reaches.Goals as goal
+use Rattle.reachable_loads.proofs.sets.Sets.reaches.Goals as goal
 
 pub returns : goal.returns
 returns c =

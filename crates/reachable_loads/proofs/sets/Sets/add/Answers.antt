@@ -5,8 +5,8 @@ use Rattle.std.proofs.lemmas.Map.Views.{All-turn}
 use Rattle.items.specs.Multiset.{IsSize}
 use Rattle.reachable_loads.specs.Reached.{FitOffline, IsReachOf, ItemsSent, AnyOf, IsAfter}
 use Rattle.reachable_loads.proofs.ReachLemmas.{FitOffline-members, HasAfter-start, HasAfter-more, HasAfter-end, IsReachOf-push}
-use Rattle.reachable_loads.proofs.reach.Reach.add.Goals as goal
-use Rattle.reachable_loads.proofs.reach.Reach.add.Goals.{After-result-1}
+use Rattle.reachable_loads.proofs.sets.Sets.add.Goals as goal
+use Rattle.reachable_loads.proofs.sets.Sets.add.Goals.{After-result-1}
 
 pub loop-loads-init : goal.loop-loads-init
 loop-loads-init c = record {

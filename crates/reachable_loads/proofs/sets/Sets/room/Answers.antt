@@ -3,8 +3,8 @@ use Rattle.std.specs.Map.Iter.{deref}
 use Rattle.std.proofs.lemmas.Map.Views.{All-turn}
 use Rattle.reachable_loads.specs.Reached.{FitOffline}
 use Rattle.reachable_loads.proofs.ReachLemmas.{FitOffline-members, TellsRoom, TellsRoom-start, TellsRoom-more, IsTold-end, IsRoom-from_law, no_room, least-le_capacity}
-use Rattle.reachable_loads.proofs.reach.Reach.room.Goals as goal
-use Rattle.reachable_loads.proofs.reach.Reach.room.Goals.{In-Some}
+use Rattle.reachable_loads.proofs.sets.Sets.room.Goals as goal
+use Rattle.reachable_loads.proofs.sets.Sets.room.Goals.{In-Some}
 
 -- the member of a turn
 fits : (c : In-Some) → FitOffline c.self.inside.game c.in-Some.loads.now

@@ -7,7 +7,7 @@ use Rattle.std.proofs.lemmas.Map.Lookups.{exact_bytes}
 use Rattle.std.proofs.lemmas.Map.Views.{btree_set_contains_iff}
 use Rattle.reachable_loads.proofs.ReachLemmas.{IsReachOf-seen}
 use Rattle.reachable_loads.proofs.PackLemmas.{some_or_not_packable}
-use Rattle.reachable_loads.proofs.reach.Reach.some_loads.Goals as goal
+use Rattle.reachable_loads.proofs.sets.Sets.some_loads.Goals as goal
 
 pub returns : goal.returns
 returns c =

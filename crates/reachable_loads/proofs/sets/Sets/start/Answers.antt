@@ -4,7 +4,7 @@ use Rattle.std.proofs.lemmas.Map.Lookups.{exact_bytes}
 use Rattle.reachable_loads.specs.Reached.{IsReachOf}
 use Rattle.reachable_loads.proofs.SetLemmas.{inserted}
 use Rattle.reachable_loads.proofs.ReachLemmas.{IsReachOf-nil, no_member}
-use Rattle.reachable_loads.proofs.reach.Reach.start.Goals as goal
+use Rattle.reachable_loads.proofs.sets.Sets.start.Goals as goal
 
 pub invariant_of-result : goal.invariant_of-result
 invariant_of-result c =

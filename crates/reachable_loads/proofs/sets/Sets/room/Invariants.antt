@@ -1,6 +1,6 @@
 use Rattle.std.proofs.Common.{◌≤◌}
 use Rattle.reachable_loads.proofs.ReachLemmas.{TellsRoom}
-use Rattle.reachable_loads.proofs.reach.Reach.room.Given as goal
+use Rattle.reachable_loads.proofs.sets.Sets.room.Given as goal
 
 abbrev pub invariant-loop-loads : goal.invariant-loop-loads
 invariant-loop-loads l = record {

@@ -1,7 +1,7 @@
 use Rattle.std.proofs.Common.{◌∙◌, sym, arith}
 use Rattle.std.proofs.lemmas.Bool.{not-true, not_from_false, false_from_ne_true, false≢true}
 use Rattle.reachable_loads.proofs.ReachLemmas.{IsReachOf-seen, Packable-from_member, member_from_Packable, positive_length}
-use Rattle.reachable_loads.proofs.reach.Reach.packable.Goals as goal
+use Rattle.reachable_loads.proofs.sets.Sets.packable.Goals as goal
 
 pub returns : goal.returns
 returns c =
