@@ -188,6 +188,10 @@ TellsRoom-more capacity room least loads whole rest members e least_of t size l 
       λ a. ⊎_elim (λ le. inl (omega arith)) (λ o. ⊎_elim (λ here. let bound = All-contains (λ load. least ≤ load) loads here.0 least_of.bound here.1 in inl (omega (arith, here.2, bound))) (λ later. inr later) o) ((t' size l).1 a),
     )
 
+-- the sizes that may come next are those up to a room
+abbrev pub AreSizesThatFit : GameNumbers → List ℕ → ℕ → Type 0
+AreSizesThatFit game items room = (size : ℕ) → Packable game (items ++ size ∷ []) ↔ (1 ≤ size) × (size ≤ room)
+
 -- the room that was told is the room
 pub law_of_room : (game : GameNumbers) (items : List ℕ) (members : List (List ℕ)) (room : ℕ) → IsReachOf game items members → room ≤ game.capacity → TellsRoom game.capacity room [] members → (size : ℕ) → Packable game (items ++ size ∷ []) ↔ (1 ≤ size) × (size ≤ room)
 law_of_room game items members room r le t size = (
