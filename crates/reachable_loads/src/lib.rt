@@ -2,6 +2,7 @@
 #![tactic(auto)]
 
 mod packing;
+mod placing;
 mod reach;
 mod sets;
 
