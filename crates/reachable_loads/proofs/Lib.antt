@@ -1,6 +1,7 @@
 pub mod SetLemmas
-pub mod AssignmentLemmas
 pub mod ReachLemmas
 pub mod PutLemmas
 pub mod PackLemmas
+pub mod PlacingLemmas
+pub mod RoomLemmas
 pub mod ContentsLemmas

@@ -15,23 +15,9 @@ use Rattle.loads.specs.Descending.{IsDescending}
 use Rattle.loads.proofs.CountLemmas.{Contains-Same}
 use Rattle.reachable_loads.specs.Reached.{ItemsSent, sent, totals, HasTotals, IsReached, IsReachOf}
 use Rattle.reachable_loads.specs.Pack.{CanTakeOut, prefixes_of}
-use Rattle.reachable_loads.proofs.AssignmentLemmas.{length-totals, get_or-totals, totals-push, PutsLast, puts_last}
+use Rattle.reach_planes.proofs.TotalsLemmas.{length-HasTotals, All-HasTotals, bin_to_take}
+use Rattle.reach_planes.proofs.LoadLemmas.{HasTotals-reached}
 use Rattle.reachable_loads.proofs.ReachLemmas.{member_from_Packable}
-
--- totals that differ from given loads in their order alone are as many as the bins and fit
-pub length-HasTotals : (game : GameNumbers) (items loads : List ℕ) → HasTotals game items loads → length loads ≡ game.bins
-length-HasTotals game items loads h = sym (length-Same (totals game items h.0) loads h.2) ∙ length-totals game items h.0
-
-pub All-HasTotals : (game : GameNumbers) (items loads : List ℕ) → HasTotals game items loads → All (λ load. load ≤ game.capacity) loads
-All-HasTotals game items loads h =
-    All-from_get_or (λ load. load ≤ game.capacity) loads 0 (λ k l.
-    let load : ℕ = get_or loads k 0 in
-    let c = Contains-Same load loads (totals game items h.0) (Same-sym (totals game items h.0) loads h.2) (Contains-get_or loads k 0 l) in
-    let within : c.0 < game.bins = omega (arith, c.1, length-totals game items h.0) in
-    omega (arith, get_or-totals game items h.0 c.0 load within, c.2, h.1.fits c.0 within))
-
-pub HasTotals-reached : (game : GameNumbers) (items loads : List ℕ) → IsReached game items loads → HasTotals game items loads
-HasTotals-reached game items loads r = (r.0, r.1.assigned, r.1.same)
 
 -- sorted loads are a member exactly where the loads that were sorted are totals
 pub HasTotals-from_member : (game : GameNumbers) (items loads sorted : List ℕ) (members : List (List ℕ)) → IsReachOf game items members → Same sorted loads → Contains members sorted → HasTotals game items loads
@@ -42,38 +28,15 @@ pub member_from_HasTotals : (game : GameNumbers) (items loads sorted : List ℕ)
 member_from_HasTotals game items loads sorted members r s d h =
     (r.exact sorted).1 (h.0, record { assigned = h.1; descending = d; same = Same-trans (totals game items h.0) loads sorted h.2 (Same-sym sorted loads s) })
 
--- one number of a list that is, but for its order, a list in which a number was raised
-lowered_same : (xs ys : List ℕ) (j k size : ℕ) → j < length xs → k < length ys → Same (set xs j (get_or xs j 0 + size)) ys → get_or ys k 0 ≡ get_or xs j 0 + size → Same xs (set ys k (get_or ys k 0 - size))
-lowered_same xs ys j k size lj lk s e x =
-    let f : ℕ → ℕ = λ y. cond (eqb x y) 1 0 in
-    let low : get_or ys k 0 - size ≡ get_or xs j 0 = omega (arith, e) in
-    omega (arith, s x, count-sum_by x xs, count-sum_by x ys, count-sum_by x (set xs j (get_or xs j 0 + size)), count-sum_by x (set ys k (get_or ys k 0 - size)), sum_by-set f xs j (get_or xs j 0 + size) 0 lj, sum_by-set f ys k (get_or ys k 0 - size) 0 lk, ap f e, ap f low)
-
 -- the last item of an assignment can be taken out of the bin that has it
-pub record HasBinToTake (before : ItemsSent) (loads : List ℕ) (size : ℕ) : Type 0 where
+pub record CanBeTaken (before : ItemsSent) (loads : List ℕ) (size : ℕ) : Type 0 where
   pub bin : ℕ
   pub in_range : bin < length loads
   pub can : CanTakeOut before loads bin size
 
-taken_from : (game : GameNumbers) (items loads bins : List ℕ) (size : ℕ) → PutsLast game items size bins → Same (totals game (items ++ size ∷ []) bins) loads → HasBinToTake (sent game items) loads size
-taken_from game items loads bins size p s =
-    let was = totals game items p.before in
-    let load : ℕ = bin_total p.to items p.before in
-    let within : p.to < length was = omega (arith, p.in_game, length-totals game items p.before) in
-    let at : get_or was p.to 0 ≡ load = get_or-totals game items p.before p.to 0 p.in_game in
-    let raised : totals game (items ++ size ∷ []) bins ≡ set was p.to (get_or was p.to 0 + size) = ap (totals game (items ++ size ∷ [])) p.is ∙ totals-push game items p.before size p.to p.assigned.one_each p.in_game ∙ ap (λ n. set was p.to (n + size)) (sym at) in
-    let s' : Same (set was p.to (get_or was p.to 0 + size)) loads = subst (λ xs. Same xs loads) raised s in
-    let here : Contains (set was p.to (get_or was p.to 0 + size)) (get_or was p.to 0 + size) = (p.to, omega (arith, within, length-set was p.to (get_or was p.to 0 + size)), get_or-set_same was p.to (get_or was p.to 0 + size) (get_or was p.to 0 + size) within) in
-    let c = Contains-Same (get_or was p.to 0 + size) (set was p.to (get_or was p.to 0 + size)) loads s' here in
-    let e : get_or loads c.0 0 ≡ get_or was p.to 0 + size = get_or_default loads c.0 0 (get_or was p.to 0 + size) c.1 ∙ c.2 in
-    record {
-      bin = c.0;
-      in_range = c.1;
-      can = (omega (arith, e), (p.before, p.assigned, lowered_same was loads p.to c.0 size within c.1 s' e));
-    }
-
-pub bin_to_take : (before : ItemsSent) (loads : List ℕ) (size : ℕ) → HasTotals before.game (before.items ++ size ∷ []) loads → HasBinToTake before loads size
-bin_to_take before loads size h = taken_from before.game before.items loads h.0 size (puts_last before.game before.items size h.0 h.1) h.2
+pub can_be_taken : (before : ItemsSent) (loads : List ℕ) (size : ℕ) → HasTotals before.game (before.items ++ size ∷ []) loads → CanBeTaken before loads size
+can_be_taken before loads size h =
+    let b = bin_to_take before.game before.items loads size h in record { bin = b.bin; in_range = b.in_range; can = (b.held, b.before) }
 
 -- what is known after the items from a place on have their bins
 pub record IsWalkedBack (game : GameNumbers) (items left done : List ℕ) (i : ℕ) : Type 0 where
@@ -82,11 +45,10 @@ pub record IsWalkedBack (game : GameNumbers) (items left done : List ℕ) (i : �
   pub of_game : All (λ bin. bin < game.bins) done
   pub fits : (bin : ℕ) → bin < game.bins → get_or left bin 0 + bin_total bin (drop i items) done ≤ game.capacity
 
-pub IsWalkedBack-start : (game : GameNumbers) (items left : List ℕ) (i : ℕ) → i ≡ length items → IsReached game items left → IsWalkedBack game items left [] i
-IsWalkedBack-start game items left i e r =
+pub IsWalkedBack-start : (game : GameNumbers) (items left : List ℕ) (i : ℕ) → i ≡ length items → HasTotals game items left → IsWalkedBack game items left [] i
+IsWalkedBack-start game items left i e h =
     let whole : take i items ≡ items = take_all i items (omega (arith, e)) in
     let none : drop i items ≡ [] = drop_all i items (omega (arith, e)) in
-    let h = HasTotals-reached game items left r in
     record {
       undone = subst (λ xs. HasTotals game xs left) (sym whole) h;
       one_each = omega (arith, e);

@@ -15,24 +15,8 @@ use Rattle.loads.proofs.DescendingLemmas.{IsDescending-put, IsDescending-nil, Is
 use Rattle.loads.proofs.CountLemmas.{sum_by-put, equal_from_Same, Contains-Same}
 use Rattle.loads.proofs.LoadsLemmas.{Same-loads_after}
 use Rattle.reachable_loads.specs.Reached.{totals, AreLoadsOf, IsReached, ItemsSent, sent, IsReachOf, FitOffline, AnyOf, HasRoom, IsAfter, IsLeast}
-use Rattle.reachable_loads.proofs.AssignmentLemmas.{length-totals, get_or-totals, totals-push, IsAssignment-push, PutsLast, puts_last, IsAssignment-nil, totals-nil}
-
--- a list in descending order
-unfoldable descending_form : List ℕ → List ℕ
-descending_form [] = []
-descending_form (x ∷ xs) = put_descending x (descending_form xs)
-
-IsDescending-descending_form : (xs : List ℕ) → IsDescending (descending_form xs)
-unfolding descending_form
-IsDescending-descending_form [] = IsDescending-nil
-IsDescending-descending_form (x ∷ xs) = IsDescending-put x (descending_form xs) (IsDescending-descending_form xs)
-
-Same-descending_form : (xs : List ℕ) → Same xs (descending_form xs)
-unfolding descending_form
-Same-descending_form [] y = refl
-Same-descending_form (x ∷ xs) y =
-    let f : ℕ → ℕ = λ z. cond (eqb y z) 1 0 in
-    omega (arith, Same-descending_form xs y, count-sum_by y (put_descending x (descending_form xs)), count-sum_by y (descending_form xs), sum_by-put f x (descending_form xs))
+use Rattle.reach_planes.proofs.LoadLemmas.{descending_form, IsDescending-descending_form, Same-descending_form}
+use Rattle.reach_planes.proofs.AssignmentLemmas.{length-totals, get_or-totals, totals-push, IsAssignment-push, PutsLast, puts_last, IsAssignment-nil, totals-nil}
 
 -- an assignment has sorted loads
 AreLoadsOf-descending_form : (game : GameNumbers) (items bins : List ℕ) → IsAssignment game items bins → AreLoadsOf game items bins (descending_form (totals game items bins))
@@ -203,6 +187,10 @@ TellsRoom-more capacity room least loads whole rest members e least_of t size l 
       λ h. (t' size l).0 (⊎_elim (λ le. ⊎_elim (λ lt. inr (inl (least, least_of.member, omega arith))) (λ ge. inl (omega arith)) (cases_lt room size)) (λ a. inr (inr a)) h),
       λ a. ⊎_elim (λ le. inl (omega arith)) (λ o. ⊎_elim (λ here. let bound = All-contains (λ load. least ≤ load) loads here.0 least_of.bound here.1 in inl (omega (arith, here.2, bound))) (λ later. inr later) o) ((t' size l).1 a),
     )
+
+-- the sizes that may come next are those up to a room
+abbrev pub AreSizesThatFit : GameNumbers → List ℕ → ℕ → Type 0
+AreSizesThatFit game items room = (size : ℕ) → Packable game (items ++ size ∷ []) ↔ (1 ≤ size) × (size ≤ room)
 
 -- the room that was told is the room
 pub law_of_room : (game : GameNumbers) (items : List ℕ) (members : List (List ℕ)) (room : ℕ) → IsReachOf game items members → room ≤ game.capacity → TellsRoom game.capacity room [] members → (size : ℕ) → Packable game (items ++ size ∷ []) ↔ (1 ≤ size) × (size ≤ room)

@@ -1,2 +1,4 @@
 pub mod Reached
 pub mod Pack
+pub mod Kept
+pub mod Placing

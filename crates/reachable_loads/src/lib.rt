@@ -2,7 +2,9 @@
 #![tactic(auto)]
 
 mod packing;
+mod placing;
 mod reach;
+mod sets;
 
 pub use packing::pack;
 pub use reach::Reach;

@@ -4,12 +4,11 @@ ghost use Rattle.std.specs.Prelude.{◌≡◌, ℕ, ◌+◌, ◌-◌, ◌<◌, �
 ghost use Rattle.std.specs.Bool.{OnTrue, OnFalse};
 ghost use Rattle.items.specs.Multiset.{IsSize};
 ghost use Rattle.items.specs.Packable.{IsAssignment, IsPacking, Packable};
-ghost use Rattle.reachable_loads.specs.Reached.{HasTotals, IsReached};
+ghost use Rattle.reachable_loads.specs.Reached.{HasTotals};
 ghost use Rattle.reachable_loads.specs.Pack.{CanTakeOut, items_in, prefixes_of};
 
 use crate::reach::Reach;
 use items::{Game, Items, Nums};
-use loads::Loads;
 use packing_witness::Packing;
 use std::alloc::{AllocError, Global};
 
@@ -38,9 +37,9 @@ fn assign(alloc: Global, game: &Game, items: &[u16]) -> Result<Option<Vec<usize>
     ensures { IfOk result (λ found. MatchOption found (¬ Packable game.now items.now) (λ bins. IsAssignment game.now items.now bins.items)) }
 {
     let sets = prefixes(alloc, game, items)?;
-    match sets[items.len()].some_loads() {
+    match sets[items.len()].some_loads(alloc)? {
         Some(loads) => {
-            let bins = walk_back(alloc, game, &sets, items, loads)?;
+            let bins = walk_back(alloc, game, &sets, items, loads.as_slice())?;
             Ok(Some(bins))
         }
         None => Ok(None),
@@ -67,14 +66,14 @@ fn walk_back(
     game: &Game,
     sets: &Vec<Reach>,
     items: &[u16],
-    loads: &Loads,
+    loads: &[u16],
 ) -> Result<Vec<usize>, AllocError>
     requires sets { sets.now.items ≡ prefixes_of game.now items.now (length items.now) }
     requires sizes { All (IsSize game.now.capacity) items.now }
-    requires reached { IsReached game.now items.now loads.now }
+    requires reached { HasTotals game.now items.now loads.now }
     ensures { IfOk result (λ bins. IsAssignment game.now items.now bins.items) }
 {
-    let mut left = Vec::from_slice(alloc, loads.as_slice())?;
+    let mut left = Vec::from_slice(alloc, loads)?;
     let mut bins = Vec::new(alloc);
     for i in (0..items.len()).rev() {
         let bin = take_out_last(&sets[i], left.as_mut_slice(), items[i]);

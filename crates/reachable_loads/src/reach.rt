@@ -1,34 +1,40 @@
-//! The sorted loads of all assignments of a list of items.
+//! A list of items with the loads that its assignments reach.
 
-ghost use Rattle.std.specs.Prelude.{◌≡◌, ◌↔◌, ℕ, ◌+◌, ◌<◌, ◌≤◌, ◌⊎◌, List, [], ◌∷◌, ◌++◌, length, IsTrue, Contains, All, MatchOption, IfOk, OnOk};
+ghost use Rattle.std.specs.Prelude.{◌≡◌, ◌↔◌, ℕ, ◌+◌, ◌<◌, ◌≤◌, [], ◌∷◌, ◌++◌, length, IsTrue, All, MatchOption, IfOk};
 ghost use Rattle.items.specs.Packable.{Packable, IsRoom};
-ghost use Rattle.reachable_loads.specs.Reached.{FitOffline, HasTotals, IsAfter, IsLeast, IsReached, sent};
+ghost use Rattle.reachable_loads.specs.Reached.{HasTotals, sent};
 
+use crate::sets::Sets;
 use items::{Game, Nums};
-use loads::Loads;
+use reach_planes::Planes;
 use std::alloc::{AllocError, Global};
-use std::collections::BTreeSet;
 use std::marker::Model;
 
-/// A list of items of a game, with the sorted loads of all its assignments to the bins of the capacity.
+/// A list of items of a game, with the loads of all its assignments to the bins of the capacity.
 /// It answers what the rule of the game asks, that the items so far always fit offline (Böhm and Simon,
-/// "Discovering and certifying lower bounds for the online bin stretching problem"). Sizes and loads are
-/// whole numbers on the scale of the capacity. Clauses see the game and the list of items.
+/// "Discovering and certifying lower bounds for the online bin stretching problem"). The loads are kept as
+/// bits where the game has at most 1,048,576 lists of loads of all bins but one, else as a set of sorted
+/// loads. Sizes and loads are whole numbers on the scale of the capacity. Clauses see the game and the list
+/// of items.
 #[derive(Drop)]
 pub struct Reach {
-    game: Game,
-    items: Nums,
-    members: BTreeSet<Loads>,
+    loads: Kept,
+}
+
+// How the loads are kept.
+#[derive(Drop)]
+enum Kept {
+    Bits(Planes),
+    Lists(Sets),
 }
 
 impl Model for Reach {
-    ghost use Rattle.reachable_loads.specs.Reached.{ItemsSent, IsReachOf, sent};
+    ghost use Rattle.reachable_loads.specs.Kept.{items_of};
+    ghost use Rattle.reachable_loads.specs.Reached.{ItemsSent};
 
     ghost Value = { ItemsSent };
 
-    ghost view = { λ a. sent a.game a.items };
-
-    ghost invariant = { λ a. IsReachOf a.game a.items a.members.keys };
+    ghost view = { λ a. items_of a.loads };
 }
 
 impl Reach {
@@ -36,40 +42,36 @@ impl Reach {
     pub fn start(alloc: Global, game: &Game) -> Result<Reach, AllocError>
         ensures ok { IfOk result (λ made. made ≡ sent game.now []) }
     {
-        let mut members = BTreeSet::new(alloc);
-        members.insert(Loads::zero(alloc, game))?;
-        Ok(Reach {
-            game: *game,
-            items: Nums::new(alloc),
-            members,
-        })
+        let loads = if Planes::fits(game) {
+            Kept::Bits(Planes::start(alloc, game)?)
+        } else {
+            Kept::Lists(Sets::start(alloc, game)?)
+        };
+        Ok(Reach { loads })
     }
 
-    /// The list with one more item, of size `s`, at its end; the items may then fit no longer. The time is
-    /// near linear in the number of members, each of which is kept once. Fails only for want of memory.
+    /// The list with one more item, of size `s`, at its end; the items may then fit no longer. Copies the
+    /// bits once, or takes a time near linear in the number of sorted loads. Fails only for want of memory.
     pub fn add(&self, s: u16) -> Result<Reach, AllocError>
         requires low { 1 ≤ s }
         requires high { s ≤ self.now.game.capacity }
         ensures ok { IfOk result (λ more. more ≡ sent self.now.game (self.now.items ++ s ∷ [])) }
     {
-        let mut items = self.items.copy()?;
-        items.push(s)?;
-        let mut members = BTreeSet::new(self.items.allocator());
-        for loads in &self.members {
-            put_after(&mut members, &self.game, loads, s)?;
-        }
-        Ok(Reach {
-            game: self.game,
-            items,
-            members,
-        })
+        let loads = match &self.loads {
+            Kept::Bits(planes) => Kept::Bits(planes.add(s)?),
+            Kept::Lists(sets) => Kept::Lists(sets.add(s)?),
+        };
+        Ok(Reach { loads })
     }
 
     /// Whether the items fit: whether they have an assignment. Takes no memory.
     pub fn packable(&self) -> bool
         ensures exact { IsTrue result ↔ Packable self.now.game self.now.items }
     {
-        !self.members.is_empty()
+        match &self.loads {
+            Kept::Bits(planes) => packable_by_bits(planes),
+            Kept::Lists(sets) => sets.packable(),
+        }
     }
 
     /// The greatest size of an item that may come next, so that the items still fit; 0 where none may,
@@ -79,19 +81,20 @@ impl Reach {
         ensures law { (size : ℕ) → Packable self.now.game (self.now.items ++ size ∷ []) ↔ (1 ≤ size) × (size ≤ result) }
         ensures none { (Packable self.now.game self.now.items → ⊥) → result ≡ 0 }
     {
-        let capacity = self.game.g();
-        let mut room = 0u16;
-        for loads in &self.members {
-            room = room.max(capacity - least(loads));
+        match &self.loads {
+            Kept::Bits(planes) => room_by_bits(planes),
+            Kept::Lists(sets) => sets.room(),
         }
-        room
     }
 
-    // Some sorted loads of an assignment; None exactly where the items do not fit.
-    pub(crate) fn some_loads(&self) -> Option<&Loads>
-        ensures { MatchOption result (¬ Packable self.now.game self.now.items) (λ loads. IsReached self.now.game self.now.items loads.now) }
+    // The loads of some assignment; None exactly where the items do not fit.
+    pub(crate) fn some_loads(&self, alloc: Global) -> Result<Option<Nums>, AllocError>
+        ensures { IfOk result (λ found. MatchOption found (¬ Packable self.now.game self.now.items) (HasTotals self.now.game self.now.items)) }
     {
-        self.members.first()
+        match &self.loads {
+            Kept::Bits(planes) => planes.some_loads(),
+            Kept::Lists(sets) => loads_by_lists(alloc, sets),
+        }
     }
 
     // Whether some assignment of the items has these loads, whatever the bins' numbers.
@@ -100,37 +103,44 @@ impl Reach {
         requires fits { All (λ load. load ≤ self.now.game.capacity) loads.now }
         ensures { IsTrue result ↔ HasTotals self.now.game self.now.items loads.now }
     {
-        prove!(self.game.g() < self.game.t());
-        let member = Loads::sorted(self.items.allocator(), &self.game, loads);
-        self.members.contains(&member)
-    }
-}
-
-// Puts in the loads after an item, for each of the different loads that has room for it.
-fn put_after(
-    members: &mut BTreeSet<Loads>,
-    game: &Game,
-    loads: &Loads,
-    s: u16,
-) -> Result<(), AllocError>
-    requires of_game { FitOffline game.now loads.now }
-    requires size { s ≤ game.now.capacity }
-    ensures ok { OnOk result ((after : List ℕ) → Contains members.new.keys after ↔ (Contains members.old.keys after ⊎ IsAfter game.now.capacity s after loads.now)) }
-{
-    let capacity = game.g();
-    for i in 0..loads.distinct_count() {
-        let load = loads.distinct_at(i);
-        if load + s <= capacity {
-            members.insert(loads.place(game, load, s).unwrap())?;
+        match &self.loads {
+            Kept::Bits(planes) => planes.contains(loads),
+            Kept::Lists(sets) => sets.reaches(loads),
         }
     }
-    Ok(())
 }
 
-// The least of some loads.
-fn least(loads: &Loads) -> u16
-    requires { 0 < length loads.now }
-    ensures { IsLeast loads.now result }
+// Whether the items of some planes fit.
+fn packable_by_bits(planes: &Planes) -> bool
+    ensures { IsTrue result ↔ Packable planes.now.game planes.now.items }
 {
-    *loads.as_slice().last().unwrap()
+    match planes.least_load() {
+        Some(_) => true,
+        None => false,
+    }
+}
+
+// The room of the items of some planes: what the least load of any assignment leaves.
+fn room_by_bits(planes: &Planes) -> u16
+    ensures exact { IsRoom planes.now.game planes.now.items result }
+    ensures law { (size : ℕ) → Packable planes.now.game (planes.now.items ++ size ∷ []) ↔ (1 ≤ size) × (size ≤ result) }
+    ensures none { (Packable planes.now.game planes.now.items → ⊥) → result ≡ 0 }
+{
+    match planes.least_load() {
+        Some(least) => planes.game().g() - least,
+        None => 0,
+    }
+}
+
+// The loads of some assignment of the items of some sets.
+fn loads_by_lists(alloc: Global, sets: &Sets) -> Result<Option<Nums>, AllocError>
+    ensures { IfOk result (λ found. MatchOption found (¬ Packable sets.now.game sets.now.items) (HasTotals sets.now.game sets.now.items)) }
+{
+    match sets.some_loads() {
+        Some(loads) => {
+            let list = Nums::from_slice(alloc, loads.as_slice())?;
+            Ok(Some(list))
+        }
+        None => Ok(None),
+    }
 }

@@ -1,6 +1,7 @@
 use Rattle.std.proofs.Common.{◌≤◌, ◌∙◌, sym, ap, length, arith, subst}
 use Rattle.std.specs.Prelude.{All}
-use Rattle.reachable_loads.proofs.PackLemmas.{length-HasTotals, All-HasTotals, bin_to_take}
+use Rattle.reachable_loads.proofs.PackLemmas.{can_be_taken}
+use Rattle.reach_planes.proofs.TotalsLemmas.{length-HasTotals, All-HasTotals}
 use Rattle.reachable_loads.proofs.packing.take_out_last.Goals as goal
 
 pub takes_out-requires-clause-one_each : goal.takes_out-requires-clause-one_each
@@ -13,5 +14,5 @@ takes_out-requires-clause-fits c =
 
 pub unreachable-requires : goal.unreachable-requires
 unreachable-requires c =
-    let b = bin_to_take c.args.before.now c.args.left.now c.args.s c.requires in
+    let b = can_be_taken c.args.before.now c.args.left.now c.args.s c.requires in
     c.loop-bin.invariant.none b.bin (omega (arith, b.in_range, c.loop-bin-test.false)) b.can

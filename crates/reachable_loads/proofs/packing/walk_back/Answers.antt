@@ -10,7 +10,7 @@ pub loop-i-init : goal.loop-i-init
 loop-i-init c =
     let game = c.args.game.now in
     let items = c.args.items.now in
-    subst (λ xs. IsWalkedBack game items xs (reverse c.new-bins.result.items) (length items)) (sym (c.in_ok-left.ensures.items ∙ c.as_slice.ensures.value)) (subst (λ bins. IsWalkedBack game items c.args.loads.now (reverse bins) (length items)) (sym c.new-bins.ensures.items) (IsWalkedBack-start game items c.args.loads.now (length items) (omega arith) c.requires.reached))
+    subst (λ xs. IsWalkedBack game items xs (reverse c.new-bins.result.items) (length items)) (sym c.in_ok-left.ensures.items) (subst (λ bins. IsWalkedBack game items c.args.loads.now (reverse bins) (length items)) (sym c.new-bins.ensures.items) (IsWalkedBack-start game items c.args.loads.now (length items) (omega arith) c.requires.reached))
 
 pub index-requires : goal.index-requires
 index-requires c =

@@ -1,0 +1,4 @@
+pub mod Reached
+pub mod Planes
+pub mod Words
+pub mod Layout
