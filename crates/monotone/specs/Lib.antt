@@ -1,0 +1,5 @@
+pub mod Paths
+pub mod Passes
+pub mod Visits
+pub mod Positions
+pub mod Laws
