@@ -71,7 +71,7 @@ in_all_lists below (suc n) (x ∷ xs) e h =
     let first = in_range 0 below x (omega arith) (omega (arith, All-head (λ x. x < below) x xs h)) in
     Contains-flat_map (λ x. map (λ xs. x ∷ xs) (all_lists below n)) (range_with_len 0 below) x (x ∷ xs) first (Contains-map (λ xs. x ∷ xs) (all_lists below n) xs rest)
 
-abbrev is_size : ℕ → ℕ → Bool
+abbrev pub is_size : ℕ → ℕ → Bool
 is_size most size = leb 1 size && leb size most
 
 size_told : (most size : ℕ) → IsTrue (is_size most size) ↔ IsSize most size
@@ -80,7 +80,7 @@ size_told most size =
     (λ h. record { low = (t.0 h).0; high = (t.0 h).1 }, λ h. t.1 (h.low, h.high))
 
 -- whether these bins are an assignment of the items
-is_assignment : GameNumbers → List ℕ → List ℕ → Bool
+unfoldable pub is_assignment : GameNumbers → List ℕ → List ℕ → Bool
 is_assignment game items bins =
     (list_all (is_size game.capacity) items && eqb (length bins) (length items)) && (list_all (λ bin. leb (suc bin) game.bins) bins && list_all (λ bin. leb (bin_total bin items bins) game.capacity) (range_with_len 0 game.bins))
 
@@ -105,7 +105,7 @@ assignment_told game items bins =
     )
 
 -- whether some assignment exists
-pub is_packable : GameNumbers → List ℕ → Bool
+unfoldable pub is_packable : GameNumbers → List ℕ → Bool
 is_packable game items = list_any (is_assignment game items) (all_lists game.bins (length items))
 
 pub packable_told : (game : GameNumbers) (items : List ℕ) → IsTrue (is_packable game items) ↔ Packable game items
@@ -116,7 +116,7 @@ packable_told game items = (
 )
 
 -- whether a move is legal
-is_legal_move : GameNumbers → (List ℕ → ℕ → Bool) → Position → PathMove → Bool
+unfoldable pub is_legal_move : GameNumbers → (List ℕ → ℕ → Bool) → Position → PathMove → Bool
 is_legal_move game allowed position step =
     (allowed position.items step.item && is_packable game (position.items ++ step.item ∷ [])) && (list_any (λ load. eqb step.load load) position.loads && leb (suc (step.load + step.item)) game.target)
 
@@ -133,7 +133,7 @@ move_told game allowed position step =
     )
 
 -- whether each move of a path is legal
-pub is_legal_from : GameNumbers → (List ℕ → ℕ → Bool) → Position → List PathMove → Bool
+unfoldable pub is_legal_from : GameNumbers → (List ℕ → ℕ → Bool) → Position → List PathMove → Bool
 is_legal_from game allowed position [] = true
 is_legal_from game allowed position (step ∷ path) =
     is_legal_move game allowed position step && is_legal_from game allowed (after position step.load step.item) path

@@ -18,7 +18,7 @@ use Rattle.monotone.proofs.DecideLemmas.{both, any_found, any_told, is_legal_fro
 use Rattle.monotone.proofs.EnumerationLemmas.{paths_of, legal_in_paths_of}
 
 -- whether two lists, and two positions, are the same
-abbrev same_lists : List ℕ → List ℕ → Bool
+abbrev pub same_lists : List ℕ → List ℕ → Bool
 same_lists [] [] = true
 same_lists [] (y ∷ ys) = false
 same_lists (x ∷ xs) [] = false
@@ -32,7 +32,7 @@ lists_told (x ∷ xs) (y ∷ ys) =
     let t = both (eqb x y) (same_lists xs ys) (x ≡ y) (xs ≡ ys) (eqb-true x y, eq-eqb x y) (lists_told xs ys) in
     (λ h. let r = t.0 h in ap (λ z. z ∷ xs) r.0 ∙ ap (λ zs. y ∷ zs) r.1, λ e. t.1 (cc, cc))
 
-abbrev same_position : Position → Position → Bool
+abbrev pub same_position : Position → Position → Bool
 same_position p q = same_lists p.loads q.loads && same_lists p.items q.items
 
 abbrev position : List ℕ → List ℕ → Position
@@ -44,7 +44,7 @@ position_told p q =
     (λ h. let r = t.0 h in ap (λ loads. position loads p.items) r.0 ∙ ap (position q.loads) r.1, λ e. t.1 (ap (λ x. x.loads) e, ap (λ x. x.items) e))
 
 -- a list of positions with repeats taken out
-each_once : List Position → List Position
+unfoldable pub each_once : List Position → List Position
 each_once [] = []
 each_once (p ∷ ps) = cond (list_any (same_position p) ps) (each_once ps) (p ∷ each_once ps)
 
@@ -106,7 +106,7 @@ module _ (test : List PathMove → Bool) where
 
 -- the positions at which legal paths end, written out
 module _ (game : GameNumbers) (allowed : List ℕ → ℕ → Bool) where
-  legal_paths : List (List PathMove)
+  unfoldable pub legal_paths : List (List PathMove)
   legal_paths = filter (is_legal_from game allowed (start_of game)) (paths_of game)
 
   legal_path_there : (path : List PathMove) → IsLegalPath game allowed path → Contains legal_paths path
@@ -119,10 +119,10 @@ module _ (game : GameNumbers) (allowed : List ℕ → ℕ → Bool) where
   legal_if_there path c =
       (path_told game allowed (start_of game) path).0 (passed (is_legal_from game allowed (start_of game)) (paths_of game) path c)
 
-  ends : List Position
+  unfoldable pub ends : List Position
   ends = each_once (map (position_after (start_of game)) legal_paths)
 
-  AreEnds-ends : AreEnds game allowed ends
+  pub AreEnds-ends : AreEnds game allowed ends
   unfolding ends
   AreEnds-ends =
       let all = map (position_after (start_of game)) legal_paths in

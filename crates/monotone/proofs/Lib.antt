@@ -6,3 +6,4 @@ pub mod VisitLemmas
 pub mod PassLemmas
 pub mod DecideLemmas
 pub mod EndsLemmas
+pub mod SmallGame
