@@ -2,10 +2,26 @@
 
 ghost use Rattle.std.specs.Prelude.{◌≡◌, ◌==◌, ◌↔◌, IsTrue, ℕ, ◌+◌, List, [], ◌∷◌, ◌++◌, if◌then◌else◌, length, sum};
 ghost use Rattle.std.specs.List.Sorted.{IsNonDecreasing};
-ghost use Rattle.items.specs.Multiset.{Same, count, put_ascending};
+ghost use Rattle.items.specs.Game.{IsGame};
+ghost use Rattle.items.specs.Multiset.{IsMultiset, Same, count, put_ascending};
 
+use crate::game::Game;
 use crate::items::Items;
 use std::hash::Hash;
+
+/// The numbers of a game are within their ranges.
+pub fn game_is_legal(game: &Game)
+    ensures { IsGame game.now }
+{
+    let _bins = game.m();
+}
+
+/// Items are an ascending list of sizes, with a total within the limit.
+pub fn items_are_a_multiset(items: &Items)
+    ensures { IsMultiset 120 items.now }
+{
+    let _volume = items.volume();
+}
 
 /// Ascending lists with the same numbers, each as often, are equal.
 pub fn equal_from_counts()

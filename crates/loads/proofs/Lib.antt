@@ -2,3 +2,4 @@ pub mod DescendingLemmas
 pub mod CountLemmas
 pub mod DistinctLemmas
 pub mod LoadsLemmas
+pub mod PackedLemmas

@@ -5,13 +5,22 @@ use Rattle.std.proofs.lemmas.List.{get_or_default}
 use Rattle.std.specs.List.{sum_by}
 use Rattle.std.proofs.lemmas.List.Sums.{sum_by-set}
 use Rattle.std.proofs.lemmas.Bool.{leb-true, leb-false, le-leb, cases_Bool}
-use Rattle.items.specs.Game.{GameNumbers}
+use Rattle.std.proofs.lemmas.List.Elements.{All-weaker}
+use Rattle.items.specs.Game.{GameNumbers, IsGame}
 use Rattle.items.specs.Multiset.{count, Same}
 use Rattle.loads.specs.Descending.{IsDescending, put_descending, take_out}
-use Rattle.loads.specs.Loads.{IsLoads, IsLowestBin, loads_after}
+use Rattle.loads.specs.Loads.{AreLoads, IsLoads, IsLowestBin, loads_after}
 use Rattle.loads.proofs.DescendingLemmas.{IsDescending-tail, IsDescending-head, IsDescending-put, IsDescending-take_out, All-put, All-take_out, length-put, length-take_out, take_out-remove, put_descending-insert, unwrap_or-position}
 use Rattle.items.proofs.MultisetLemmas.{count-sum_by}
 use Rattle.loads.proofs.CountLemmas.{Contains-Same, sum_by-put, sum_by-take_out, equal_from_Same}
+
+-- loads of a game are loads of some game
+pub AreLoads-of_game : (game : GameNumbers) (loads : List ℕ) → IsGame game → IsLoads game loads → AreLoads loads
+AreLoads-of_game game loads g h = record {
+  few = omega (arith, h.one_each, g.bins.high);
+  descending = h.descending;
+  below = All-weaker (λ load. load < game.target) (λ load. load < 240) (λ load l. omega (arith, l, g.target.high, g.capacity.high)) loads h.below_target;
+}
 
 -- an item in a bin that stays below the target leaves loads of the game
 pub IsLoads-after : (game : GameNumbers) (loads : List ℕ) (load size : ℕ) → IsLoads game loads → Contains loads load → load + size < game.target → IsLoads game (loads_after loads load size)

@@ -1,3 +1,5 @@
 pub mod Descending
 pub mod Loads
+pub mod Position
+pub mod Packed
 pub mod After

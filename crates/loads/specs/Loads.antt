@@ -1,4 +1,4 @@
-use Rattle.std.specs.Prelude.{◌≡◌, ◌≢◌, ℕ, ◌+◌, ◌<◌, List, length, slice_index, All}
+use Rattle.std.specs.Prelude.{◌≡◌, ◌≢◌, ℕ, ◌+◌, ◌<◌, ◌≤◌, List, length, slice_index, All}
 use Rattle.items.specs.Game.{GameNumbers}
 use Rattle.loads.specs.Descending.{IsDescending, put_descending, take_out}
 
@@ -7,6 +7,12 @@ pub record IsLoads (game : GameNumbers) (loads : List ℕ) : Type 0 where
   pub one_each : length loads ≡ game.bins
   pub descending : IsDescending loads
   pub below_target : All (λ load. load < game.target) loads
+
+-- loads of some game: at most 8, descending, each below 240, which no target exceeds
+pub record AreLoads (loads : List ℕ) : Type 0 where
+  pub few : length loads ≤ 8
+  pub descending : IsDescending loads
+  pub below : All (λ load. load < 240) loads
 
 -- the loads after an item of this size went to one bin of this load
 abbrev pub loads_after : List ℕ → ℕ → ℕ → List ℕ

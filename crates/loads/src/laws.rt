@@ -3,11 +3,19 @@
 ghost use Rattle.std.specs.Prelude.{◌≡◌, ◌↔◌, ◌+◌, ◌<◌, ◌≤◌, ℕ, Contains, IsTrue, length, slice_index, slice_set, sum};
 ghost use Rattle.items.specs.Multiset.{Same};
 ghost use Rattle.loads.specs.Descending.{IsStrictlyDescending, distinct};
-ghost use Rattle.loads.specs.Loads.{loads_after};
+ghost use Rattle.loads.specs.Loads.{AreLoads, loads_after};
 
+use crate::packed::PackedPosition;
 use crate::position::Position;
 use crate::sorted_loads::Loads;
 use std::hash::Hash;
+
+/// Loads are at most 8, descending, each below 240.
+pub fn loads_are_of_some_game(loads: &Loads)
+    ensures { AreLoads loads.now }
+{
+    let _loads = loads.as_slice();
+}
 
 /// Two values of loads are equal exactly where they are the same multiset.
 pub fn loads_are_their_multiset(first: &Loads, second: &Loads)
@@ -59,4 +67,11 @@ pub fn equality_of_loads_is_exact(first: &Loads, second: &Loads)
 pub fn equality_of_positions_is_exact(first: &Position, second: &Position)
     ensures exact { IsTrue (⟦<Position as PartialEq>⟧.eq first.now second.now) ↔ (first.now ≡ second.now) }
     ensures hash { IsTrue (⟦<Position as PartialEq>⟧.eq first.now second.now) → ⟦<Position as Hash>⟧.hash_input first.now ≡ ⟦<Position as Hash>⟧.hash_input second.now }
+{}
+
+/// The comparison of packed positions says that they are equal exactly where both loads and items are, and
+/// equal ones hash alike.
+pub fn equality_of_packed_positions_is_exact(first: &PackedPosition, second: &PackedPosition)
+    ensures exact { IsTrue (⟦<PackedPosition as PartialEq>⟧.eq first.now second.now) ↔ (first.now ≡ second.now) }
+    ensures hash { IsTrue (⟦<PackedPosition as PartialEq>⟧.eq first.now second.now) → ⟦<PackedPosition as Hash>⟧.hash_input first.now ≡ ⟦<PackedPosition as Hash>⟧.hash_input second.now }
 {}

@@ -2,11 +2,18 @@
 #![tactic(auto)]
 
 mod bins;
+mod bytes;
+mod earlier;
 pub mod laws;
+mod packed;
+mod packed_list;
 mod position;
 mod sorted_loads;
 
 pub use bins::{bin_with, same_up_to_renaming};
+pub use earlier::EarlierPositions;
+pub use packed::PackedPosition;
+pub use packed_list::PackedPositions;
 pub use position::{Position, Positions};
 pub use sorted_loads::Loads;
 

@@ -130,3 +130,35 @@ fn equal_positions_are_one_key(rt: HostRuntime) -> Result<(), Fail> {
     assert!(rt; !seen.contains(&other_items));
     Ok(())
 }
+
+#[test]
+fn packed_positions_come_back_whole(rt: HostRuntime) -> Result<(), Fail> {
+    let game = Game::new(8, 120, 240)?;
+    let mut many = [1u16; 60];
+    many[59] = 120;
+    let cases = [
+        ([0u16; 8].as_slice(), [].as_slice()),
+        (
+            [239, 120, 120, 7, 1, 0, 0, 0].as_slice(),
+            [1, 2, 2, 119, 120].as_slice(),
+        ),
+        ([120, 60, 0, 0, 0, 0, 0, 0].as_slice(), many.as_slice()),
+    ];
+    let mut list = PackedPositions::new(rt.alloc());
+    for (i, (loads, items)) in cases.iter().enumerate() {
+        let loads = Loads::from_slice(rt.alloc(), &game, loads).ok_or("loads refused")?;
+        let items = Items::from_slice(&game, items).ok_or("items refused")?;
+        let packed = PackedPosition::of(rt.alloc(), &loads, &items)?;
+        assert!(rt;
+            packed.loads().same(&loads) && packed.items().same(&items) && packed.is(&loads, &items)
+        );
+        assert!(rt; packed.copy()? == packed);
+        assert!(rt; !list.is_at(i, &loads, &items));
+        list.push(&loads, &items)?;
+        assert!(rt; list.is_at(i, &loads, &items) && list.count() == i + 1);
+        assert!(rt; !list.is_at(i, &loads, &items.add(1)));
+        assert!(rt; list.get(i).ok_or("no position")? == packed.position());
+    }
+    assert!(rt; list.get(3).is_none());
+    Ok(())
+}

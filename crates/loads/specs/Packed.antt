@@ -1,0 +1,45 @@
+-- Serves private contracts: how packed positions lie in memory.
+use Rattle.std.specs.Prelude.{◌≡◌, ◌==◌, ◌&&◌, Bool, ℕ, ◌≤◌, List, [], ◌∷◌, ◌++◌, All, length, map, take, drop, slice_range}
+use Rattle.std.specs.Cmp.Lexicographic.{pointwise}
+use Rattle.items.specs.Multiset.{IsMultiset}
+use Rattle.loads.specs.Loads.{AreLoads}
+use Rattle.loads.specs.Position.{position}
+use Rattle.loads.specs.declared.position.Position.{Position}
+
+-- the bytes in which a position is kept: how many loads there are, the loads, and the items
+abbrev pub bytes_of : Position → List ℕ
+bytes_of position = length position.loads ∷ position.loads ++ position.items
+
+-- the position that bytes stand for
+abbrev pub position_in : List ℕ → Position
+position_in [] = position [] []
+position_in (bins ∷ bytes) = position (take bins bytes) (drop bins bytes)
+
+-- the bytes of a position
+pub record ArePositionBytes (bytes : List ℕ) : Type 0 where
+  pub kept : bytes_of (position_in bytes) ≡ bytes
+  pub loads : AreLoads (position_in bytes).loads
+  pub items : IsMultiset 120 (position_in bytes).items
+
+-- whether two positions have the same loads and the same items
+abbrev pub are_equal : Position → Position → Bool
+are_equal first second = pointwise ◌==◌ first.loads second.loads && pointwise ◌==◌ first.items second.items
+
+-- the pieces of a list of bytes that end at these places, the first from a given place on
+abbrev pub pieces : List ℕ → ℕ → List ℕ → List (List ℕ)
+pieces bytes start [] = []
+pieces bytes start (end ∷ ends) = slice_range bytes start end ∷ pieces bytes end ends
+
+-- the ends do not descend, and lead from the start to the total
+abbrev pub LeadTo : ℕ → List ℕ → ℕ → Type 0
+LeadTo start [] total = start ≡ total
+LeadTo start (end ∷ ends) total = (start ≤ end) × LeadTo end ends total
+
+-- bytes that are cut into the bytes of positions
+pub record AreCut (bytes ends : List ℕ) : Type 0 where
+  pub lead : LeadTo 0 ends (length bytes)
+  pub positions : All ArePositionBytes (pieces bytes 0 ends)
+
+-- the positions whose bytes stand one after another
+abbrev pub positions_in : List ℕ → List ℕ → List Position
+positions_in bytes ends = map position_in (pieces bytes 0 ends)

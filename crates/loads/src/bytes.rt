@@ -1,0 +1,122 @@
+//! Positions in bytes: the number of the loads, the loads, and the items in ascending order.
+
+ghost use Rattle.std.specs.Prelude.{◌≡◌, ◌↔◌, ◌++◌, IsTrue, IfOk, OnOk, replicate};
+ghost use Rattle.items.specs.Multiset.{IsMultiset};
+ghost use Rattle.loads.specs.Loads.{AreLoads};
+ghost use Rattle.loads.specs.Position.{position};
+ghost use Rattle.loads.specs.Packed.{ArePositionBytes, position_in};
+
+use crate::position::Position;
+use crate::sorted_loads::Loads;
+use items::Items;
+use items::laws::items_are_a_multiset;
+use smallvec::SmallVec;
+use std::alloc::{AllocError, Global};
+
+/// The bytes of one position; most are at most 24, and lie inline.
+pub(crate) type Bytes = SmallVec<u8, 24>;
+
+/// The bytes of the position of these loads and items.
+pub(crate) fn pack(alloc: Global, loads: &Loads, items: &Items) -> Result<Bytes, AllocError>
+    ensures value { IfOk result (λ bytes. position_in bytes.items ≡ position loads.now items.now) }
+    ensures legal { IfOk result (λ bytes. ArePositionBytes bytes.items) }
+{
+    items_are_a_multiset(items);
+    let loads = loads.as_slice();
+    let mut bytes = SmallVec::new(alloc);
+    bytes.push(loads.len() as u8)?;
+    push_loads(&mut bytes, loads)?;
+    push_items(&mut bytes, items)?;
+    Ok(bytes)
+}
+
+// Puts loads at the end.
+fn push_loads(bytes: &mut Bytes, loads: &[u16]) -> Result<(), AllocError>
+    requires { AreLoads loads.now }
+    ensures { OnOk result (bytes.new.items ≡ bytes.old.items ++ loads.now) }
+{
+    for load in loads {
+        bytes.push(*load as u8)?;
+    }
+    Ok(())
+}
+
+// Puts items at the end, in ascending order.
+fn push_items(bytes: &mut Bytes, items: &Items) -> Result<(), AllocError>
+    ensures { OnOk result (bytes.new.items ≡ bytes.old.items ++ items.now) }
+{
+    for i in 0..items.largest() {
+        push_times(bytes, i as u8 + 1, items.count_of(i + 1))?;
+    }
+    Ok(())
+}
+
+// Puts a size at the end, `n` times.
+fn push_times(bytes: &mut Bytes, size: u8, n: u16) -> Result<(), AllocError>
+    ensures { OnOk result (bytes.new.items ≡ bytes.old.items ++ replicate n size) }
+{
+    for _i in 0..n {
+        bytes.push(size)?;
+    }
+    Ok(())
+}
+
+/// The loads and the items of a position's bytes.
+pub(crate) fn parts(bytes: &[u8]) -> (&[u8], &[u8])
+    requires { ArePositionBytes bytes.now }
+    ensures loads { result.0.now ≡ (position_in bytes.now).loads }
+    ensures items { result.1.now ≡ (position_in bytes.now).items }
+{
+    let [bins, rest @ ..] = bytes else {
+        return (bytes, bytes);
+    };
+    rest.split_at(usize::from(*bins))
+}
+
+/// The items of these sizes.
+pub(crate) fn items_of(sizes: &[u8]) -> Items
+    requires { IsMultiset 120 sizes.now }
+    ensures { result ≡ sizes.now }
+{
+    let mut items = Items::empty();
+    for size in sizes {
+        items.put(u16::from(*size));
+    }
+    items
+}
+
+/// The position of these bytes.
+pub(crate) fn position_of(alloc: Global, bytes: &[u8]) -> Position
+    requires { ArePositionBytes bytes.now }
+    ensures { result ≡ position_in bytes.now }
+{
+    let (load_bytes, sizes) = parts(bytes);
+    Position {
+        loads: Loads::from_bytes(alloc, load_bytes),
+        items: items_of(sizes),
+    }
+}
+
+/// Whether the bytes are those of the position of these loads and items.
+pub(crate) fn stand_for(bytes: &[u8], loads: &Loads, items: &Items) -> bool
+    requires { ArePositionBytes bytes.now }
+    ensures { IsTrue result ↔ (position_in bytes.now ≡ position loads.now items.now) }
+{
+    let (load_bytes, sizes) = parts(bytes);
+    are_same(load_bytes, loads.as_slice()) && items_of(sizes).same(items)
+}
+
+// Whether the bytes are these numbers.
+fn are_same(bytes: &[u8], numbers: &[u16]) -> bool
+    ensures { IsTrue result ↔ (bytes.now ≡ numbers.now) }
+{
+    if bytes.len() != numbers.len() {
+        return false;
+    }
+    for (i, byte) in bytes.iter().enumerate() {
+        if u16::from(*byte) != numbers[i] {
+            return false;
+        }
+    }
+    true
+}

@@ -1,0 +1,39 @@
+//! Lists that say which position an earlier node has.
+
+ghost use Rattle.std.specs.Prelude.{◌≡◌, ◌↔◌, List, IsTrue, length};
+ghost use Rattle.loads.specs.declared.position.Position.{Position};
+ghost use Rattle.loads.specs.Position.{position, StandsAt};
+
+use crate::position::Positions;
+use crate::sorted_loads::Loads;
+use items::Items;
+
+/// The positions of the earlier nodes of a strategy, by the nodes' numbers, counted from 0.
+pub trait EarlierPositions {
+    // The positions in the order of the nodes' numbers.
+    ghost positions: { Self → List Position };
+
+    /// How many positions there are.
+    fn count(&self) -> usize
+        ensures { result ≡ length (positions self.now) };
+
+    /// Whether there is a position of this number and it has these loads and items. Takes no memory; the cost is
+    /// linear in the position.
+    fn is_at(&self, i: usize, loads: &Loads, items: &Items) -> bool
+        ensures { IsTrue result ↔ StandsAt (positions self.now) i (position loads.now items.now) };
+}
+
+impl EarlierPositions for Positions {
+    ghost positions = { λ a. a };
+
+    fn count(&self) -> usize {
+        self.len()
+    }
+
+    fn is_at(&self, i: usize, loads: &Loads, items: &Items) -> bool {
+        match self.get(i) {
+            Some(position) => position.loads.same(loads) && position.items.same(items),
+            None => false,
+        }
+    }
+}
