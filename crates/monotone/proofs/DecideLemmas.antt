@@ -42,8 +42,7 @@ module _ {X : Type 0} (test : X → Bool) (P : X → Type 0) (told : (x : X) →
   pub all_told : (xs : List X) → IsTrue (list_all test xs) ↔ All P xs
   all_told [] = (λ h. All-nil P, λ h. refl)
   all_told (x ∷ xs) =
-      let t = both_true (test x) (list_all test xs) in
-      (
+      let t = both_true (test x) (list_all test xs) in (
         λ h. All-cons P x xs ((told x).0 (t.0 h).0) ((all_told xs).0 (t.0 h).1),
         λ h. t.1 ((told x).1 (All-head P x xs h), (all_told xs).1 (All-tail P x xs h)),
       )
@@ -93,8 +92,7 @@ assignment_told game items bins =
     let fits = all_told (λ bin. leb (bin_total bin items bins) game.capacity) (λ bin. bin_total bin items bins ≤ game.capacity) (λ bin. le_told (bin_total bin items bins) game.capacity) (range_with_len 0 game.bins) in
     let one = both _ _ _ _ sizes lengths in
     let other = both _ _ _ _ below fits in
-    let t = both _ _ _ _ one other in
-    (
+    let t = both _ _ _ _ one other in (
       λ h. let r = t.0 h in record {
         item_list = r.0.0;
         one_each = r.0.1;
@@ -126,8 +124,7 @@ move_told game allowed position step =
     let one = both (allowed position.items step.item) (is_packable game (position.items ++ step.item ∷ [])) (IsTrue (allowed position.items step.item)) (Packable game (position.items ++ step.item ∷ [])) (λ h. h, λ h. h) (packable_told game (position.items ++ step.item ∷ [])) in
     let load : IsTrue (list_any (λ load. eqb step.load load) position.loads) ↔ Contains position.loads step.load = (listed-Contains step.load position.loads, Contains-listed step.load position.loads) in
     let other = both _ _ _ _ load (le_told (suc (step.load + step.item)) game.target) in
-    let t = both _ _ _ _ one other in
-    (
+    let t = both _ _ _ _ one other in (
       λ h. let r = t.0 h in record { allowed_size = r.0.0; packable = r.0.1; has_load = r.1.0; below_target = r.1.1 },
       λ h. t.1 ((h.allowed_size, h.packable), (h.has_load, h.below_target)),
     )

@@ -165,7 +165,7 @@ last_pass_has_most game pass number all below (ends, h, e) most =
     let last = game.capacity - 1 in
     let more = legal_in_more game (allowed_in sizes pass) (allowed_in sizes last) (λ items size. allowed_later sizes items pass last size (omega (arith, below))) (start_of game) in
     let each : All (IsEnd game (allowed_in sizes last)) ends = λ k d l.
-        let is = (h.exact (get_or ends k d)).0 (Contains-get_or ends k d l) in
-        (is.0, more is.0 is.1, is.2) in
+    let is = (h.exact (get_or ends k d)).0 (Contains-get_or ends k d l) in
+    (is.0, more is.0 is.1, is.2) in
     let few = ends_are_no_more game (allowed_in sizes last) all ends most each h.once in
     omega (arith, few, e)

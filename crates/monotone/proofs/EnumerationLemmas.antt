@@ -33,7 +33,7 @@ length-paths_within (suc left) grown loads =
     let n = (length loads + 1) ^ left in
     let to = λ (load : ℕ). map (λ path. moved (suc grown) load ∷ path) (paths_within left 0 (loads_after loads load (suc grown))) in
     let each : (load : ℕ) → Contains loads load → length (to load) ≡ n = λ load member.
-        length-map (paths_within left 0 (loads_after loads load (suc grown))) (λ path. moved (suc grown) load ∷ path) ∙ length-paths_within left 0 (loads_after loads load (suc grown)) ∙ ap (λ k. (k + 1) ^ left) (length-loads_after loads load (suc grown) member) in
+    length-map (paths_within left 0 (loads_after loads load (suc grown))) (λ path. moved (suc grown) load ∷ path) ∙ length-paths_within left 0 (loads_after loads load (suc grown)) ∙ ap (λ k. (k + 1) ^ left) (length-loads_after loads load (suc grown) member) in
     let joined : length (flat_map to loads) ≡ length loads * n = length-flat_map-same to n loads each in
     length-append (paths_within left (suc grown) loads) (flat_map to loads) ∙ ap (λ k. k + length (flat_map to loads)) (length-paths_within left (suc grown) loads) ∙ ap (λ k. n + k) joined ∙ one_more_level n (length loads) ∙ sym (pow-succ' (length loads + 1) left)
 

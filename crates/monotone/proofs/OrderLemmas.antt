@@ -90,8 +90,7 @@ IsDecidedFrom i first second = ComesBefore first second ↔ ComesBefore (drop i 
 pub decided_at_end : (i : ℕ) (first second : List PathMove) → length first ≤ i → i ≤ length first → IsDecidedFrom i first second → ComesBefore first second ↔ (length first < length second)
 decided_at_end i first second l m h =
     let gone : drop i first ≡ [] = drop_of_length-le first l in
-    let e = decided_by_end (drop i second) in
-    (
+    let e = decided_by_end (drop i second) in (
       λ k. let rest : 0 < length (drop i second) = e.0 (subst (λ xs. ComesBefore xs (drop i second)) gone (h.0 k)) in omega (arith, length-drop i second, rest),
       λ k. h.1 (subst (λ xs. ComesBefore xs (drop i second)) (sym gone) (e.1 (omega (arith, length-drop i second, k)))),
     )
@@ -105,8 +104,7 @@ pub decided_at_moves : (i : ℕ) (first second : List PathMove) (d : PathMove) �
 decided_at_moves i first second d l m apart h =
     let e = drop-cons first i d l in
     let f = drop-cons second i d m in
-    let by_moves = decided_by_moves (get_or first i d) (get_or second i d) (drop (suc i) first) (drop (suc i) second) apart in
-    (
+    let by_moves = decided_by_moves (get_or first i d) (get_or second i d) (drop (suc i) first) (drop (suc i) second) apart in (
       λ k. by_moves.0 (subst (λ ys. ComesBefore (get_or first i d ∷ drop (suc i) first) ys) f (subst (λ xs. ComesBefore xs (drop i second)) e (h.0 k))),
       λ k. h.1 (subst (λ xs. ComesBefore xs (drop i second)) (sym e) (subst (λ ys. ComesBefore (get_or first i d ∷ drop (suc i) first) ys) (sym f) (by_moves.1 k))),
     )
@@ -115,8 +113,7 @@ pub decided_from_next : (i : ℕ) (first second : List PathMove) (d : PathMove) 
 decided_from_next i first second d l m same h =
     let e : drop i first ≡ get_or first i d ∷ drop (i + 1) first = rw add-one (drop-cons first i d l) in
     let f : drop i second ≡ get_or second i d ∷ drop (i + 1) second = rw add-one (drop-cons second i d m) in
-    let by_rest = decided_by_rest (get_or first i d) (get_or second i d) (drop (i + 1) first) (drop (i + 1) second) same in
-    (
+    let by_rest = decided_by_rest (get_or first i d) (get_or second i d) (drop (i + 1) first) (drop (i + 1) second) same in (
       λ k. by_rest.0 (subst (λ ys. ComesBefore (get_or first i d ∷ drop (i + 1) first) ys) f (subst (λ xs. ComesBefore xs (drop i second)) e (h.0 k))),
       λ k. h.1 (subst (λ xs. ComesBefore xs (drop i second)) (sym e) (subst (λ ys. ComesBefore (get_or first i d ∷ drop (i + 1) first) ys) (sym f) (by_rest.1 k))),
     )

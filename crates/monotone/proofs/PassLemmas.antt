@@ -22,8 +22,7 @@ Contains-listed size sizes h = list_any-from_Contains {eq = eqb} nat_eq_equiv si
 -- a pass allows exactly those of the sizes that, with its number, are at least the largest item
 pub allowed_in-exact : (sizes items : List ℕ) (pass size : ℕ) → IsTrue (allowed_in sizes pass items size) ↔ (Contains sizes size × (largest_of items ≤ size + pass))
 allowed_in-exact sizes items pass size =
-    let both = both_true (list_any (λ one. eqb size one) sizes) (leb (largest_of items) (size + pass)) in
-    (
+    let both = both_true (list_any (λ one. eqb size one) sizes) (leb (largest_of items) (size + pass)) in (
       λ h. (listed-Contains size sizes (both.0 h).0, leb-true _ _ (both.0 h).1),
       λ h. both.1 (Contains-listed size sizes h.0, le-leb _ _ h.1),
     )

@@ -44,12 +44,15 @@ sum-position_after start (s ∷ path) =
     omega (arith, sum-position_after (after start s.load s.item) path, sum-put_ascending s.item start.items)
 
 pub Packable-nil : (game : GameNumbers) → Packable game []
-Packable-nil game = ([], record {
-  item_list = All-nil (IsSize game.capacity);
-  one_each = refl;
-  of_game = All-nil (λ bin. bin < game.bins);
-  fits = λ bin within. omega arith;
-})
+Packable-nil game = (
+  [],
+  record {
+    item_list = All-nil (IsSize game.capacity);
+    one_each = refl;
+    of_game = All-nil (λ bin. bin < game.bins);
+    fits = λ bin within. omega arith;
+  },
+)
 
 module _ (game : GameNumbers) (allowed : List ℕ → ℕ → Bool) where
   pub volume-le-bins : (path : List PathMove) → IsLegalPath game allowed path → volume_of path ≤ game.bins * game.capacity

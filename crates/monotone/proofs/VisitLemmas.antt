@@ -72,28 +72,37 @@ all_before_next space meter next visits h later =
     all_before visits next h.in_order (subst (λ o. IfSome o (λ last. IsEarlierVisit last next)) (sym h.last) later)
 
 pub CountsVisits-unused : (space : SearchSpace) (budget : ℕ) → CountsVisits space (unused space.game budget)
-CountsVisits-unused space budget = ([], record {
-  length_is = refl;
-  visits_of = All-nil (IsVisit space);
-  in_order = λ i j d l m. absurd (omega (arith, m));
-  last = refl;
-})
+CountsVisits-unused space budget = (
+  [],
+  record {
+    length_is = refl;
+    visits_of = All-nil (IsVisit space);
+    in_order = λ i j d l m. absurd (omega (arith, m));
+    last = refl;
+  },
+)
 
 pub CountsVisits-counted : (space : SearchSpace) (meter : Metered) (next : Visit) → CountsVisits space meter → IsVisit space next → IsLater meter next → CountsVisits space (counted meter next)
-CountsVisits-counted space meter next (visits, h) is later = (visits ++ next ∷ [], record {
-  length_is = length_push visits next ∙ ap (λ n. n + 1) h.length_is;
-  visits_of = All-push (IsVisit space) visits next h.visits_of is;
-  in_order = all_pairs_push IsEarlierVisit visits next h.in_order (all_before_next space meter next visits h later);
-  last = last_pushed visits next;
-})
+CountsVisits-counted space meter next (visits, h) is later = (
+  visits ++ next ∷ [],
+  record {
+    length_is = length_push visits next ∙ ap (λ n. n + 1) h.length_is;
+    visits_of = All-push (IsVisit space) visits next h.visits_of is;
+    in_order = all_pairs_push IsEarlierVisit visits next h.in_order (all_before_next space meter next visits h later);
+    last = last_pushed visits next;
+  },
+)
 
 pub visits_before : (space : SearchSpace) (meter : Metered) (next : Visit) → CountsVisits space meter → IsLater meter next → HasVisitsBefore space meter.count next
-visits_before space meter next (visits, h) later = (visits, record {
-  length_is = h.length_is;
-  visits_of = h.visits_of;
-  in_order = h.in_order;
-  before = all_before_next space meter next visits h later;
-})
+visits_before space meter next (visits, h) later = (
+  visits,
+  record {
+    length_is = h.length_is;
+    visits_of = h.visits_of;
+    in_order = h.in_order;
+    before = all_before_next space meter next visits h later;
+  },
+)
 
 -- visits in order are different
 once_in_order : (visits : List Visit) → AllPairs IsEarlierVisit visits → AllPairs ◌≢◌ visits

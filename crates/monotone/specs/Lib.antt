@@ -3,3 +3,4 @@ pub mod Passes
 pub mod Visits
 pub mod Positions
 pub mod Laws
+pub mod SmallGame

@@ -29,7 +29,8 @@ position_after position [] = position
 position_after position (step ∷ path) = position_after (after position step.load step.item) path
 
 -- a move that a test of items and sizes allows, that keeps the items packable and stays below the target
-pub record IsLegalMove (game : GameNumbers) (allowed : List ℕ → ℕ → Bool) (position : Position) (step : PathMove) : Type 0 where
+pub record IsLegalMove (game : GameNumbers) (allowed : List ℕ → ℕ → Bool) (position : Position)
+    (step : PathMove) : Type 0 where
   pub allowed_size : IsTrue (allowed position.items step.item)
   pub packable : Packable game (position.items ++ step.item ∷ [])
   pub has_load : Contains position.loads step.load

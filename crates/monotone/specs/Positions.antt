@@ -18,7 +18,8 @@ pub record AreEnds (game : GameNumbers) (allowed : List ℕ → ℕ → Bool) (p
 
 -- at how many positions legal paths end
 abbrev pub CountsEnds : GameNumbers → (List ℕ → ℕ → Bool) → ℕ → Type 0
-CountsEnds game allowed number = (positions : List Position) × AreEnds game allowed positions × (length positions ≡ number)
+CountsEnds game allowed number = (positions : List Position) × AreEnds game allowed positions
+    × (length positions ≡ number)
 
 -- at how many positions the legal paths of a pass of the whole game end
 abbrev pub CountsEndsOfPass : GameNumbers → ℕ → ℕ → Type 0

@@ -1,4 +1,5 @@
-use Rattle.std.specs.Prelude.{◌≡◌, ℕ, ◌-◌, ◌+◌, ◌*◌, ◌^◌, ◌<◌, ◌≤◌, ◌⊎◌, Option, Some, None, IfSome, List, length, slice_get, All, AllPairs}
+use Rattle.std.specs.Prelude.{◌≡◌, ℕ, ◌-◌, ◌+◌, ◌*◌, ◌^◌, ◌<◌, ◌≤◌, ◌⊎◌, Option, Some, None, IfSome, List, length}
+use Rattle.std.specs.Prelude.{slice_get, All, AllPairs}
 use Rattle.items.specs.Game.{GameNumbers}
 use Rattle.monotone.specs.declared.path.PathMove.{PathMove}
 use Rattle.monotone.specs.Paths.{ComesBefore, IsLegalPath}
@@ -20,7 +21,8 @@ pub record IsVisit (space : SearchSpace) (visited : Visit) : Type 0 where
 
 -- the visits of an earlier pass come first, and within a pass those of an earlier path
 abbrev pub IsEarlierVisit : Visit → Visit → Type 0
-IsEarlierVisit first second = (first.pass < second.pass) ⊎ ((first.pass ≡ second.pass) × ComesBefore first.path second.path)
+IsEarlierVisit first second =
+    (first.pass < second.pass) ⊎ ((first.pass ≡ second.pass) × ComesBefore first.path second.path)
 
 -- what a meter holds: its game, how many visits it allows, how many it counted, and the last of them
 pub record Metered : Type 0 where

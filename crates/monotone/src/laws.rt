@@ -5,7 +5,8 @@ ghost use Rattle.monotone.specs.Laws.{NoPathBeforeItself, EarlierPathsCompose, A
 ghost use Rattle.monotone.specs.Laws.{LegalPathsGrowByLegalMoves, OneMoreMove, LegalPathsAreShort};
 ghost use Rattle.monotone.specs.Laws.{NoVisitBeforeItself, EarlierVisitsCompose, VisitsAreBounded};
 ghost use Rattle.monotone.specs.Laws.{UnusedMeterCounts, MeterGoesOnCounting, CountIsAtMostTheRank};
-ghost use Rattle.monotone.specs.Laws.{CountedVisitsComeBefore, CountStaysBelowTheBound};
+ghost use Rattle.monotone.specs.Laws.{CountedVisitsComeBefore, FewerComeBefore};
+ghost use Rattle.monotone.specs.SmallGame.{SmallGameHasTenEnds};
 ghost use Rattle.monotone.specs.Laws.{EndsAreCounted, OneNumberOfEnds, EndsAreNoMore, LastPassHasMostEnds};
 
 /// A pass allows exactly the listed sizes that, with its number, are at least the largest item; a later pass allows
@@ -45,14 +46,14 @@ pub fn visits_are_bounded()
     ensures bounded { VisitsAreBounded }
 {}
 
-/// A meter whose visits are all legal counts at most as many as there are up to and with the last, and fewer than
-/// there are at most while a further one is due.
+/// A meter whose visits are all of one space counts at most as many as there are up to and with the last; so many
+/// come before each later one, and these are fewer than there are at most.
 pub fn meters_count_visits()
     ensures unused { UnusedMeterCounts }
     ensures counted { MeterGoesOnCounting }
     ensures rank { CountIsAtMostTheRank }
     ensures before { CountedVisitsComeBefore }
-    ensures bound { CountStaysBelowTheBound }
+    ensures bound { FewerComeBefore }
 {}
 
 /// The number of positions at which legal paths end exists and is one number; no pass has more than the last.
@@ -61,4 +62,9 @@ pub fn ends_are_counted()
     ensures unique { OneNumberOfEnds }
     ensures most { EndsAreNoMore }
     ensures last { LastPassHasMostEnds }
+{}
+
+/// In the game of 2 bins of capacity 2 with target 3 the legal paths of the last pass end at ten positions.
+pub fn a_small_game_has_ten_ends()
+    ensures { SmallGameHasTenEnds }
 {}

@@ -9,3 +9,6 @@ mod path;
 pub use meter::{Meter, VisitFault};
 pub use pass::allows;
 pub use path::{Path, PathMove};
+
+#[cfg(test)]
+mod tests;

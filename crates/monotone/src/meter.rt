@@ -47,10 +47,10 @@ impl Model for Meter {
     ghost Value = { Metered };
 
     ghost view = { λ a. record {
-        game = a.game;
-        budget = a.budget;
-        count = a.count;
-        last = (if a.count == 0 then None else Some (visit a.pass a.path));
+      game = a.game;
+      budget = a.budget;
+      count = a.count;
+      last = (if a.count == 0 then None else Some (visit a.pass a.path));
     } };
 
     ghost invariant = { λ a. a.count ≤ a.budget };

@@ -122,7 +122,8 @@ impl Path {
         ensures err { OnErr result (self.new ≡ self.old) }
     {
         let moves = other.moves.as_slice();
-        self.moves.reserve(moves.len().saturating_sub(self.moves.len()))?;
+        self.moves
+            .reserve(moves.len().saturating_sub(self.moves.len()))?;
         self.moves.clear();
         self.moves.extend_from_slice(moves).unwrap();
         Ok(())
