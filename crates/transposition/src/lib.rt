@@ -1,0 +1,11 @@
+//! Tables of bounded size, and the transposition table of a search.
+#![tactic(auto)]
+
+
+
+mod lru_table;
+mod memo;
+
+
+pub use lru_table::LruTable;
+pub use memo::{Key, Verdict};
