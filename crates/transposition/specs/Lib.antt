@@ -1,3 +1,3 @@
 pub mod Bounded
-
+pub mod Clock
 pub mod Memo

@@ -1,7 +1,7 @@
 //! Tables of bounded size, and the transposition table of a search.
 #![tactic(auto)]
 
-
+mod clock;
 
 mod lru_table;
 mod memo;
