@@ -1,2 +1,3 @@
 pub mod LookupLemmas
 pub mod ClockLemmas
+pub mod DropLemmas

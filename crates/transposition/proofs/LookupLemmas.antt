@@ -12,7 +12,7 @@ use Rattle.transposition.specs.Bounded.{found, SameEntries, Puts, PutsForOther}
 
 module _ {K V : Type 0} (eq : K → K → Bool) (laws : IsEquivalence eq) where
   -- equal keys find the same
-  found_alike : (p q : K) (entries : List (K × V)) → eq p q ≡ true → found eq entries p ≡ found eq entries q
+  pub found_alike : (p q : K) (entries : List (K × V)) → eq p q ≡ true → found eq entries p ≡ found eq entries q
   found_alike p q [] e = refl
   found_alike p q (entry ∷ entries) e =
       ap (λ b. cond b (Some entry.1) (found eq entries p)) (laws.congr p q entry.0 e) ∙ ap (λ o. cond (eq q entry.0) (Some entry.1) o) (found_alike p q entries e)

@@ -1,5 +1,7 @@
 -- Serves private contracts: the marks of a table's entries, and the hand that goes round them.
-use Rattle.std.specs.Prelude.{◌≡◌, ◌==◌, ℕ, ◌+◌, ◌-◌, Bool, true, false, List, length, slice_index_or, slice_set, if◌then◌else◌}
+use Rattle.std.specs.Prelude.{◌≡◌, ◌==◌, ℕ, ◌+◌, ◌-◌, Bool, true, false, List, length, slice_index_or, slice_set}
+use Rattle.std.specs.Prelude.{IsSome, None, if◌then◌else◌}
+use Rattle.transposition.specs.Bounded.{found}
 
 -- which places have a mark, and the place at which the hand stands
 pub record Marks : Type 0 where
@@ -39,3 +41,8 @@ replaced clock =
     let last = length clock.marks - 1 in
     marks_at (slice_set (slice_set clock.marks clock.hand (slice_index_or clock.marks last false)) last false)
       (next_place (length clock.marks) clock.hand)
+
+-- one key lost its entry, and each other key has what it had
+pub record Drops {K V : Type 0} (eq : K → K → Bool) (old new : List (K × V)) (dropped : K) : Type 0 where
+  pub had : IsSome (found eq old dropped)
+  pub values : (other : K) → found eq new other ≡ (if eq dropped other then None else found eq old other)

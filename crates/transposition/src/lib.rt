@@ -2,10 +2,10 @@
 #![tactic(auto)]
 
 mod clock;
-
+mod clock_table;
 mod lru_table;
 mod memo;
 
-
+pub use clock_table::ClockTable;
 pub use lru_table::LruTable;
 pub use memo::{Key, Verdict};
