@@ -33,14 +33,6 @@ module _ {K V : Type 0} (eq : K → K → Bool) (laws : IsEquivalence eq) (befor
   apart true e none had = let same : found eq before dropped ≡ None = sym (found_alike eq laws key dropped before e) ∙ none in let no : false ≡ true = subst IsSome same had in cc
   apart false e none had = refl
 
-  -- a new key takes the place of the one that was dropped
-  pub put_for_other : found eq before key ≡ None → Drops eq before between dropped → ((one : K) → found eq after one ≡ cond (eq key one) (Some value) (found eq between one)) → PutsForOther eq before after key value dropped
-  put_for_other none drops puts = record {
-    other = apart (eq key dropped) refl none drops.had;
-    had = drops.had;
-    values = λ one. puts one ∙ ap (λ o. cond (eq key one) (Some value) o) (drops.values one);
-  }
-
   none_either : (b : Bool) → (let o : Option V = None in cond b o o) ≡ None
   none_either true = refl
   none_either false = refl
@@ -48,7 +40,16 @@ module _ {K V : Type 0} (eq : K → K → Bool) (laws : IsEquivalence eq) (befor
   still_none : found eq before key ≡ None → Drops eq before between dropped → found eq between key ≡ None
   still_none none drops = drops.values key ∙ ap (λ o. cond (eq dropped key) None o) none ∙ none_either (eq dropped key)
 
-  -- and there are as many entries as before
-  pub number_for_other : found eq before key ≡ None → Drops eq before between dropped → length between + 1 ≡ length before → (had : Option V) → had ≡ found eq between key → length after ≡ length between + (if is_some had then 0 else 1) → length after ≡ length before
+  -- there are as many entries as before
+  number_for_other : found eq before key ≡ None → Drops eq before between dropped → length between + 1 ≡ length before → (had : Option V) → had ≡ found eq between key → length after ≡ length between + (if is_some had then 0 else 1) → length after ≡ length before
   number_for_other none drops fewer None e number = omega (arith, fewer, number)
   number_for_other none drops fewer (Some v) e number = let no = still_none none drops in cc
+
+  -- a new key takes the place of the one that was dropped
+  pub put_for_other : found eq before key ≡ None → Drops eq before between dropped → length between + 1 ≡ length before → (had : Option V) → had ≡ found eq between key → length after ≡ length between + (if is_some had then 0 else 1) → ((one : K) → found eq after one ≡ cond (eq key one) (Some value) (found eq between one)) → PutsForOther eq before after key value dropped
+  put_for_other none drops fewer had was number puts = record {
+    other = apart (eq key dropped) refl none drops.had;
+    had = drops.had;
+    values = λ one. puts one ∙ ap (λ o. cond (eq key one) (Some value) o) (drops.values one);
+    number = number_for_other none drops fewer had was number;
+  }

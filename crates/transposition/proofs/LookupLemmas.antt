@@ -69,14 +69,14 @@ module _ {K V : Type 0} (eq : K → K → Bool) (laws : IsEquivalence eq) where
     after_put : Option (K × V) → List (K × V)
     after_put o = option_map_or (λ e. (e.0, value) ∷ remove_entry (eq key) entries) o ((key, value) ∷ take (cap - 1) entries)
 
-    put_present : (o : Option (K × V)) → lookup_entry (eq key) entries ≡ o → IsDistinct eq (keys_of entries) → IsSome (found eq entries key) → Puts eq entries (after_put o) key value × (length (after_put o) ≡ length entries)
+    put_present : (o : Option (K × V)) → lookup_entry (eq key) entries ≡ o → IsDistinct eq (keys_of entries) → IsSome (found eq entries key) → Puts eq entries (after_put o) key value 0
     unfolding after_put
     put_present None h distinct is = let none = found_nothing key entries h in let no : false ≡ true = subst IsSome none is in cc
     put_present (Some entry) h distinct is =
-        (λ other. first_with key entries entry value distinct h other, length-remove_entry key entries entry h)
+        record { values = λ other. first_with key entries entry value distinct h other; number = omega (arith, length-remove_entry key entries entry h) }
 
     -- a value is put at a key that is there
-    pub put-present : IsDistinct eq (keys_of entries) → IsSome (found eq entries key) → Puts eq entries (put_entries eq (lru_cache entries cap) key value) key value × (length (put_entries eq (lru_cache entries cap) key value) ≡ length entries)
+    pub put-present : IsDistinct eq (keys_of entries) → IsSome (found eq entries key) → Puts eq entries (put_entries eq (lru_cache entries cap) key value) key value 0
     unfolding after_put
     put-present distinct is = put_present (lookup_entry (eq key) entries) refl distinct is
 
@@ -91,11 +91,11 @@ module _ {K V : Type 0} (eq : K → K → Bool) (laws : IsEquivalence eq) where
     first_new : (others : List (K × V)) (other : K) → found eq ((key, value) ∷ others) other ≡ cond (eq key other) (Some value) (found eq others other)
     first_new others other = ap (λ b. cond b (Some value) (found eq others other)) (laws.symm other key)
 
-    pub put-below : length entries < cap → found eq entries key ≡ None → Puts eq entries (put_entries eq (lru_cache entries cap) key value) key value × (length (put_entries eq (lru_cache entries cap) key value) ≡ length entries + 1)
+    pub put-below : length entries < cap → found eq entries key ≡ None → Puts eq entries (put_entries eq (lru_cache entries cap) key value) key value 1
     put-below below none =
         let all : take (cap - 1) entries ≡ entries = take_all (cap - 1) entries (omega (arith, below)) in
         let e : put_entries eq (lru_cache entries cap) key value ≡ (key, value) ∷ entries = put_new none ∙ ap (λ es. (key, value) ∷ es) all in
-        (λ other. ap (λ es. found eq es other) e ∙ first_new entries other, ap length e ∙ omega arith)
+        record { values = λ other. ap (λ es. found eq es other) e ∙ first_new entries other; number = ap length e ∙ omega arith }
 
   none_of_keys : (test : K → Bool) (entries : List (K × V)) → AllByRecursion (λ key. test key ≡ false) (keys_of entries) → NonePasses test entries
   none_of_keys test [] h = h
@@ -143,16 +143,14 @@ module _ {K V : Type 0} (eq : K → K → Bool) (laws : IsEquivalence eq) where
           ∙ turned (eq other entry.0) (eq rest.0 other) entry.1 (found eq (next ∷ entries) other) (λ e. sym (laws.congr rest.0 other entry.0 e) ∙ laws.symm rest.0 entry.0 ∙ apart);
       })
 
-  pub put-full : (entries : List (K × V)) (cap : ℕ) (key : K) (value : V) → IsDistinct eq (keys_of entries) → 0 < cap → length entries ≡ cap → found eq entries key ≡ None → ((dropped : K) × PutsForOther eq entries (put_entries eq (lru_cache entries cap) key value) key value dropped) × (length (put_entries eq (lru_cache entries cap) key value) ≡ length entries)
+  pub put-full : (entries : List (K × V)) (cap : ℕ) (key : K) (value : V) → IsDistinct eq (keys_of entries) → 0 < cap → length entries ≡ cap → found eq entries key ≡ None → (dropped : K) × PutsForOther eq entries (put_entries eq (lru_cache entries cap) key value) key value dropped
   put-full entries cap key value distinct some full none =
       let last = last_key entries (omega (arith, some, full)) distinct in
       let less : cap - 1 ≡ length entries - 1 = omega (arith, full) in
       let e : put_entries eq (lru_cache entries cap) key value ≡ (key, value) ∷ take (length entries - 1) entries = put_new entries cap key value none ∙ ap (λ n. (key, value) ∷ take n entries) less in
-      (
-        (last.0, record {
-          other = last.1.among (eq key) (none_passes_from_lookup (eq key) entries none);
-          had = last.1.had;
-          values = λ one. ap (λ es. found eq es one) e ∙ first_new entries cap key value (take (length entries - 1) entries) one ∙ ap (λ o. cond (eq key one) (Some value) o) (last.1.values one);
-        }),
-        ap length e ∙ ap suc (length-take-le (length entries - 1) entries (omega arith)) ∙ omega (arith, some, full),
-      )
+      (last.0, record {
+        other = last.1.among (eq key) (none_passes_from_lookup (eq key) entries none);
+        had = last.1.had;
+        values = λ one. ap (λ es. found eq es one) e ∙ first_new entries cap key value (take (length entries - 1) entries) one ∙ ap (λ o. cond (eq key one) (Some value) o) (last.1.values one);
+        number = ap length e ∙ ap suc (length-take-le (length entries - 1) entries (omega arith)) ∙ omega (arith, some, full);
+      })

@@ -1,4 +1,4 @@
-use Rattle.std.specs.Prelude.{◌≡◌, ℕ, ◌≤◌, Bool, false, List, length, Option, Some, None, IsSome, if◌then◌else◌}
+use Rattle.std.specs.Prelude.{◌≡◌, ℕ, ◌+◌, ◌≤◌, Bool, false, List, length, Option, Some, None, IsSome, if◌then◌else◌}
 use Rattle.std.specs.Map.{lookup, keys_of}
 use Rattle.std.specs.List.{IsDistinct}
 
@@ -26,13 +26,16 @@ module _ {K V : Type 0} where
       pub values : (key : K) → found new key ≡ found old key
       pub number : length new ≡ length old
 
-    -- the key has the value, and each other key what it had
-    abbrev pub Puts : List (K × V) → List (K × V) → K → V → Type 0
-    Puts old new key value = (other : K) → found new other ≡ (if eq key other then Some value else found old other)
+    -- the key has the value, each other key what it had, and there are so many more entries
+    pub record Puts (old new : List (K × V)) (key : K) (value : V) (more : ℕ) : Type 0 where
+      pub values : (one : K) → found new one ≡ (if eq key one then Some value else found old one)
+      pub number : length new ≡ length old + more
 
-    -- the key has the value, one other key lost its entry, and each further key has what it had
+    -- the key has the value, one other key lost its entry, each further key has what it had, and there are as many
+    -- entries
     pub record PutsForOther (old new : List (K × V)) (key : K) (value : V) (dropped : K) : Type 0 where
       pub other : eq key dropped ≡ false
       pub had : IsSome (found old dropped)
       pub values : (one : K)
         → found new one ≡ (if eq key one then Some value else (if eq dropped one then None else found old one))
+      pub number : length new ≡ length old

@@ -1,7 +1,7 @@
 use Rattle.std.specs.Prelude.{◌≡◌, ℕ, Bool, List, Option}
 use Rattle.loads.specs.declared.position.Position.{Position}
 use Rattle.loads.specs.Packed.{are_equal}
-use Rattle.transposition.specs.declared.memo.Verdict.{Verdict}
+use Rattle.transposition.specs.declared.verdict.Verdict.{Verdict}
 use Rattle.transposition.specs.Bounded.{found}
 
 -- the verdict of a position's entry; None where it has none

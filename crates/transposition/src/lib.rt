@@ -5,7 +5,9 @@ mod clock;
 mod clock_table;
 mod lru_table;
 mod memo;
+mod verdict;
 
 pub use clock_table::ClockTable;
 pub use lru_table::LruTable;
-pub use memo::{Key, Verdict};
+pub use memo::{ClockMemo, Key, LruMemo, Memo};
+pub use verdict::Verdict;

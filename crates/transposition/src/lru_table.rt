@@ -64,15 +64,12 @@ impl<K: Eq + Hash + Drop, V: Copy + Drop> LruTable<K, V> {
     /// Puts a value at a key. A key that is there keeps its entry, takes the value, takes no memory and cannot fail.
     /// A new key adds an entry, and at capacity one other entry is dropped. Where memory is refused, the entries stay.
     pub fn put(&mut self, key: K, value: V) -> Result<(), AllocError>
-        ensures present { IsSome (found K.eq self.old.entries key) → IsOk result
-            × Puts K.eq self.old.entries self.new.entries key value
-            × (length self.new.entries ≡ length self.old.entries) }
+        ensures present { IsSome (found K.eq self.old.entries key)
+            → IsOk result × Puts K.eq self.old.entries self.new.entries key value 0 }
         ensures below { OnOk result (found K.eq self.old.entries key ≡ None → length self.old.entries < self.old.capacity
-            → Puts K.eq self.old.entries self.new.entries key value
-                × (length self.new.entries ≡ length self.old.entries + 1)) }
+            → Puts K.eq self.old.entries self.new.entries key value 1) }
         ensures full { OnOk result (found K.eq self.old.entries key ≡ None → self.old.capacity ≤ length self.old.entries
-            → ((dropped : K) × PutsForOther K.eq self.old.entries self.new.entries key value dropped)
-                × (length self.new.entries ≡ length self.old.entries)) }
+            → (dropped : K) × PutsForOther K.eq self.old.entries self.new.entries key value dropped) }
         ensures err { OnErr result (SameEntries K.eq self.old.entries self.new.entries) }
         ensures capacity { self.new.capacity ≡ self.old.capacity }
     {

@@ -1,5 +1,5 @@
 use Rattle.std.proofs.Common.{◌≡◌, ◌<◌, length, arith}
-use Rattle.transposition.proofs.DropLemmas.{put_for_other, number_for_other}
+use Rattle.transposition.proofs.DropLemmas.{put_for_other}
 use Rattle.transposition.proofs.clock_table.ClockTable.put.Goals as goal
 
 pub returns-clause-full : goal.returns-clause-full
@@ -12,7 +12,4 @@ returns-clause-full g c = rw (← c.self.view_is) (λ none full.
     let drops = rw c.in_ok-reserve.ensures.entries at c.drop_one.ensures.dropped in
     let number = rw c.in_ok-reserve.ensures.entries at c.drop_one.ensures.number in
     let put = rw c.unwrap-2.ensures at c.insert-2.ensures in
-    (
-      (drops.0, put_for_other eq laws before between after c.args.key c.args.value drops.0 none drops.1 put.updates.0),
-      number_for_other eq laws before between after c.args.key c.args.value drops.0 none drops.1 number c.unwrap-2.result put.old put.len,
-    ))
+    (drops.0, put_for_other eq laws before between after c.args.key c.args.value drops.0 none drops.1 number c.unwrap-2.result put.old put.len put.updates.0))

@@ -4,8 +4,7 @@ use Rattle.transposition.proofs.lru_table.LruTable.put.Goals as goal
 
 pub returns-clause-present : goal.returns-clause-present
 returns-clause-present g c = rw (← c.self.view_is, c.in_ok-put.ensures.entries) (λ is.
-    let r = put-present g.K.PartialEq.eq g.met.K.Eq.laws c.self.inside.cache.entries c.self.inside.cache.cap c.args.key c.args.value c.len.ensures.valid.0 is in
-    (refl, r.0, r.1))
+    (refl, put-present g.K.PartialEq.eq g.met.K.Eq.laws c.self.inside.cache.entries c.self.inside.cache.cap c.args.key c.args.value c.len.ensures.valid.0 is))
 
 pub returns-clause-below : goal.returns-clause-below
 returns-clause-below g c = rw (← c.self.view_is, c.in_ok-put.ensures.entries) (λ none below.
