@@ -5,7 +5,7 @@ use Rattle.std.specs.Cmp.{IsEquivalence}
 use Rattle.std.specs.HashMap.{HashMap, Updates, IsUnique}
 use Rattle.std.proofs.lemmas.Option.{slice_get_cases}
 use Rattle.std.proofs.lemmas.Map.Entries.{lookup_from_place}
-use Rattle.transposition.specs.Bounded.{found, Puts, PutsForOther}
+use Rattle.transposition.specs.Bounded.{found, PutsForOther}
 use Rattle.transposition.specs.Clock.{Drops}
 use Rattle.transposition.proofs.LookupLemmas.{found_alike}
 
@@ -23,10 +23,13 @@ module _ {K V S : Type 0} (eq : K → K → Bool) (laws : IsEquivalence eq) wher
   -- the entry at a place is dropped
   pub dropped_at : (old new : HashMap K V S) (place : ℕ) (taken : Option (K × V)) → IsUnique eq old → place < length old.entries → taken ≡ slice_get old.entries place → IfSome taken (λ entry. Updates eq old new entry.0 None) → (dropped : K) × Drops eq old.entries new.entries dropped
   dropped_at old new place None distinct l e updates = absurd (no_entry old place l e)
-  dropped_at old new place (Some entry) distinct l e updates = (entry.0, record {
-    had = subst IsSome (sym (lookup_from_place laws old.entries place entry.0 entry.1 distinct (sym e))) refl;
-    values = updates.0;
-  })
+  dropped_at old new place (Some entry) distinct l e updates = (
+    entry.0,
+    record {
+      had = subst IsSome (sym (lookup_from_place laws old.entries place entry.0 entry.1 distinct (sym e))) refl;
+      values = updates.0;
+    },
+  )
 
 module _ {K V : Type 0} (eq : K → K → Bool) (laws : IsEquivalence eq) (before between after : List (K × V)) (key : K) (value : V) (dropped : K) where
   apart : (b : Bool) → eq key dropped ≡ b → found eq before key ≡ None → IsSome (found eq before dropped) → b ≡ false

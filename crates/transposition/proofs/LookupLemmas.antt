@@ -1,13 +1,13 @@
 -- What is found in the entries of a cache after an entry was used or put.
-use Rattle.std.proofs.Common.{◌≡◌, ℕ, zero, suc, ◌+◌, ◌-◌, ◌<◌, ◌≤◌, Bool, true, false, cond, Option, Some, None, IsSome, List, [], ◌∷◌, length, take, refl, sym, ap, ◌∙◌, subst, arith}
+use Rattle.std.proofs.Common.{◌≡◌, ℕ, suc, ◌-◌, ◌<◌, Bool, true, false, cond, Option, Some, None, IsSome, List, [], ◌∷◌, length, take, refl, sym, ap, ◌∙◌, subst, arith}
 use Rattle.std.specs.Cmp.{IsEquivalence}
-use Rattle.std.specs.Map.{lookup, lookup_entry, remove_entry, keys_of}
+use Rattle.std.specs.Map.{lookup_entry, remove_entry, keys_of}
 use Rattle.std.specs.List.{IsDistinct, AllByRecursion}
 use Rattle.std.proofs.lemmas.Map.{NonePasses, lookup-remove_entry, none_passes_from_lookup}
 use Rattle.std.specs.Option.{option_map_or}
 use Rattle.std.proofs.lemmas.List.{take_all, length-take-le}
 use Rattle.lru.proofs.CallerLemmas.{Contains-lookup_entry}
-use Rattle.lru.specs.LruCache.{LruCache, lru_cache, promoted, put_entries}
+use Rattle.lru.specs.LruCache.{lru_cache, promoted, put_entries}
 use Rattle.transposition.specs.Bounded.{found, SameEntries, Puts, PutsForOther}
 
 module _ {K V : Type 0} (eq : K → K → Bool) (laws : IsEquivalence eq) where
@@ -125,32 +125,39 @@ module _ {K V : Type 0} (eq : K → K → Bool) (laws : IsEquivalence eq) where
   last_key : (entries : List (K × V)) → 0 < length entries → IsDistinct eq (keys_of entries) → (last : K) × IsLastKey entries last
   unfolding IsDistinct
   last_key [] l distinct = absurd (omega (arith, l))
-  last_key (entry ∷ []) l distinct = (entry.0, record {
-    had = subst (λ b. IsSome (cond b (Some entry.1) None)) (sym (laws.refl entry.0)) refl;
-    among = λ test none. none.0;
-    values = λ other. same_twice (eq other entry.0) (eq entry.0 other) entry.1 (laws.symm other entry.0);
-  })
+  last_key (entry ∷ []) l distinct = (
+    entry.0,
+    record {
+      had = subst (λ b. IsSome (cond b (Some entry.1) None)) (sym (laws.refl entry.0)) refl;
+      among = λ test none. none.0;
+      values = λ other. same_twice (eq other entry.0) (eq entry.0 other) entry.1 (laws.symm other entry.0);
+    },
+  )
   last_key (entry ∷ next ∷ entries) l distinct =
       let rest = last_key (next ∷ entries) (omega arith) distinct.1 in
       let apart : eq entry.0 rest.0 ≡ false = rest.1.among (eq entry.0) (none_of_keys (eq entry.0) (next ∷ entries) distinct.0) in
-      let fewer : length (entry ∷ next ∷ entries) - 1 ≡ suc (length (next ∷ entries) - 1) = omega arith in
-      (rest.0, record {
-        had = one_later rest.0 entry (next ∷ entries) (laws.symm rest.0 entry.0 ∙ apart) rest.1.had;
-        among = λ test none. rest.1.among test none.1;
-        values = λ other.
-          ap (λ n. found eq (take n (entry ∷ next ∷ entries)) other) fewer
-          ∙ ap (λ o. cond (eq other entry.0) (Some entry.1) o) (rest.1.values other)
-          ∙ turned (eq other entry.0) (eq rest.0 other) entry.1 (found eq (next ∷ entries) other) (λ e. sym (laws.congr rest.0 other entry.0 e) ∙ laws.symm rest.0 entry.0 ∙ apart);
-      })
+      let fewer : length (entry ∷ next ∷ entries) - 1 ≡ suc (length (next ∷ entries) - 1) = omega arith in (
+        rest.0,
+        record {
+          had = one_later rest.0 entry (next ∷ entries) (laws.symm rest.0 entry.0 ∙ apart) rest.1.had;
+          among = λ test none. rest.1.among test none.1;
+          values = λ other.
+              ap (λ n. found eq (take n (entry ∷ next ∷ entries)) other) fewer
+              ∙ ap (λ o. cond (eq other entry.0) (Some entry.1) o) (rest.1.values other)
+              ∙ turned (eq other entry.0) (eq rest.0 other) entry.1 (found eq (next ∷ entries) other) (λ e. sym (laws.congr rest.0 other entry.0 e) ∙ laws.symm rest.0 entry.0 ∙ apart);
+        },
+      )
 
   pub put-full : (entries : List (K × V)) (cap : ℕ) (key : K) (value : V) → IsDistinct eq (keys_of entries) → 0 < cap → length entries ≡ cap → found eq entries key ≡ None → (dropped : K) × PutsForOther eq entries (put_entries eq (lru_cache entries cap) key value) key value dropped
   put-full entries cap key value distinct some full none =
       let last = last_key entries (omega (arith, some, full)) distinct in
       let less : cap - 1 ≡ length entries - 1 = omega (arith, full) in
-      let e : put_entries eq (lru_cache entries cap) key value ≡ (key, value) ∷ take (length entries - 1) entries = put_new entries cap key value none ∙ ap (λ n. (key, value) ∷ take n entries) less in
-      (last.0, record {
-        other = last.1.among (eq key) (none_passes_from_lookup (eq key) entries none);
-        had = last.1.had;
-        values = λ one. ap (λ es. found eq es one) e ∙ first_new entries cap key value (take (length entries - 1) entries) one ∙ ap (λ o. cond (eq key one) (Some value) o) (last.1.values one);
-        number = ap length e ∙ ap suc (length-take-le (length entries - 1) entries (omega arith)) ∙ omega (arith, some, full);
-      })
+      let e : put_entries eq (lru_cache entries cap) key value ≡ (key, value) ∷ take (length entries - 1) entries = put_new entries cap key value none ∙ ap (λ n. (key, value) ∷ take n entries) less in (
+        last.0,
+        record {
+          other = last.1.among (eq key) (none_passes_from_lookup (eq key) entries none);
+          had = last.1.had;
+          values = λ one. ap (λ es. found eq es one) e ∙ first_new entries cap key value (take (length entries - 1) entries) one ∙ ap (λ o. cond (eq key one) (Some value) o) (last.1.values one);
+          number = ap length e ∙ ap suc (length-take-le (length entries - 1) entries (omega arith)) ∙ omega (arith, some, full);
+        },
+      )

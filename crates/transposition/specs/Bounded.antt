@@ -37,5 +37,5 @@ module _ {K V : Type 0} where
       pub other : eq key dropped ≡ false
       pub had : IsSome (found old dropped)
       pub values : (one : K)
-        → found new one ≡ (if eq key one then Some value else (if eq dropped one then None else found old one))
+          → found new one ≡ (if eq key one then Some value else (if eq dropped one then None else found old one))
       pub number : length new ≡ length old

@@ -40,7 +40,7 @@ abbrev pub replaced : Marks → Marks
 replaced clock =
     let last = length clock.marks - 1 in
     marks_at (slice_set (slice_set clock.marks clock.hand (slice_index_or clock.marks last false)) last false)
-      (next_place (length clock.marks) clock.hand)
+    (next_place (length clock.marks) clock.hand)
 
 -- one key lost its entry, and each other key has what it had
 pub record Drops {K V : Type 0} (eq : K → K → Bool) (old new : List (K × V)) (dropped : K) : Type 0 where

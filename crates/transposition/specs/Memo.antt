@@ -1,4 +1,4 @@
-use Rattle.std.specs.Prelude.{◌≡◌, ℕ, Bool, List, Option}
+use Rattle.std.specs.Prelude.{List, Option}
 use Rattle.loads.specs.declared.position.Position.{Position}
 use Rattle.loads.specs.Packed.{are_equal}
 use Rattle.transposition.specs.declared.verdict.Verdict.{Verdict}

@@ -3,6 +3,7 @@
 
 mod clock;
 mod clock_table;
+pub mod laws;
 mod lru_table;
 mod memo;
 mod verdict;
@@ -11,3 +12,6 @@ pub use clock_table::ClockTable;
 pub use lru_table::LruTable;
 pub use memo::{ClockMemo, Key, LruMemo, Memo};
 pub use verdict::Verdict;
+
+#[cfg(test)]
+mod tests;

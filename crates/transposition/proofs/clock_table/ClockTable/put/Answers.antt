@@ -1,4 +1,3 @@
-use Rattle.std.proofs.Common.{◌≡◌, ◌<◌, length, arith}
 use Rattle.transposition.proofs.DropLemmas.{put_for_other}
 use Rattle.transposition.proofs.clock_table.ClockTable.put.Goals as goal
 

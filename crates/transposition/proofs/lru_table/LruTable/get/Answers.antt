@@ -1,5 +1,4 @@
-use Rattle.std.proofs.Common.{◌≡◌, ◌∙◌, ap, List}
-use Rattle.transposition.specs.Bounded.{found}
+use Rattle.std.proofs.Common.{◌∙◌}
 use Rattle.transposition.proofs.LookupLemmas.{SameEntries-promoted}
 use Rattle.transposition.proofs.lru_table.LruTable.get.Goals as goal
 

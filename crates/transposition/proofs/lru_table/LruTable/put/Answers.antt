@@ -1,4 +1,4 @@
-use Rattle.std.proofs.Common.{◌≡◌, ◌≤◌, length, refl, arith}
+use Rattle.std.proofs.Common.{refl, arith}
 use Rattle.transposition.proofs.LookupLemmas.{put-present, put-below, put-full}
 use Rattle.transposition.proofs.lru_table.LruTable.put.Goals as goal
 
