@@ -29,7 +29,8 @@ impl<K: Eq + Hash, V> Model for ClockTable<K, V> {
 
     ghost view = { λ a. bounded a.map.entries a.capacity };
 
-    ghost invariant = { λ a. (length a.clock.marks ≡ length a.map.entries) × (length a.map.entries ≤ a.capacity) × (1 ≤ a.capacity) };
+    ghost invariant = { λ a. (length a.clock.marks ≡ length a.map.entries) × (length a.map.entries ≤ a.capacity)
+        × (1 ≤ a.capacity) };
 }
 
 impl<K: Eq + Hash + Drop, V: Copy + Drop> ClockTable<K, V> {
@@ -77,9 +78,11 @@ impl<K: Eq + Hash + Drop, V: Copy + Drop> ClockTable<K, V> {
     pub fn put(&mut self, key: K, value: V) -> Result<(), AllocError>
         ensures present { IsSome (found K.eq self.old.entries key)
             → IsOk result × Puts K.eq self.old.entries self.new.entries key value 0 }
-        ensures below { OnOk result (found K.eq self.old.entries key ≡ None → length self.old.entries < self.old.capacity
+        ensures below { OnOk result (found K.eq self.old.entries key ≡ None
+            → length self.old.entries < self.old.capacity
             → Puts K.eq self.old.entries self.new.entries key value 1) }
-        ensures full { OnOk result (found K.eq self.old.entries key ≡ None → self.old.capacity ≤ length self.old.entries
+        ensures full { OnOk result (found K.eq self.old.entries key ≡ None
+            → self.old.capacity ≤ length self.old.entries
             → (dropped : K) × PutsForOther K.eq self.old.entries self.new.entries key value dropped) }
         ensures err { OnErr result (SameEntries K.eq self.old.entries self.new.entries) }
         ensures capacity { self.new.capacity ≡ self.old.capacity }

@@ -66,9 +66,11 @@ impl<K: Eq + Hash + Drop, V: Copy + Drop> LruTable<K, V> {
     pub fn put(&mut self, key: K, value: V) -> Result<(), AllocError>
         ensures present { IsSome (found K.eq self.old.entries key)
             → IsOk result × Puts K.eq self.old.entries self.new.entries key value 0 }
-        ensures below { OnOk result (found K.eq self.old.entries key ≡ None → length self.old.entries < self.old.capacity
+        ensures below { OnOk result (found K.eq self.old.entries key ≡ None
+            → length self.old.entries < self.old.capacity
             → Puts K.eq self.old.entries self.new.entries key value 1) }
-        ensures full { OnOk result (found K.eq self.old.entries key ≡ None → self.old.capacity ≤ length self.old.entries
+        ensures full { OnOk result (found K.eq self.old.entries key ≡ None
+            → self.old.capacity ≤ length self.old.entries
             → (dropped : K) × PutsForOther K.eq self.old.entries self.new.entries key value dropped) }
         ensures err { OnErr result (SameEntries K.eq self.old.entries self.new.entries) }
         ensures capacity { self.new.capacity ≡ self.old.capacity }

@@ -45,9 +45,11 @@ pub trait Memo {
     fn put(&mut self, key: Key, verdict: Verdict) -> Result<(), AllocError>
         ensures present { IsSome (verdict_of (entries self.old) key)
             → IsOk result × Puts are_equal (entries self.old) (entries self.new) key verdict 0 }
-        ensures below { OnOk result (verdict_of (entries self.old) key ≡ None → length (entries self.old) < room self.old
+        ensures below { OnOk result (verdict_of (entries self.old) key ≡ None
+            → length (entries self.old) < room self.old
             → Puts are_equal (entries self.old) (entries self.new) key verdict 1) }
-        ensures full { OnOk result (verdict_of (entries self.old) key ≡ None → room self.old ≤ length (entries self.old)
+        ensures full { OnOk result (verdict_of (entries self.old) key ≡ None
+            → room self.old ≤ length (entries self.old)
             → (dropped : Position) × PutsForOther are_equal (entries self.old) (entries self.new) key verdict dropped) }
         ensures err { OnErr result (SameEntries are_equal (entries self.old) (entries self.new)) }
         ensures capacity { room self.new ≡ room self.old };
