@@ -1,3 +1,4 @@
 pub mod MultisetLemmas
 pub mod SameLemmas
 pub mod CounterLemmas
+pub mod MemberLemmas

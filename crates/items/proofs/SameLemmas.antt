@@ -27,23 +27,28 @@ pub count_no_size : (most x : ℕ) (xs : List ℕ) → All (IsSize most) xs → 
 count_no_size most x [] a h = refl
 count_no_size most x (y ∷ xs) a h =
     let size = All-head (IsSize most) y xs a in
-    count_other x y (count x xs) (λ e. ⊎_elim (λ l. omega (arith, size.low, e, l)) (λ l. omega (arith, size.high, e, l)) h) ∙ count_no_size most x xs (All-tail (IsSize most) y xs a) h
+    count_other x y (count x xs) (λ e. ⊎_elim (λ l. omega (arith, size.low, e, l)) (λ l. omega (arith, size.high, e, l)) h)
+    ∙ count_no_size most x xs (All-tail (IsSize most) y xs a) h
 
 -- lists that agree at each size, and at nothing else hold anything, are the same
 pub Same-from_sizes : (most : ℕ) (xs ys : List ℕ) → All (IsSize most) xs → All (IsSize most) ys → ((x : ℕ) → IsSize most x → count x xs ≡ count x ys) → Same xs ys
 Same-from_sizes most xs ys a b h x =
-    ⊎_elim (λ l. count_no_size most x xs a (inl l) ∙ sym (count_no_size most x ys b (inl l))) (λ l. ⊎_elim (λ m. count_no_size most x xs a (inr m) ∙ sym (count_no_size most x ys b (inr m))) (λ m. h x (record { low = l; high = m })) (cases_lt most x)) (cases_lt x 1)
+    ⊎_elim (λ l. count_no_size most x xs a (inl l) ∙ sym (count_no_size most x ys b (inl l)))
+    (λ l. ⊎_elim (λ m. count_no_size most x xs a (inr m) ∙ sym (count_no_size most x ys b (inr m))) (λ m. h x (record { low = l; high = m })) (cases_lt most x)) (cases_lt x 1)
 
 module _ (P : ℕ → Type 0) where
   pub All-put_ascending : (x : ℕ) (xs : List ℕ) → P x → All P xs → All P (put_ascending x xs)
   All-put_ascending x [] p a = All-cons P x [] p a
   All-put_ascending x (y ∷ ys) p a =
-      ⊎_elim (λ l. subst (All P) (sym (put_later x y ys l)) (All-cons P y (put_ascending x ys) (All-head P y ys a) (All-put_ascending x ys p (All-tail P y ys a)))) (λ l. subst (All P) (sym (put_front x y ys l)) (All-cons P x (y ∷ ys) p a)) (cases_lt y x)
+      ⊎_elim (λ l. subst (All P) (sym (put_later x y ys l)) (All-cons P y (put_ascending x ys) (All-head P y ys a) (All-put_ascending x ys p (All-tail P y ys a))))
+      (λ l. subst (All P) (sym (put_front x y ys l)) (All-cons P x (y ∷ ys) p a)) (cases_lt y x)
 
   pub All-from_put_ascending : (x : ℕ) (xs : List ℕ) → All P (put_ascending x xs) → P x × All P xs
   All-from_put_ascending x [] a = (All-head P x [] a, All-nil P)
   All-from_put_ascending x (y ∷ ys) a =
-      ⊎_elim (λ l. let b = subst (All P) (put_later x y ys l) a in let r = All-from_put_ascending x ys (All-tail P y (put_ascending x ys) b) in (r.0, All-cons P y ys (All-head P y (put_ascending x ys) b) r.1)) (λ l. let b = subst (All P) (put_front x y ys l) a in (All-head P x (y ∷ ys) b, All-tail P x (y ∷ ys) b)) (cases_lt y x)
+      ⊎_elim (λ l. let b = subst (All P) (put_later x y ys l) a in
+      let r = All-from_put_ascending x ys (All-tail P y (put_ascending x ys) b) in (r.0, All-cons P y ys (All-head P y (put_ascending x ys) b) r.1))
+      (λ l. let b = subst (All P) (put_front x y ys l) a in (All-head P x (y ∷ ys) b, All-tail P x (y ∷ ys) b)) (cases_lt y x)
 
   All-ascending_form : (xs : List ℕ) → All P xs → All P (ascending_form xs)
   unfolding ascending_form

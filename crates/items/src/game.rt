@@ -4,6 +4,7 @@ ghost use Rattle.std.specs.Prelude.{◌≡◌, ◌<◌, MatchResult};
 ghost use Rattle.items.specs.Game.{numbers, IsGame};
 ghost use Rattle.items.specs.GameFaults.{IsFaultOf};
 
+use crate::limits::{MOST_BINS, MOST_SIZE};
 use std::marker::Model;
 use thiserror::Error;
 
@@ -49,10 +50,10 @@ impl Game {
             (λ game. (game ≡ numbers m g t) × IsGame (numbers m g t))
             (IsFaultOf (numbers m g t)) }
     {
-        if !(2..=8).contains(&m) {
+        if !(2..=MOST_BINS).contains(&m) {
             return Err(GameFault::Bins);
         }
-        if !(1..=120).contains(&g) {
+        if !(1..=MOST_SIZE).contains(&g) {
             return Err(GameFault::Capacity);
         }
         if t <= g || t > 2 * g {

@@ -1,12 +1,14 @@
 //! Laws on ascending lists and on lists with the same numbers, as contracts of functions that do nothing.
 
-ghost use Rattle.std.specs.Prelude.{◌≡◌, ◌==◌, ◌↔◌, IsTrue, ℕ, ◌+◌, List, [], ◌∷◌, ◌++◌, if◌then◌else◌, length, sum};
+ghost use Rattle.std.specs.Prelude.{◌≡◌, ◌==◌, ◌↔◌, IsTrue, ℕ, ◌+◌, ◌*◌, List, [], ◌∷◌, ◌++◌, if◌then◌else◌};
+ghost use Rattle.std.specs.Prelude.{length, replicate, sum};
 ghost use Rattle.std.specs.List.Sorted.{IsNonDecreasing};
 ghost use Rattle.items.specs.Game.{IsGame};
-ghost use Rattle.items.specs.Multiset.{IsMultiset, Same, count, put_ascending};
+ghost use Rattle.items.specs.Multiset.{IsMultiset, Same, count, put_ascending, put_times};
 
 use crate::game::Game;
 use crate::items::Items;
+use crate::limits::MOST_SIZE;
 use std::hash::Hash;
 
 /// The numbers of a game are within their ranges.
@@ -18,7 +20,7 @@ pub fn game_is_legal(game: &Game)
 
 /// Items are an ascending list of sizes, with a total within the limit.
 pub fn items_are_a_multiset(items: &Items)
-    ensures { IsMultiset 120 items.now }
+    ensures { IsMultiset MOST_SIZE items.now }
 {
     let _volume = items.volume();
 }
@@ -40,6 +42,13 @@ pub fn put_in_order()
     ensures counts { (x y : ℕ) (xs : List ℕ) → count y (put_ascending x xs) ≡ (if y == x then 1 else 0) + count y xs }
     ensures end { (x : ℕ) (xs : List ℕ) → Same (xs ++ x ∷ []) (put_ascending x xs) }
     ensures total { (x : ℕ) (xs : List ℕ) → sum (put_ascending x xs) ≡ x + sum xs }
+{}
+
+/// A number put in n times at its place keeps a list ascending, and counts as it does n times at the list's end.
+pub fn put_times_in_order()
+    ensures ascending { (n x : ℕ) (xs : List ℕ) → IsNonDecreasing xs → IsNonDecreasing (put_times n x xs) }
+    ensures end { (n x : ℕ) (xs : List ℕ) → Same (xs ++ replicate n x) (put_times n x xs) }
+    ensures total { (n x : ℕ) (xs : List ℕ) → sum (put_times n x xs) ≡ n * x + sum xs }
 {}
 
 /// `==` on multisets of items holds exactly where their ascending lists are equal, and equal ones hash alike.

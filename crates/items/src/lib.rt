@@ -4,10 +4,12 @@
 mod game;
 mod items;
 pub mod laws;
+mod limits;
 mod list;
 
 pub use game::{Game, GameFault};
 pub use items::Items;
+pub use limits::{MOST_BINS, MOST_NUMBER, MOST_SIZE, MOST_VOLUME};
 pub use list::{Nums, Sequence};
 
 #[cfg(test)]

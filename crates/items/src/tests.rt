@@ -60,6 +60,10 @@ fn equal_multisets_hash_alike(rt: HostRuntime) {
     let added = Items::empty().add(3).add(4).add(1).add(3);
     assert!(rt; listed == added && listed.same(&added) && listed.copy() == listed);
     assert!(rt; listed != Items::empty().add(3));
+    assert!(rt; listed == Items::empty().add(4).add_times(3, 2).add(1).add_times(6, 0));
+    let mut put = Items::empty();
+    put.put(3);
+    assert!(rt; put == Items::empty().add_times(3, 1));
     assert_eq!(rt; listed.count_big(&game), 1);
     let mut first = DefaultHasher::new();
     let mut second = DefaultHasher::new();

@@ -1,16 +1,18 @@
 -- Loads after an item.
-use Rattle.std.proofs.Common.{◌≡◌, ℕ, zero, suc, ◌+◌, ◌<◌, ◌≤◌, true, List, [], ◌∷◌, leb, refl, inl, inr, length, get_or, set, cond, eqb, sum, arith, sym, ap, ◌∙◌}
+use Rattle.std.proofs.Common.{◌≡◌, ℕ, zero, suc, ◌+◌, ◌*◌, ◌<◌, ◌≤◌, true, List, [], ◌∷◌, leb, refl, inl, inr, length, get_or, set, cond, eqb, sum, arith, sym, ap, ◌∙◌}
 use Rattle.std.specs.Prelude.{Contains, insert, remove, position, unwrap_or, nat_le}
 use Rattle.std.proofs.lemmas.List.{get_or_default}
 use Rattle.std.specs.List.{sum_by}
 use Rattle.std.proofs.lemmas.List.Sums.{sum_by-set}
 use Rattle.std.proofs.lemmas.Bool.{leb-true, leb-false, le-leb, cases_Bool}
 use Rattle.std.proofs.lemmas.List.Elements.{All-weaker}
+use Rattle.items.specs.declared.limits.TheConstants.{MOST_SIZE}
 use Rattle.items.specs.Game.{GameNumbers, IsGame}
 use Rattle.items.specs.Multiset.{count, Same}
 use Rattle.loads.specs.Descending.{IsDescending, put_descending, take_out}
 use Rattle.loads.specs.Loads.{AreLoads, IsLoads, IsLowestBin, loads_after}
-use Rattle.loads.proofs.DescendingLemmas.{IsDescending-tail, IsDescending-head, IsDescending-put, IsDescending-take_out, All-put, All-take_out, length-put, length-take_out, take_out-remove, put_descending-insert, unwrap_or-position}
+use Rattle.loads.proofs.DescendingLemmas.{IsDescending-tail, IsDescending-head, IsDescending-put, IsDescending-take_out, All-put}
+use Rattle.loads.proofs.DescendingLemmas.{All-take_out, length-put, length-take_out, take_out-remove, put_descending-insert, unwrap_or-position}
 use Rattle.items.proofs.MultisetLemmas.{count-sum_by}
 use Rattle.loads.proofs.CountLemmas.{Contains-Same, sum_by-put, sum_by-take_out, equal_from_Same}
 
@@ -19,11 +21,12 @@ pub AreLoads-of_game : (game : GameNumbers) (loads : List ℕ) → IsGame game �
 AreLoads-of_game game loads g h = record {
   few = omega (arith, h.one_each, g.bins.high);
   descending = h.descending;
-  below = All-weaker (λ load. load < game.target) (λ load. load < 240) (λ load l. omega (arith, l, g.target.high, g.capacity.high)) loads h.below_target;
+  below = All-weaker (λ load. load < game.target) (λ load. load < 2 * MOST_SIZE) (λ load l. omega (arith, l, g.target.high, g.capacity.high)) loads h.below_target;
 }
 
 -- an item in a bin that stays below the target leaves loads of the game
-pub IsLoads-after : (game : GameNumbers) (loads : List ℕ) (load size : ℕ) → IsLoads game loads → Contains loads load → load + size < game.target → IsLoads game (loads_after loads load size)
+pub IsLoads-after : (game : GameNumbers) (loads : List ℕ) (load size : ℕ) → IsLoads game loads → Contains loads load → load + size < game.target
+    → IsLoads game (loads_after loads load size)
 IsLoads-after game loads load size h member below = record {
   one_each = omega (arith, h.one_each, length-put (load + size) (take_out load loads), length-take_out load loads member);
   descending = IsDescending-put (load + size) (take_out load loads) (IsDescending-take_out load loads h.descending);

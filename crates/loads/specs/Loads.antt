@@ -1,4 +1,5 @@
-use Rattle.std.specs.Prelude.{◌≡◌, ◌≢◌, ℕ, ◌+◌, ◌<◌, ◌≤◌, List, length, slice_index, All}
+use Rattle.std.specs.Prelude.{◌≡◌, ◌≢◌, ℕ, ◌+◌, ◌*◌, ◌<◌, ◌≤◌, List, length, slice_index, All}
+use Rattle.items.specs.declared.limits.TheConstants.{MOST_BINS, MOST_SIZE}
 use Rattle.items.specs.Game.{GameNumbers}
 use Rattle.loads.specs.Descending.{IsDescending, put_descending, take_out}
 
@@ -8,11 +9,11 @@ pub record IsLoads (game : GameNumbers) (loads : List ℕ) : Type 0 where
   pub descending : IsDescending loads
   pub below_target : All (λ load. load < game.target) loads
 
--- loads of some game: at most 8, descending, each below 240, which no target exceeds
+-- loads of some game: no more than the most bins, descending, each below the greatest target
 pub record AreLoads (loads : List ℕ) : Type 0 where
-  pub few : length loads ≤ 8
+  pub few : length loads ≤ MOST_BINS
   pub descending : IsDescending loads
-  pub below : All (λ load. load < 240) loads
+  pub below : All (λ load. load < 2 * MOST_SIZE) loads
 
 -- the loads after an item of this size went to one bin of this load
 abbrev pub loads_after : List ℕ → ℕ → ℕ → List ℕ

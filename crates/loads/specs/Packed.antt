@@ -1,6 +1,8 @@
 -- Serves private contracts: how packed positions lie in memory.
-use Rattle.std.specs.Prelude.{◌≡◌, ◌==◌, ◌&&◌, Bool, ℕ, ◌≤◌, List, [], ◌∷◌, ◌++◌, All, length, map, take, drop, slice_range}
+use Rattle.std.specs.Prelude.{◌≡◌, ◌==◌, ◌&&◌, Bool, ℕ, ◌≤◌, List, [], ◌∷◌, ◌++◌, All, length, map, take}
+use Rattle.std.specs.Prelude.{drop, slice_range}
 use Rattle.std.specs.Cmp.Lexicographic.{pointwise}
+use Rattle.items.specs.declared.limits.TheConstants.{MOST_SIZE}
 use Rattle.items.specs.Multiset.{IsMultiset}
 use Rattle.loads.specs.Loads.{AreLoads}
 use Rattle.loads.specs.Position.{position}
@@ -19,7 +21,7 @@ position_in (bins ∷ bytes) = position (take bins bytes) (drop bins bytes)
 pub record ArePositionBytes (bytes : List ℕ) : Type 0 where
   pub kept : bytes_of (position_in bytes) ≡ bytes
   pub loads : AreLoads (position_in bytes).loads
-  pub items : IsMultiset 120 (position_in bytes).items
+  pub items : IsMultiset MOST_SIZE (position_in bytes).items
 
 -- whether two positions have the same loads and the same items
 abbrev pub are_equal : Position → Position → Bool

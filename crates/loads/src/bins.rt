@@ -5,10 +5,11 @@ ghost use Rattle.items.specs.Multiset.{Same, count};
 ghost use Rattle.loads.specs.Loads.{IsLowestBin};
 
 use crate::sorted_loads::Loads;
+use items::MOST_BINS;
 
 /// The lowest number of a bin with this load, the bins being numbered from 0; None exactly where no bin has it.
 pub fn bin_with(actual: &[u16], load: u16) -> Option<u8>
-    requires { length actual.now ≤ 8 }
+    requires { length actual.now ≤ MOST_BINS }
     ensures lowest { MatchOption result (¬ Contains actual.now load) (IsLowestBin actual.now load) }
 {
     first_place(actual, load).map(|bin| bin as u8)

@@ -8,8 +8,8 @@ ghost use Rattle.loads.specs.Packed.{ArePositionBytes, position_in};
 
 use crate::position::Position;
 use crate::sorted_loads::Loads;
-use items::Items;
 use items::laws::items_are_a_multiset;
+use items::{Items, MOST_SIZE};
 use smallvec::SmallVec;
 use std::alloc::{AllocError, Global};
 
@@ -75,7 +75,7 @@ pub(crate) fn parts(bytes: &[u8]) -> (&[u8], &[u8])
 
 /// The items of these sizes.
 pub(crate) fn items_of(sizes: &[u8]) -> Items
-    requires { IsMultiset 120 sizes.now }
+    requires { IsMultiset MOST_SIZE sizes.now }
     ensures { result ≡ sizes.now }
 {
     let mut items = Items::empty();

@@ -10,7 +10,7 @@ use crate::position::Position;
 use crate::sorted_loads::Loads;
 use std::hash::Hash;
 
-/// Loads are at most 8, descending, each below 240.
+/// Loads are no more than a game has bins, descending, each below the greatest target.
 pub fn loads_are_of_some_game(loads: &Loads)
     ensures { AreLoads loads.now }
 {
@@ -59,19 +59,22 @@ pub fn loads_never_fall(loads: &Loads, load: u16, size: u16)
 /// The comparison of loads says that they are equal exactly where they are, and equal loads hash alike.
 pub fn equality_of_loads_is_exact(first: &Loads, second: &Loads)
     ensures exact { IsTrue (⟦<Loads as PartialEq>⟧.eq first.now second.now) ↔ (first.now ≡ second.now) }
-    ensures hash { IsTrue (⟦<Loads as PartialEq>⟧.eq first.now second.now) → ⟦<Loads as Hash>⟧.hash_input first.now ≡ ⟦<Loads as Hash>⟧.hash_input second.now }
+    ensures hash { IsTrue (⟦<Loads as PartialEq>⟧.eq first.now second.now)
+        → ⟦<Loads as Hash>⟧.hash_input first.now ≡ ⟦<Loads as Hash>⟧.hash_input second.now }
 {}
 
 /// The comparison of positions says that they are equal exactly where both loads and items are, and equal
 /// positions hash alike.
 pub fn equality_of_positions_is_exact(first: &Position, second: &Position)
     ensures exact { IsTrue (⟦<Position as PartialEq>⟧.eq first.now second.now) ↔ (first.now ≡ second.now) }
-    ensures hash { IsTrue (⟦<Position as PartialEq>⟧.eq first.now second.now) → ⟦<Position as Hash>⟧.hash_input first.now ≡ ⟦<Position as Hash>⟧.hash_input second.now }
+    ensures hash { IsTrue (⟦<Position as PartialEq>⟧.eq first.now second.now)
+        → ⟦<Position as Hash>⟧.hash_input first.now ≡ ⟦<Position as Hash>⟧.hash_input second.now }
 {}
 
 /// The comparison of packed positions says that they are equal exactly where both loads and items are, and
 /// equal ones hash alike.
 pub fn equality_of_packed_positions_is_exact(first: &PackedPosition, second: &PackedPosition)
     ensures exact { IsTrue (⟦<PackedPosition as PartialEq>⟧.eq first.now second.now) ↔ (first.now ≡ second.now) }
-    ensures hash { IsTrue (⟦<PackedPosition as PartialEq>⟧.eq first.now second.now) → ⟦<PackedPosition as Hash>⟧.hash_input first.now ≡ ⟦<PackedPosition as Hash>⟧.hash_input second.now }
+    ensures hash { IsTrue (⟦<PackedPosition as PartialEq>⟧.eq first.now second.now)
+        → ⟦<PackedPosition as Hash>⟧.hash_input first.now ≡ ⟦<PackedPosition as Hash>⟧.hash_input second.now }
 {}

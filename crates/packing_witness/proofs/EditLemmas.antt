@@ -5,7 +5,8 @@ use Rattle.std.proofs.lemmas.List.{take_rest}
 use Rattle.packing_witness.specs.Edits.{first_out, without}
 
 -- the first place that has the number
-pub first_out_at : (item : ℕ) (xs : List ℕ) (i : ℕ) → i < length xs → ((k : ℕ) → k < i → get_or xs k 0 ≡ item → ⊥) → get_or xs i 0 ≡ item → first_out item xs ≡ Some (take i xs ++ drop (suc i) xs)
+pub first_out_at : (item : ℕ) (xs : List ℕ) (i : ℕ) → i < length xs → ((k : ℕ) → k < i → get_or xs k 0 ≡ item → ⊥) → get_or xs i 0 ≡ item
+    → first_out item xs ≡ Some (take i xs ++ drop (suc i) xs)
 first_out_at item [] i l before here = absurd (omega (arith, l))
 first_out_at item (x ∷ xs) zero l before here = let t = eq-eqb item x (sym here) in rw t refl
 first_out_at item (x ∷ xs) (suc i) l before here =
@@ -21,7 +22,8 @@ first_out_nowhere item (x ∷ xs) before =
     rw (t, r) refl
 
 -- the first bin that has the number
-pub without_at : (item : ℕ) (bins : List (List ℕ)) (i : ℕ) (rest : List ℕ) → i < length bins → ((k : ℕ) → k < i → first_out item (get_or bins k []) ≡ None) → first_out item (get_or bins i []) ≡ Some rest → without item bins ≡ Some (take i bins ++ rest ∷ drop (suc i) bins)
+pub without_at : (item : ℕ) (bins : List (List ℕ)) (i : ℕ) (rest : List ℕ) → i < length bins → ((k : ℕ) → k < i → first_out item (get_or bins k []) ≡ None)
+    → first_out item (get_or bins i []) ≡ Some rest → without item bins ≡ Some (take i bins ++ rest ∷ drop (suc i) bins)
 without_at item [] i rest l before here = absurd (omega (arith, l))
 without_at item (bin ∷ bins) zero rest l before here = rw here refl
 without_at item (bin ∷ bins) (suc i) rest l before here =
@@ -37,13 +39,16 @@ without_nowhere item (bin ∷ bins) before =
     rw (t, r) refl
 
 -- the lists that the code makes
-pub first_out_made : (item i : ℕ) (bin sizes front made : List ℕ) → sizes ≡ bin → i < length sizes → ((k : ℕ) → k < i → get_or sizes k 0 ≡ item → ⊥) → get_or sizes i 0 ≡ item → front ≡ take i sizes → made ≡ front ++ take (length sizes - (i + 1)) (drop (i + 1) sizes) → Some made ≡ first_out item bin
+pub first_out_made : (item i : ℕ) (bin sizes front made : List ℕ) → sizes ≡ bin → i < length sizes → ((k : ℕ) → k < i → get_or sizes k 0 ≡ item → ⊥)
+    → get_or sizes i 0 ≡ item → front ≡ take i sizes → made ≡ front ++ take (length sizes - (i + 1)) (drop (i + 1) sizes) → Some made ≡ first_out item bin
 first_out_made item i bin sizes front made same l before here e f =
     let r = take_rest sizes (i + 1) in
     let t = first_out_at item sizes i l before here in
     rw (f, e, ← same, t) (ap (λ rest. Some (take i sizes ++ rest)) (r ∙ ap (λ n. drop n sizes) (add-one i)))
 
-pub without_made : (item i : ℕ) (whole bins front with_bin made : List (List ℕ)) (rest : List ℕ) → bins ≡ whole → i < length bins → ((k : ℕ) → k < i → first_out item (get_or bins k []) ≡ None) → first_out item (get_or bins i []) ≡ Some rest → front ≡ take i bins → with_bin ≡ front ++ rest ∷ [] → made ≡ with_bin ++ take (length bins - (i + 1)) (drop (i + 1) bins) → Some made ≡ without item whole
+pub without_made : (item i : ℕ) (whole bins front with_bin made : List (List ℕ)) (rest : List ℕ) → bins ≡ whole → i < length bins
+    → ((k : ℕ) → k < i → first_out item (get_or bins k []) ≡ None) → first_out item (get_or bins i []) ≡ Some rest → front ≡ take i bins → with_bin ≡ front ++ rest ∷ []
+    → made ≡ with_bin ++ take (length bins - (i + 1)) (drop (i + 1) bins) → Some made ≡ without item whole
 without_made item i whole bins front with_bin made rest same l before here e f g =
     let r = take_rest bins (i + 1) in
     let t = without_at item bins i rest l before here in

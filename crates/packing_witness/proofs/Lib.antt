@@ -2,3 +2,4 @@ pub mod CountLemmas
 pub mod EditLemmas
 pub mod PackableLemmas
 pub mod PackingLemmas
+pub mod ContentsLemmas

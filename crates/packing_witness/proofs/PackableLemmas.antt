@@ -1,19 +1,22 @@
 -- Assignments from packings, packings from assignments, and what follows for packable lists.
-use Rattle.std.proofs.Common.{◌≡◌, ◌≢◌, ℕ, zero, suc, ◌+◌, ◌*◌, ◌<◌, ◌≤◌, Some, None, List, [], ◌∷◌, ◌++◌, length, get_or, set, replicate, sum, cond, eqb, refl, sym, ap, ◌∙◌, inl, inr, subst, arith}
+use Rattle.std.proofs.Common.{◌≡◌, ◌≢◌, ℕ, zero, suc, ◌+◌, ◌*◌, ◌<◌, ◌≤◌, Some, None, List, [], ◌∷◌}
+use Rattle.std.proofs.Common.{◌++◌, length, get_or, sum, cond, eqb, refl, sym, ap, ◌∙◌, inl, inr, subst, arith}
 use Rattle.std.specs.Prelude.{All}
 use Rattle.std.specs.List.{concat, sum_by, count_by}
 use Rattle.std.proofs.lemmas.Bool.{cases_eq, cases_lt, cond-true, cond-false, eq-eqb, ne_eqb, lt-ltb, le-ltb}
-use Rattle.std.proofs.lemmas.List.{length-append, length-set, get_or-set_same, get_or-set_other, get_or_default}
-use Rattle.std.proofs.lemmas.List.Sums.{sum_by-cons, sum_by-append, sum_by-set, sum_by-le}
+use Rattle.std.proofs.lemmas.List.{length-append}
+use Rattle.std.proofs.lemmas.List.Sums.{sum_by-cons, sum_by-append, sum_by-le}
 use Rattle.std.proofs.lemmas.List.Elements.{All-nil, All-cons, All-head, All-tail, All-get_or, All-weaker}
 use Rattle.items.specs.Game.{GameNumbers}
 use Rattle.items.specs.Multiset.{count, Same, IsSize, is_big, put_ascending}
-use Rattle.items.specs.Packable.{Packable, IsAssignment, IsPacking, bin_total}
+use Rattle.items.specs.Packable.{Packable, IsPacking, bin_total}
 use Rattle.items.proofs.MultisetLemmas.{count-append, count_this, count_other, sum_by-Same, sum-Same, Same-push_put}
 use Rattle.packing_witness.specs.Edits.{first_out, without}
 use Rattle.packing_witness.specs.Sublist.{IsSublistOf}
 use Rattle.packing_witness.specs.Sublist.IsSublistOf.{empty, kept, left_out}
-use Rattle.packing_witness.proofs.CountLemmas.{count-concat}
+pub use Rattle.items.proofs.MemberLemmas.{at_count, all_from_counts}
+use Rattle.packing_witness.specs.Contents.{contents_of}
+use Rattle.packing_witness.proofs.ContentsLemmas.{IsPacking-contents}
 
 -- a list without the first such number
 pub record IsFirstOut (item : ℕ) (xs rest : List ℕ) : Type 0 where
@@ -69,7 +72,8 @@ other_places : (rest bin : List ℕ) (bins : List (List ℕ)) (place : ℕ) → 
 other_places rest bin bins zero ne = absurd (ne refl)
 other_places rest bin bins (suc place) ne = refl
 
-later_places : (bin : List ℕ) (rest bins : List (List ℕ)) (place : ℕ) → ((k : ℕ) → k ≢ place → get_or rest k [] ≡ get_or bins k []) → (k : ℕ) → k ≢ suc place → get_or (bin ∷ rest) k [] ≡ get_or (bin ∷ bins) k []
+later_places : (bin : List ℕ) (rest bins : List (List ℕ)) (place : ℕ) → ((k : ℕ) → k ≢ place → get_or rest k [] ≡ get_or bins k []) → (k : ℕ) → k ≢ suc place
+    → get_or (bin ∷ rest) k [] ≡ get_or (bin ∷ bins) k []
 later_places bin rest bins place others zero ne = refl
 later_places bin rest bins place others (suc k) ne = others k (λ e. ne (ap suc e))
 
@@ -118,7 +122,8 @@ pub record IsWithin (bins : List (List ℕ)) (items places : List ℕ) : Type 0 
   pub in_range : All (λ place. place < length bins) places
   pub totals : (bin : ℕ) → bin_total bin items places ≤ sum (get_or bins bin [])
 
-totals_with : (item place : ℕ) (items places : List ℕ) (bins rest : List (List ℕ)) → IsTakenFrom item place bins rest → ((bin : ℕ) → bin_total bin items places ≤ sum (get_or rest bin [])) → (bin : ℕ) → bin_total bin (item ∷ items) (place ∷ places) ≤ sum (get_or bins bin [])
+totals_with : (item place : ℕ) (items places : List ℕ) (bins rest : List (List ℕ)) → IsTakenFrom item place bins rest
+    → ((bin : ℕ) → bin_total bin items places ≤ sum (get_or rest bin [])) → (bin : ℕ) → bin_total bin (item ∷ items) (place ∷ places) ≤ sum (get_or bins bin [])
 totals_with item place items places bins rest taken totals bin = elim (cases_eq bin place) [
   | inl e ↦ omega (arith, bin_total_this bin place item items places e, totals bin, taken.here, ap (λ k. sum (get_or rest k [])) e, ap (λ k. sum (get_or bins k [])) e)
   | inr ne ↦ omega (arith, bin_total_other bin place item items places ne, totals bin, ap sum (taken.others bin ne))
@@ -147,7 +152,8 @@ assigned (item ∷ items) bins fewer =
     )
 
 -- a list of items that stand in bins of at most the capacity is packable
-pub Packable-from_bins : (game : GameNumbers) (bins : List (List ℕ)) (items : List ℕ) → All (IsSize game.capacity) items → length bins ≡ game.bins → All (λ bin. sum bin ≤ game.capacity) bins → ((x : ℕ) → count x items ≤ count x (concat bins)) → Packable game items
+pub Packable-from_bins : (game : GameNumbers) (bins : List (List ℕ)) (items : List ℕ) → All (IsSize game.capacity) items → length bins ≡ game.bins
+    → All (λ bin. sum bin ≤ game.capacity) bins → ((x : ℕ) → count x items ≤ count x (concat bins)) → Packable game items
 Packable-from_bins game bins items sizes one_each fits fewer =
     let r = assigned items bins fewer in (
       r.0,
@@ -163,92 +169,15 @@ pub Packable-from_packing : (game : GameNumbers) (bins : List (List ℕ)) (items
 Packable-from_packing game bins items sizes p =
     Packable-from_bins game bins items sizes p.one_each p.fits (λ x. omega (arith, p.together x))
 
--- the bins of an assignment: each item in the bin that its entry names
-unfoldable pub bins_of : ℕ → List ℕ → List ℕ → List (List ℕ)
-bins_of number [] places = replicate number []
-bins_of number (item ∷ items) [] = replicate number []
-bins_of number (item ∷ items) (place ∷ places) =
-    set (bins_of number items places) place (item ∷ get_or (bins_of number items places) place [])
-
-length_empties : (number : ℕ) → length (replicate {A = List ℕ} number []) ≡ number
-length_empties zero = refl
-length_empties (suc number) = ap suc (length_empties number)
-
-pub length-bins_of : (number : ℕ) (items places : List ℕ) → length (bins_of number items places) ≡ number
-unfolding bins_of
-length-bins_of number [] places = length_empties number
-length-bins_of number (item ∷ items) [] = length_empties number
-length-bins_of number (item ∷ items) (place ∷ places) =
-    length-set (bins_of number items places) place (item ∷ get_or (bins_of number items places) place []) ∙ length-bins_of number items places
-
-count_empties : (x number : ℕ) → sum_by (count x) (replicate number []) ≡ 0
-count_empties x zero = refl
-count_empties x (suc number) = omega (arith, sum_by-cons (count x) [] (replicate number []), count_empties x number)
-
-sum_empties : (number bin : ℕ) → sum (get_or (replicate number []) bin []) ≡ 0
-sum_empties zero bin = refl
-sum_empties (suc number) zero = refl
-sum_empties (suc number) (suc bin) = sum_empties number bin
-
-counts_of : (number : ℕ) (items places : List ℕ) → length places ≡ length items → All (λ place. place < number) places → (x : ℕ) → sum_by (count x) (bins_of number items places) ≡ count x items
-unfolding bins_of
-counts_of number [] places same within x = count_empties x number
-counts_of number (item ∷ items) [] same within x = absurd (omega (arith, same))
-counts_of number (item ∷ items) (place ∷ places) same within x =
-    let here : place < number = All-head (λ place. place < number) place places within in
-    let r = counts_of number items places (omega (arith, same)) (All-tail (λ place. place < number) place places within) x in
-    let bins : List (List ℕ) = bins_of number items places in
-    omega (arith, r, sum_by-set (count x) bins place (item ∷ get_or bins place []) [] (omega (arith, here, length-bins_of number items places)))
-
-sums_of : (number : ℕ) (items places : List ℕ) → length places ≡ length items → All (λ place. place < number) places → (bin : ℕ) → sum (get_or (bins_of number items places) bin []) ≡ bin_total bin items places
-unfolding bins_of
-sums_of number [] places same within bin = sum_empties number bin
-sums_of number (item ∷ items) [] same within bin = absurd (omega (arith, same))
-sums_of number (item ∷ items) (place ∷ places) same within bin =
-    let here : place < number = All-head (λ place. place < number) place places within in
-    let r = sums_of number items places (omega (arith, same)) (All-tail (λ place. place < number) place places within) bin in
-    let bins : List (List ℕ) = bins_of number items places in
-    elim (cases_eq bin place) [
-      | inl e ↦
-          let more = sum_by-cons (λ n. n) item (get_or bins place []) in
-          let set_here = get_or-set_same bins place (item ∷ get_or bins place []) [] (omega (arith, here, length-bins_of number items places)) in
-          omega (arith, r, more, ap sum set_here, bin_total_this bin place item items places e, ap (λ k. sum (get_or bins k [])) e, ap (λ k. sum (get_or (set bins place (item ∷ get_or bins place [])) k [])) e)
-      | inr ne ↦
-          let set_other = get_or-set_other bins place bin (item ∷ get_or bins place []) [] ne in
-          omega (arith, r, ap sum set_other, bin_total_other bin place item items places ne)
-    ]
-
--- the packing that an assignment makes
-pub IsPacking-bins_of : (game : GameNumbers) (items places : List ℕ) → IsAssignment game items places → IsPacking game (bins_of game.bins items places) items
-IsPacking-bins_of game items places a =
-    let bins : List (List ℕ) = bins_of game.bins items places in
-    record {
-      one_each = length-bins_of game.bins items places;
-      fits = λ bin d l. omega (arith, ap sum (get_or_default bins bin d [] l), sums_of game.bins items places a.one_each a.of_game bin, a.fits bin (omega (arith, l, length-bins_of game.bins items places)));
-      together = λ x. count-concat x bins ∙ counts_of game.bins items places a.one_each a.of_game x;
-    }
-
 pub packing-from_Packable : (game : GameNumbers) (items : List ℕ) → Packable game items → (bins : List (List ℕ)) × IsPacking game bins items
-packing-from_Packable game items p = (bins_of game.bins items p.0, IsPacking-bins_of game items p.0 p.1)
-
--- a number that stands in a list has what each number of the list has
-pub at_count : (P : ℕ → Type 0) (x : ℕ) (xs : List ℕ) → All P xs → 0 < count x xs → P x
-at_count P x [] all some = absurd (omega arith)
-at_count P x (y ∷ ys) all some = elim (cases_eq x y) [
-  | inl e ↦ subst P (sym e) (All-head P y ys all)
-  | inr ne ↦ at_count P x ys (All-tail P y ys all) (omega (arith, some, count_other x y (count x ys) ne))
-]
-
-pub all_from_counts : (P : ℕ → Type 0) (xs : List ℕ) → ((x : ℕ) → 0 < count x xs → P x) → All P xs
-all_from_counts P [] each = All-nil P
-all_from_counts P (x ∷ xs) each =
-    All-cons P x xs (each x (omega (arith, count_this x x (count x xs) refl))) (all_from_counts P xs (λ y some. each y (omega (arith, some))))
+packing-from_Packable game items p = (contents_of items p.0 game.bins, IsPacking-contents game items p.0 p.1)
 
 -- a list that has no item more often than a packable one is packable
 pub Packable-part : (game : GameNumbers) (part items : List ℕ) → ((x : ℕ) → count x part ≤ count x items) → Packable game items → Packable game part
 Packable-part game part items fewer p =
     let packing = packing-from_Packable game items p in
-    let sizes : All (IsSize game.capacity) part = all_from_counts (IsSize game.capacity) part (λ x some. at_count (IsSize game.capacity) x items p.1.item_list (omega (arith, some, fewer x))) in
+    let sizes : All (IsSize game.capacity) part = all_from_counts (IsSize game.capacity) part
+    (λ x some. at_count (IsSize game.capacity) x items p.1.item_list (omega (arith, some, fewer x))) in
     Packable-from_bins game packing.0 part sizes packing.1.one_each packing.1.fits (λ x. omega (arith, fewer x, packing.1.together x))
 
 pub Packable-Same : (game : GameNumbers) (xs ys : List ℕ) → Same xs ys → Packable game xs → Packable game ys
@@ -278,7 +207,8 @@ pub Packable-from_put_ascending : (game : GameNumbers) (items : List ℕ) (item 
 Packable-from_put_ascending game items item p = Packable-Same game (put_ascending item items) (items ++ item ∷ []) (λ x. sym (Same-push_put item items x)) p
 
 -- one item replaced by a smaller one
-total_smaller : (before after places : List ℕ) (larger smaller : ℕ) → smaller ≤ larger → (bin : ℕ) → bin_total bin (before ++ smaller ∷ after) places ≤ bin_total bin (before ++ larger ∷ after) places
+total_smaller : (before after places : List ℕ) (larger smaller : ℕ) → smaller ≤ larger → (bin : ℕ)
+    → bin_total bin (before ++ smaller ∷ after) places ≤ bin_total bin (before ++ larger ∷ after) places
 total_smaller [] after [] larger smaller le bin = omega arith
 total_smaller [] after (place ∷ places) larger smaller le bin = elim (cases_eq bin place) [
   | inl e ↦ omega (arith, bin_total_this bin place smaller after places e, bin_total_this bin place larger after places e)
@@ -287,14 +217,17 @@ total_smaller [] after (place ∷ places) larger smaller le bin = elim (cases_eq
 total_smaller (x ∷ before) after [] larger smaller le bin = omega arith
 total_smaller (x ∷ before) after (place ∷ places) larger smaller le bin = omega (arith, total_smaller before after places larger smaller le bin)
 
-sizes_smaller : (most : ℕ) (before after : List ℕ) (larger smaller : ℕ) → 1 ≤ smaller → smaller ≤ larger → All (IsSize most) (before ++ larger ∷ after) → All (IsSize most) (before ++ smaller ∷ after)
+sizes_smaller : (most : ℕ) (before after : List ℕ) (larger smaller : ℕ) → 1 ≤ smaller → smaller ≤ larger → All (IsSize most) (before ++ larger ∷ after)
+    → All (IsSize most) (before ++ smaller ∷ after)
 sizes_smaller most [] after larger smaller some le all =
     let size = All-head (IsSize most) larger after all in
     All-cons (IsSize most) smaller after (record { low = some; high = omega (arith, size.high) }) (All-tail (IsSize most) larger after all)
 sizes_smaller most (x ∷ before) after larger smaller some le all =
-    All-cons (IsSize most) x (before ++ smaller ∷ after) (All-head (IsSize most) x (before ++ larger ∷ after) all) (sizes_smaller most before after larger smaller some le (All-tail (IsSize most) x (before ++ larger ∷ after) all))
+    All-cons (IsSize most) x (before ++ smaller ∷ after) (All-head (IsSize most) x (before ++ larger ∷ after) all)
+    (sizes_smaller most before after larger smaller some le (All-tail (IsSize most) x (before ++ larger ∷ after) all))
 
-pub Packable-smaller : (game : GameNumbers) (before after : List ℕ) (larger smaller : ℕ) → 1 ≤ smaller → smaller ≤ larger → Packable game (before ++ larger ∷ after) → Packable game (before ++ smaller ∷ after)
+pub Packable-smaller : (game : GameNumbers) (before after : List ℕ) (larger smaller : ℕ) → 1 ≤ smaller → smaller ≤ larger → Packable game (before ++ larger ∷ after)
+    → Packable game (before ++ smaller ∷ after)
 Packable-smaller game before after larger smaller some le p = (
   p.0,
   record {
@@ -305,7 +238,8 @@ Packable-smaller game before after larger smaller some le p = (
   },
 )
 
-pub Packable-smaller_last : (game : GameNumbers) (items : List ℕ) (larger smaller : ℕ) → 1 ≤ smaller → smaller ≤ larger → Packable game (items ++ larger ∷ []) → Packable game (items ++ smaller ∷ [])
+pub Packable-smaller_last : (game : GameNumbers) (items : List ℕ) (larger smaller : ℕ) → 1 ≤ smaller → smaller ≤ larger → Packable game (items ++ larger ∷ [])
+    → Packable game (items ++ smaller ∷ [])
 Packable-smaller_last game items larger smaller some le p = Packable-smaller game items [] larger smaller some le p
 
 -- sums over lists that are joined
@@ -350,9 +284,16 @@ one_big capacity (x ∷ xs) l =
 pub count_big-Packable-le : (game : GameNumbers) (items : List ℕ) → Packable game items → count_by (is_big game.capacity) items ≤ game.bins
 count_big-Packable-le game items p =
     let packing = packing-from_Packable game items p in
-    let one : All (λ bin. count_by (is_big game.capacity) bin ≤ 1) packing.0 = All-weaker (λ bin. sum bin ≤ game.capacity) (λ bin. count_by (is_big game.capacity) bin ≤ 1) (one_big game.capacity) packing.0 packing.1.fits in
+    let one : All (λ bin. count_by (is_big game.capacity) bin ≤ 1) packing.0 = All-weaker (λ bin. sum bin ≤ game.capacity)
+    (λ bin. count_by (is_big game.capacity) bin ≤ 1) (one_big game.capacity) packing.0 packing.1.fits in
     let most = sum_by-le (count_by (is_big game.capacity)) 1 packing.0 one in
-    omega (arith, most, packing.1.one_each, sum_by-concat (λ y. cond (is_big game.capacity y) 1 0) packing.0, sum_by-Same (λ y. cond (is_big game.capacity y) 1 0) (concat packing.0) items packing.1.together)
+    omega (
+      arith,
+      most,
+      packing.1.one_each,
+      sum_by-concat (λ y. cond (is_big game.capacity y) 1 0) packing.0,
+      sum_by-Same (λ y. cond (is_big game.capacity y) 1 0) (concat packing.0) items packing.1.together,
+    )
 
 -- a packing of items is one of any list with the same items
 pub IsPacking-Same : (game : GameNumbers) (bins : List (List ℕ)) (xs ys : List ℕ) → Same xs ys → IsPacking game bins xs → IsPacking game bins ys

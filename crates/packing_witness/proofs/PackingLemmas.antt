@@ -12,7 +12,7 @@ use Rattle.items.specs.Multiset.{count, Same, IsSize}
 use Rattle.items.specs.Packable.{Packable, IsPacking, IsRoom}
 use Rattle.items.proofs.MultisetLemmas.{count-append, count_this, sum_by-Same}
 use Rattle.packing_witness.specs.Edits.{without, scaled}
-use Rattle.packing_witness.proofs.CountLemmas.{count-concat}
+use Rattle.items.proofs.MemberLemmas.{count-concat}
 use Rattle.packing_witness.proofs.PackableLemmas.{at_count, first_out_none, without_here, IsTakenFrom, Packable-smaller_last}
 
 -- nothing is taken out where no bin has the item, and only there
@@ -32,13 +32,15 @@ none_from_without item bins e = elim (cases_lt 0 (count item (concat bins))) [
 -- what is left of bins is no fuller
 fits_without : (most item place : ℕ) (bins rest : List (List ℕ)) → IsTakenFrom item place bins rest → All (λ bin. sum bin ≤ most) bins → All (λ bin. sum bin ≤ most) rest
 fits_without most item place bins rest taken fits =
-    All-from_get_or (λ bin. sum bin ≤ most) rest [] (λ k l. let fit = All-get_or (λ bin. sum bin ≤ most) bins k [] (omega (arith, l, taken.one_each)) fits in elim (cases_eq k place) [
+    All-from_get_or (λ bin. sum bin ≤ most) rest []
+    (λ k l. let fit = All-get_or (λ bin. sum bin ≤ most) bins k [] (omega (arith, l, taken.one_each)) fits in elim (cases_eq k place) [
       | inl e ↦ omega (arith, fit, taken.here, ap (λ n. sum (get_or rest n [])) e, ap (λ n. sum (get_or bins n [])) e)
       | inr ne ↦ omega (arith, fit, ap sum (taken.others k ne))
     ])
 
 -- a packing without one of its items is a packing of the others
-pub IsPacking-without : (game : GameNumbers) (items others : List ℕ) (item : ℕ) (bins rest : List (List ℕ)) → ((x : ℕ) → cond (eqb x item) 1 0 + count x others ≡ count x items) → IsPacking game bins items → without item bins ≡ Some rest → IsPacking game rest others
+pub IsPacking-without : (game : GameNumbers) (items others : List ℕ) (item : ℕ) (bins rest : List (List ℕ))
+    → ((x : ℕ) → cond (eqb x item) 1 0 + count x others ≡ count x items) → IsPacking game bins items → without item bins ≡ Some rest → IsPacking game rest others
 IsPacking-without game items others item bins rest one_more p e =
     let some : 0 < count item (concat bins) = omega (arith, p.together item, one_more item, count_this item item (count item others) refl) in
     let t = without_here item bins some in
@@ -50,12 +52,14 @@ IsPacking-without game items others item bins rest one_more p e =
       together = λ x. omega (arith, t.2.counts x, p.together x, one_more x);
     })
 
-pub IsPacking-without_last : (game : GameNumbers) (items : List ℕ) (item : ℕ) (bins rest : List (List ℕ)) → IsPacking game bins (items ++ item ∷ []) → without item bins ≡ Some rest → IsPacking game rest items
+pub IsPacking-without_last : (game : GameNumbers) (items : List ℕ) (item : ℕ) (bins rest : List (List ℕ)) → IsPacking game bins (items ++ item ∷ [])
+    → without item bins ≡ Some rest → IsPacking game rest items
 IsPacking-without_last game items item bins rest p e =
     IsPacking-without game (items ++ item ∷ []) items item bins rest (λ x. omega (arith, count-append x items (item ∷ []))) p e
 
 -- an item of a packing can be taken out
-pub without_some : (game : GameNumbers) (items : List ℕ) (item : ℕ) (bins : List (List ℕ)) → IsPacking game bins items → 0 < count item items → (rest : List (List ℕ)) × (without item bins ≡ Some rest)
+pub without_some : (game : GameNumbers) (items : List ℕ) (item : ℕ) (bins : List (List ℕ)) → IsPacking game bins items → 0 < count item items → (rest : List (List ℕ))
+    × (without item bins ≡ Some rest)
 without_some game items item bins p some =
     let t = without_here item bins (omega (arith, some, p.together item)) in (t.0, t.2.is)
 
@@ -81,10 +85,12 @@ Same-map : (f : ℕ → ℕ) (xs ys : List ℕ) → Same xs ys → Same (map f x
 Same-map f xs ys s x = count-map f x xs ∙ sum_by-Same (λ y. cond (eqb x (f y)) 1 0) xs ys s ∙ sym (count-map f x ys)
 
 -- a packing on another scale
-pub IsPacking-scaled : (game : GameNumbers) (items : List ℕ) (factor : ℕ) (bins : List (List ℕ)) → IsPacking game bins items → IsPacking (numbers game.bins (game.capacity * factor) (game.target * factor)) (scaled factor bins) (map (λ size. size * factor) items)
+pub IsPacking-scaled : (game : GameNumbers) (items : List ℕ) (factor : ℕ) (bins : List (List ℕ)) → IsPacking game bins items
+    → IsPacking (numbers game.bins (game.capacity * factor) (game.target * factor)) (scaled factor bins) (map (λ size. size * factor) items)
 IsPacking-scaled game items factor bins p = record {
   one_each = length-map bins (map (λ size. size * factor)) ∙ p.one_each;
-  fits = All-map (λ bin. sum bin ≤ game.capacity * factor) (map (λ size. size * factor)) bins (All-weaker (λ bin. sum bin ≤ game.capacity) (λ bin. sum (map (λ size. size * factor) bin) ≤ game.capacity * factor) (bin_times factor game.capacity) bins p.fits);
+  fits = All-map (λ bin. sum bin ≤ game.capacity * factor) (map (λ size. size * factor)) bins
+      (All-weaker (λ bin. sum bin ≤ game.capacity) (λ bin. sum (map (λ size. size * factor) bin) ≤ game.capacity * factor) (bin_times factor game.capacity) bins p.fits);
   together = λ x. ap (count x) (concat-map (λ size. size * factor) bins) ∙ Same-map (λ size. size * factor) (concat bins) items p.together x;
 }
 

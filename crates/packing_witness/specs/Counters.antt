@@ -1,3 +1,4 @@
+-- Serves private contracts: what is left of the items while bins are taken out of them.
 use Rattle.std.specs.Prelude.{◌≡◌, ℕ, ◌+◌, ◌<◌, ◌≤◌, List, slice_index, sum, ◌⊎◌, All}
 use Rattle.std.specs.List.{concat}
 use Rattle.items.specs.Multiset.{count}

@@ -13,12 +13,14 @@ SublistsArePackable =
 -- a list that has no item more often than a packable one is packable
 abbrev pub PartsArePackable : Type 0
 PartsArePackable =
-    (game : GameNumbers) (part items : List ℕ) → ((x : ℕ) → count x part ≤ count x items) → Packable game items → Packable game part
+    (game : GameNumbers) (part items : List ℕ) → ((x : ℕ) → count x part ≤ count x items) → Packable game items
+    → Packable game part
 
 -- a packable list stays packable when one of its items gets smaller
 abbrev pub SmallerItemsFit : Type 0
 SmallerItemsFit =
-    (game : GameNumbers) (before after : List ℕ) (larger smaller : ℕ) → 1 ≤ smaller → smaller ≤ larger → Packable game (before ++ larger ∷ after) → Packable game (before ++ smaller ∷ after)
+    (game : GameNumbers) (before after : List ℕ) (larger smaller : ℕ) → 1 ≤ smaller → smaller ≤ larger
+    → Packable game (before ++ larger ∷ after) → Packable game (before ++ smaller ∷ after)
 
 -- whether a list is packable does not depend on its order
 abbrev pub OrderDoesNotMatter : Type 0
@@ -40,12 +42,14 @@ BigItemsNeedABinEach =
 -- a list of items has a packing exactly where it has an assignment
 abbrev pub PackingsAreAssignments : Type 0
 PackingsAreAssignments =
-    (game : GameNumbers) (items : List ℕ) → All (IsSize game.capacity) items → ((bins : List (List ℕ)) × IsPacking game bins items) ↔ Packable game items
+    (game : GameNumbers) (items : List ℕ) → All (IsSize game.capacity) items
+    → ((bins : List (List ℕ)) × IsPacking game bins items) ↔ Packable game items
 
 -- the sizes that may come next are those from 1 to the room
 abbrev pub SizesUpToTheRoomMayCome : Type 0
 SizesUpToTheRoomMayCome =
-    (game : GameNumbers) (items : List ℕ) (room size : ℕ) → IsRoom game items room → Packable game (items ++ size ∷ []) ↔ ((1 ≤ size) × (size ≤ room))
+    (game : GameNumbers) (items : List ℕ) (room size : ℕ) → IsRoom game items room
+    → Packable game (items ++ size ∷ []) ↔ ((1 ≤ size) × (size ≤ room))
 
 -- nothing is taken out exactly where no bin has the item
 abbrev pub NothingIsTakenOut : Type 0
@@ -55,9 +59,12 @@ NothingIsTakenOut =
 -- a packing of items and one more is a packing of the items when that one is taken out
 abbrev pub TakenOutLeavesAPacking : Type 0
 TakenOutLeavesAPacking =
-    (game : GameNumbers) (items : List ℕ) (item : ℕ) (bins rest : List (List ℕ)) → IsPacking game bins (items ++ item ∷ []) → without item bins ≡ Some rest → IsPacking game rest items
+    (game : GameNumbers) (items : List ℕ) (item : ℕ) (bins rest : List (List ℕ))
+    → IsPacking game bins (items ++ item ∷ []) → without item bins ≡ Some rest → IsPacking game rest items
 
 -- a packing times a factor is a packing of the items times it, in bins of the capacity times it
 abbrev pub PackingsScale : Type 0
 PackingsScale =
-    (game : GameNumbers) (items : List ℕ) (factor : ℕ) (bins : List (List ℕ)) → IsPacking game bins items → IsPacking (numbers game.bins (game.capacity * factor) (game.target * factor)) (scaled factor bins) (map (λ size. size * factor) items)
+    (game : GameNumbers) (items : List ℕ) (factor : ℕ) (bins : List (List ℕ)) → IsPacking game bins items
+    → IsPacking (numbers game.bins (game.capacity * factor) (game.target * factor)) (scaled factor bins)
+    (map (λ size. size * factor) items)

@@ -2,3 +2,4 @@ pub mod Counters
 pub mod Edits
 pub mod Sublist
 pub mod Laws
+pub mod Contents

@@ -5,15 +5,15 @@ ghost use Rattle.std.specs.Bool.{OnTrue, OnFalse};
 ghost use Rattle.items.specs.Multiset.{count};
 ghost use Rattle.packing_witness.specs.Counters.{TakesOut, CannotTakeOut, Empties};
 
-use items::{Items, Nums};
+use items::{Items, MOST_SIZE, Nums};
 
-/// A counter for each size up to 120, and one for 0.
-pub const COUNTERS: usize = 121;
+/// A counter for each size, and one for 0.
+pub const COUNTERS: usize = MOST_SIZE as usize + 1;
 
 /// Takes a bin's items out of what is left. False where the bin sums to more than `most`, or has an
 /// item that is not left.
 pub fn take_bin(left: &mut [u16; COUNTERS], bin: &[u16], most: u16) -> bool
-    requires { most ≤ 120 }
+    requires { most ≤ MOST_SIZE }
     ensures taken { OnTrue result (TakesOut most left.old left.new bin.now) }
     ensures refused { OnFalse result (CannotTakeOut most left.old bin.now) }
 {
@@ -44,7 +44,7 @@ pub fn counters_of(items: &Items) -> [u16; COUNTERS]
 
 /// Whether bins of at most `most` each take out all that is left, and no more.
 pub fn empties(left: &mut [u16; COUNTERS], bins: &[Nums], most: u16) -> bool
-    requires { most ≤ 120 }
+    requires { most ≤ MOST_SIZE }
     ensures exact { IsTrue result ↔ Empties most left.old bins.now }
 {
     for bin in bins {

@@ -3,7 +3,7 @@
 ghost use Rattle.std.specs.Prelude.{◌≡◌, ◌*◌, ◌≤◌, ◌++◌, map, IfOk, OnOk, All};
 ghost use Rattle.packing_witness.specs.Edits.{first_out};
 
-use items::Nums;
+use items::{MOST_NUMBER, Nums};
 use std::alloc::AllocError;
 
 /// The bin when its first such number is taken out; None exactly where it has none.
@@ -23,7 +23,7 @@ pub fn first_out(bin: &Nums, item: u16) -> Result<Option<Nums>, AllocError>
 
 /// Each number of a bin times a factor.
 pub fn times(bin: &Nums, c: u16) -> Result<Nums, AllocError>
-    requires { All (λ size. size * c ≤ 65535) bin.now }
+    requires { All (λ size. size * c ≤ MOST_NUMBER) bin.now }
     ensures exact { IfOk result (λ made. made ≡ map (λ size. size * c) bin.now) }
 {
     let mut made = Nums::new(bin.allocator());

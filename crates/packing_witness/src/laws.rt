@@ -1,6 +1,9 @@
 //! Laws on packable lists and their packings, as contracts of functions that do nothing.
 
-ghost use Rattle.packing_witness.specs.Laws.{SublistsArePackable, PartsArePackable, OrderDoesNotMatter, SmallerItemsFit, TotalsFit, ItemsFit, BigItemsNeedABinEach, PackingsAreAssignments, SizesUpToTheRoomMayCome, NothingIsTakenOut, TakenOutLeavesAPacking, PackingsScale};
+ghost use Rattle.packing_witness.specs.Laws.{SublistsArePackable, PartsArePackable, OrderDoesNotMatter};
+ghost use Rattle.packing_witness.specs.Laws.{SmallerItemsFit, TotalsFit, ItemsFit, BigItemsNeedABinEach};
+ghost use Rattle.packing_witness.specs.Laws.{PackingsAreAssignments, SizesUpToTheRoomMayCome};
+ghost use Rattle.packing_witness.specs.Laws.{NothingIsTakenOut, TakenOutLeavesAPacking, PackingsScale};
 
 /// A packable list stays packable when some of its items are left out, in whatever order the others stand.
 pub fn sublists_are_packable()

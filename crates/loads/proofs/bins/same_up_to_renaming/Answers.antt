@@ -3,7 +3,7 @@ use Rattle.std.proofs.lemmas.Bool.{false≢true}
 use Rattle.items.proofs.MultisetLemmas.{length-Same}
 use Rattle.std.specs.Prelude.{All, IsTrue, ◌↔◌}
 use Rattle.items.specs.Multiset.{count}
-use Rattle.loads.proofs.CountLemmas.{Same-from_members}
+use Rattle.items.proofs.MemberLemmas.{Same-from_members}
 use Rattle.loads.proofs.bins.same_up_to_renaming.Goals as goal
 
 pub returns-then-all_as_often : goal.returns-then-all_as_often

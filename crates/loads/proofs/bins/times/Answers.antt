@@ -1,6 +1,6 @@
 use Rattle.std.proofs.Common.{rules, ◌≡◌, eqb, sym, ◌∙◌}
 use Rattle.std.specs.Prelude.{count_by}
-use Rattle.loads.proofs.CountLemmas.{count-count_by}
+use Rattle.items.proofs.MemberLemmas.{count-count_by}
 use Rattle.loads.proofs.bins.times.Goals as goal
 
 pub returns : goal.returns

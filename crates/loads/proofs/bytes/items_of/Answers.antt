@@ -14,6 +14,6 @@ loop-size-preserved c =
     let next = get_or c.args.sizes.now c.loop-size.size-index 0 in
     let put = c.put.ensures.added ∙ ap (λ s. put_ascending s c.loop-size.items) c.from.ensures in
     record {
-      so_far = put ∙ take-put_ascending 120 c.loop-size.size-index c.args.sizes.now c.loop-size.items c.loop-size.invariant.so_far c.loop-size.invariant.multiset c.loop-size-test.true (follows d);
+      so_far = put ∙ take-put_ascending 120 _ _ _ c.loop-size.invariant.so_far c.loop-size.invariant.multiset c.loop-size-test.true (follows d);
       multiset = rw put (IsMultiset-put_ascending 120 next c.loop-size.items c.loop-size.invariant.multiset (follows d));
     }

@@ -5,7 +5,8 @@ use Rattle.items.specs.Multiset.{count, IsMultiset}
 use Rattle.items.proofs.SameLemmas.{count_no_size}
 use Rattle.packing_witness.proofs.counters.counters_of.Goals as goal
 
-all_counted : (items counters : List ℕ) → length counters ≡ 121 → slice_index counters 0 ≡ 0 → IsMultiset 120 items → ((k : ℕ) → 1 ≤ k → k < 121 → slice_index counters k ≡ count k items) → (size : ℕ) → slice_index counters size ≡ count size items
+all_counted : (items counters : List ℕ) → length counters ≡ 121 → slice_index counters 0 ≡ 0 → IsMultiset 120 items
+    → ((k : ℕ) → 1 ≤ k → k < 121 → slice_index counters k ≡ count k items) → (size : ℕ) → slice_index counters size ≡ count size items
 all_counted items counters len zero multiset counted size =
     ⊎_elim
     (λ (low : size < 1). let e : size ≡ 0 = omega arith in rw e (zero ∙ sym (count_no_size 120 0 items multiset.sizes (inl (omega arith)))))

@@ -3,7 +3,7 @@ use Rattle.std.proofs.lemmas.List.{get_or-set_same, get_or-set_other}
 use Rattle.std.proofs.lemmas.List.Sums.{sum_by_more, sum_by-take-le, get_or-le-sum_by}
 use Rattle.std.proofs.lemmas.Bool.{cases_eq}
 use Rattle.packing_witness.specs.Counters.{CannotTakeOut, AreCountedDown}
-use Rattle.packing_witness.proofs.CountLemmas.{count_more, count-take-le, mark_same, mark_other}
+use Rattle.items.proofs.MemberLemmas.{count_more, count-take-le, mark_same, mark_other}
 use Rattle.packing_witness.proofs.counters.take_bin.Goals as goal
 use Rattle.packing_witness.proofs.counters.take_bin.Goals.{then-item-most-via-then-item-most, then-item-most-via-else-item-most+then-left-item-eq0}
 
@@ -19,7 +19,8 @@ too_much : (most : ℕ) (old bin : List ℕ) (i total : ℕ) → i < length bin 
 too_much most old bin i total l e h =
     inl (omega (arith, sum_by_more (λ x. x) bin i 0 l, sum_by-take-le (λ x. x) bin (i + 1)))
 
-counted_down : (old left bin : List ℕ) (i : ℕ) → i < length bin → AreCountedDown old left (take i bin) → get_or bin i 0 < length left → get_or left (get_or bin i 0) 0 ≢ 0 → AreCountedDown old (set left (get_or bin i 0) (get_or left (get_or bin i 0) 0 - 1)) (take (i + 1) bin)
+counted_down : (old left bin : List ℕ) (i : ℕ) → i < length bin → AreCountedDown old left (take i bin) → get_or bin i 0 < length left → get_or left (get_or bin i 0) 0 ≢ 0
+    → AreCountedDown old (set left (get_or bin i 0) (get_or left (get_or bin i 0) 0 - 1)) (take (i + 1) bin)
 counted_down old left bin i l h within some size =
     let x : ℕ = get_or bin i 0 in
     let v : ℕ = get_or left (get_or bin i 0) 0 - 1 in
@@ -32,7 +33,8 @@ pub returns-then-item-most-clause-refused : goal.returns-then-item-most-clause-r
 returns-then-item-most-clause-refused c =
     elim c.then-item-most.branch [
       | then-item-most-via-then-item-most w ↦ too_large _ _ _ c.loop-item.item-index (omega arith) (omega arith)
-      | then-item-most-via-else-item-most+then-left-item-eq0 w ↦ none_left _ _ c.loop-item.left _ c.loop-item.item-index (omega arith) c.loop-item.invariant.3 w.if-left-item-eq0.true
+      | then-item-most-via-else-item-most+then-left-item-eq0 w ↦ none_left _ _ c.loop-item.left _ c.loop-item.item-index
+          (omega arith) c.loop-item.invariant.3 w.if-left-item-eq0.true
     ]
 
 pub returns-then-total-most-clause-refused : goal.returns-then-total-most-clause-refused

@@ -26,6 +26,7 @@ invariant_of-self-2 c =
 pub returns-clause-ok : goal.returns-clause-ok
 returns-clause-ok c =
     let d = (goal.at.returns-clause-ok c).After-push_reserved in
-    let put : positions_in d.extend_from_slice.new.self.items d.push_reserved.new.self.items ≡ positions_in d.self.inside.bytes.items d.self.inside.ends.items ++ position_in d.in_ok-packed.packed.items ∷ [] =
+    let put : positions_in d.extend_from_slice.new.self.items d.push_reserved.new.self.items
+    ≡ positions_in d.self.inside.bytes.items d.self.inside.ends.items ++ position_in d.in_ok-packed.packed.items ∷ [] =
     rw (bytes_after d, ends_after d) (positions_in-push d.self.inside.bytes.items d.in_ok-packed.packed.items d.self.inside.ends.items d.len.result d.self.invariant (total d)) in
     put ∙ ap (λ positions. positions ++ position_in d.in_ok-packed.packed.items ∷ []) d.self.view_is ∙ ap (λ last. d.args.self.now ++ last ∷ []) d.in_ok-packed.ensures.value
