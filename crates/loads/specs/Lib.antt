@@ -3,3 +3,4 @@ pub mod Loads
 pub mod Position
 pub mod Packed
 pub mod After
+pub mod Wins
