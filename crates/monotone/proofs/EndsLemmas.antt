@@ -9,7 +9,8 @@ use Rattle.items.specs.Multiset.{sizes_of}
 use Rattle.loads.specs.declared.position.Position.{Position}
 use Rattle.loads.specs.After.{after}
 use Rattle.monotone.specs.declared.path.PathMove.{PathMove}
-use Rattle.monotone.specs.Paths.{IsLegalFrom, IsLegalPath, position_after, start_of}
+use Rattle.loads.specs.Wins.{empty_position}
+use Rattle.monotone.specs.Paths.{IsLegalFrom, IsLegalPath, position_after}
 use Rattle.monotone.specs.Passes.{allowed_in}
 use Rattle.monotone.specs.Positions.{IsEnd, AreEnds, CountsEnds, CountsEndsOfPass, CountsAllEnds}
 use Rattle.monotone.proofs.ListLemmas.{Contains-first, Contains-later, Contains-nothing, Contains-split, Contains-map, from_map, AllPairs-cons, length-le-members}
@@ -107,30 +108,30 @@ module _ (test : List PathMove → Bool) where
 -- the positions at which legal paths end, written out
 module _ (game : GameNumbers) (allowed : List ℕ → ℕ → Bool) where
   unfoldable pub legal_paths : List (List PathMove)
-  legal_paths = filter (is_legal_from game allowed (start_of game)) (paths_of game)
+  legal_paths = filter (is_legal_from game allowed (empty_position game)) (paths_of game)
 
   legal_path_there : (path : List PathMove) → IsLegalPath game allowed path → Contains legal_paths path
   unfolding legal_paths
   legal_path_there path h =
-      kept (is_legal_from game allowed (start_of game)) (paths_of game) path (legal_in_paths_of game allowed path h) ((path_told game allowed (start_of game) path).1 h)
+      kept (is_legal_from game allowed (empty_position game)) (paths_of game) path (legal_in_paths_of game allowed path h) ((path_told game allowed (empty_position game) path).1 h)
 
   legal_if_there : (path : List PathMove) → Contains legal_paths path → IsLegalPath game allowed path
   unfolding legal_paths
   legal_if_there path c =
-      (path_told game allowed (start_of game) path).0 (passed (is_legal_from game allowed (start_of game)) (paths_of game) path c)
+      (path_told game allowed (empty_position game) path).0 (passed (is_legal_from game allowed (empty_position game)) (paths_of game) path c)
 
   unfoldable pub ends : List Position
-  ends = each_once (map (position_after (start_of game)) legal_paths)
+  ends = each_once (map (position_after (empty_position game)) legal_paths)
 
   pub AreEnds-ends : AreEnds game allowed ends
   unfolding ends
   AreEnds-ends =
-      let all = map (position_after (start_of game)) legal_paths in
+      let all = map (position_after (empty_position game)) legal_paths in
       let h = IsOnceOf-each_once all in
       record {
         exact = λ p. (
-          λ c. let r = from_map (position_after (start_of game)) legal_paths p ((h.keeps p).0 c) in (r.0, legal_if_there r.0 r.1, sym r.2),
-          λ e. (h.keeps p).1 (subst (Contains all) (sym e.2) (Contains-map (position_after (start_of game)) legal_paths e.0 (legal_path_there e.0 e.1))),
+          λ c. let r = from_map (position_after (empty_position game)) legal_paths p ((h.keeps p).0 c) in (r.0, legal_if_there r.0 r.1, sym r.2),
+          λ e. (h.keeps p).1 (subst (Contains all) (sym e.2) (Contains-map (position_after (empty_position game)) legal_paths e.0 (legal_path_there e.0 e.1))),
         );
         once = h.once;
       }
@@ -163,7 +164,7 @@ pub last_pass_has_most : (game : GameNumbers) (pass number all : ℕ) → pass <
 last_pass_has_most game pass number all below (ends, h, e) most =
     let sizes = sizes_of game in
     let last = game.capacity - 1 in
-    let more = legal_in_more game (allowed_in sizes pass) (allowed_in sizes last) (λ items size. allowed_later sizes items pass last size (omega (arith, below))) (start_of game) in
+    let more = legal_in_more game (allowed_in sizes pass) (allowed_in sizes last) (λ items size. allowed_later sizes items pass last size (omega (arith, below))) (empty_position game) in
     let each : All (IsEnd game (allowed_in sizes last)) ends = λ k d l.
     let is = (h.exact (get_or ends k d)).0 (Contains-get_or ends k d l) in
     (is.0, more is.0 is.1, is.2) in

@@ -12,7 +12,8 @@ use Rattle.loads.specs.After.{after}
 use Rattle.loads.specs.Loads.{loads_after}
 use Rattle.loads.proofs.LoadsLemmas.{length-loads_after}
 use Rattle.monotone.specs.declared.path.PathMove.{PathMove}
-use Rattle.monotone.specs.Paths.{moved, IsLegalFrom, IsLegalPath, start_of}
+use Rattle.loads.specs.Wins.{empty_position}
+use Rattle.monotone.specs.Paths.{moved, IsLegalFrom, IsLegalPath}
 use Rattle.monotone.proofs.ListLemmas.{Contains-first, Contains-flat_map, Contains-map, length-flat_map-same}
 use Rattle.monotone.proofs.PathLemmas.{volume_of, positive_item, volume-le-bins}
 
@@ -95,4 +96,4 @@ length-paths_of game =
 pub legal_in_paths_of : (game : GameNumbers) (allowed : List ℕ → ℕ → Bool) (path : List PathMove) → IsLegalPath game allowed path → Contains (paths_of game) path
 unfolding paths_of
 legal_in_paths_of game allowed path h =
-    within (game.bins * game.capacity) (replicate game.bins 0) path (HasItsLoads-legal game allowed (start_of game) path h) (volume-le-bins game allowed path h)
+    within (game.bins * game.capacity) (replicate game.bins 0) path (HasItsLoads-legal game allowed (empty_position game) path h) (volume-le-bins game allowed path h)

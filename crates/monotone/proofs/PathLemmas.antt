@@ -10,7 +10,8 @@ use Rattle.loads.specs.After.{after}
 use Rattle.packing_witness.proofs.PackableLemmas.{Packable-put_ascending, sum-Packable-le}
 use Rattle.packing_witness.proofs.PackingLemmas.{size_of_last}
 use Rattle.monotone.specs.declared.path.PathMove.{PathMove}
-use Rattle.monotone.specs.Paths.{IsLegalMove, IsLegalFrom, IsLegalPath, position_after, start_of}
+use Rattle.loads.specs.Wins.{empty_position}
+use Rattle.monotone.specs.Paths.{IsLegalMove, IsLegalFrom, IsLegalPath, position_after}
 
 pub position_after-push : (start : Position) (path : List PathMove) (step : PathMove) → position_after start (path ++ step ∷ []) ≡ after (position_after start path) step.load step.item
 position_after-push start [] step = refl
@@ -57,8 +58,8 @@ Packable-nil game = (
 module _ (game : GameNumbers) (allowed : List ℕ → ℕ → Bool) where
   pub volume-le-bins : (path : List PathMove) → IsLegalPath game allowed path → volume_of path ≤ game.bins * game.capacity
   volume-le-bins path h =
-      let packable = Packable-legal game allowed (start_of game) path (Packable-nil game) h in
-      omega (arith, sum-Packable-le game _ packable, sum-position_after (start_of game) path)
+      let packable = Packable-legal game allowed (empty_position game) path (Packable-nil game) h in
+      omega (arith, sum-Packable-le game _ packable, sum-position_after (empty_position game) path)
 
   -- each item is at least 1
   pub positive_item : (position : Position) (step : PathMove) → IsLegalMove game allowed position step → 1 ≤ step.item

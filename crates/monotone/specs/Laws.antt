@@ -5,7 +5,8 @@ use Rattle.items.specs.Multiset.{largest_of, IsSize}
 use Rattle.loads.specs.After.{after}
 use Rattle.loads.specs.declared.position.Position.{Position}
 use Rattle.monotone.specs.declared.path.PathMove.{PathMove}
-use Rattle.monotone.specs.Paths.{IsLegalFrom, IsLegalPath, IsLegalMove, ComesBefore, position_after, start_of}
+use Rattle.loads.specs.Wins.{empty_position}
+use Rattle.monotone.specs.Paths.{IsLegalFrom, IsLegalPath, IsLegalMove, ComesBefore, position_after}
 use Rattle.monotone.specs.Passes.{SearchSpace, allowed_in}
 use Rattle.monotone.specs.Visits.{Visit, IsVisit, IsEarlierVisit, Metered, CountsVisits, HasVisitsBefore, IsLater}
 use Rattle.monotone.specs.Visits.{unused, counted, most_visits}
@@ -60,7 +61,7 @@ OneMoreMove =
 abbrev pub LegalPathsAreShort : Type 0
 LegalPathsAreShort =
     (game : GameNumbers) (allowed : List ℕ → ℕ → Bool) (path : List PathMove) → IsLegalPath game allowed path
-    → let items = (position_after (start_of game) path).items in
+    → let items = (position_after (empty_position game) path).items in
     (length path ≤ sum items) × (sum items ≤ game.bins * game.capacity)
 
 -- visits of which none is there twice are at most so many

@@ -1,8 +1,9 @@
-use Rattle.std.specs.Prelude.{◌≡◌, ℕ, ◌+◌, ◌<◌, ◌⊎◌, Bool, IsTrue, List, [], ◌∷◌, ◌++◌, replicate, Contains}
+use Rattle.std.specs.Prelude.{◌≡◌, ℕ, ◌+◌, ◌<◌, ◌⊎◌, Bool, IsTrue, List, [], ◌∷◌, ◌++◌, Contains}
 use Rattle.items.specs.Game.{GameNumbers}
 use Rattle.items.specs.Packable.{Packable}
 use Rattle.loads.specs.declared.position.Position.{Position}
 use Rattle.loads.specs.After.{after}
+use Rattle.loads.specs.Wins.{empty_position}
 use Rattle.monotone.specs.declared.path.PathMove.{PathMove}
 
 -- the move of an item of this size to a bin of this load
@@ -18,10 +19,6 @@ abbrev pub ComesBefore : List PathMove → List PathMove → Type 0
 ComesBefore first [] = ⊥
 ComesBefore [] (b ∷ second) = Unit {0}
 ComesBefore (a ∷ first) (b ∷ second) = IsEarlierMove a b ⊎ ((a ≡ b) × ComesBefore first second)
-
--- the position before the first item
-abbrev pub start_of : GameNumbers → Position
-start_of game = record { loads = replicate game.bins 0; items = [] }
 
 -- the position after the moves of a path
 abbrev pub position_after : Position → List PathMove → Position
@@ -44,4 +41,4 @@ IsLegalFrom game allowed position (step ∷ path) =
 
 -- each move is legal, from the position before the first item on
 abbrev pub IsLegalPath : GameNumbers → (List ℕ → ℕ → Bool) → List PathMove → Type 0
-IsLegalPath game allowed path = IsLegalFrom game allowed (start_of game) path
+IsLegalPath game allowed path = IsLegalFrom game allowed (empty_position game) path

@@ -3,13 +3,14 @@ use Rattle.items.specs.Game.{GameNumbers}
 use Rattle.items.specs.Multiset.{sizes_of}
 use Rattle.loads.specs.declared.position.Position.{Position}
 use Rattle.monotone.specs.declared.path.PathMove.{PathMove}
-use Rattle.monotone.specs.Paths.{IsLegalPath, position_after, start_of}
+use Rattle.loads.specs.Wins.{empty_position}
+use Rattle.monotone.specs.Paths.{IsLegalPath, position_after}
 use Rattle.monotone.specs.Passes.{allowed_in}
 
 -- a legal path ends at the position
 abbrev pub IsEnd : GameNumbers → (List ℕ → ℕ → Bool) → Position → Type 0
 IsEnd game allowed position =
-    (path : List PathMove) × IsLegalPath game allowed path × (position ≡ position_after (start_of game) path)
+    (path : List PathMove) × IsLegalPath game allowed path × (position ≡ position_after (empty_position game) path)
 
 -- the positions at which legal paths end, each once
 pub record AreEnds (game : GameNumbers) (allowed : List ℕ → ℕ → Bool) (positions : List Position) : Type 0 where
