@@ -1,0 +1,4 @@
+pub mod LookupLemmas
+pub mod ClockLemmas
+pub mod DropLemmas
+pub mod RoomLemmas

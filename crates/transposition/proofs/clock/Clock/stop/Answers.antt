@@ -1,0 +1,23 @@
+use Rattle.std.proofs.Common.{◌≡◌, ◌<◌, false, length, set, ap, ◌∙◌, subst, arith}
+use Rattle.std.proofs.lemmas.Grind.{common_steps}
+use Rattle.transposition.specs.Clock.{next_place}
+use Rattle.transposition.proofs.ClockLemmas.{IsOnTheWay, at_the_start, read_mark, fewer_left, one_more_on}
+use Rattle.transposition.proofs.clock.Clock.stop.Goals as goal
+
+pub loop-self-init : goal.loop-self-init
+loop-self-init c =
+    let marks = c.self.inside.marks.items in
+    let some : 0 < length marks = rw (← c.self.view_is) at c.requires in
+    subst (λ before. IsOnTheWay before marks c.self.inside.hand) c.self.view_is (at_the_start marks c.self.inside.hand c.self.invariant some)
+
+pub loop-self-smaller : goal.loop-self-smaller
+loop-self-smaller c =
+    fewer_left c.loop-self.self-inside.marks.items c.loop-self.self-inside.hand c.index.result.now c.loop-self.invariant.within c.index.ensures c.loop-self-test.true
+
+pub loop-self-preserved : goal.loop-self-preserved
+loop-self-preserved c =
+    let marks = c.loop-self.self-inside.marks.items in
+    let hand = c.loop-self.self-inside.hand in
+    let is = read_mark marks hand c.index.result.now c.loop-self.invariant.within c.index.ensures c.loop-self-test.true in
+    let number : c.len.result ≡ length (set marks hand false) = grind (arith, common_steps) in
+    one_more_on c.args.self.now marks hand c.following-self-inside.result c.loop-self.invariant is (c.following-self-inside.ensures ∙ ap (λ n. next_place n hand) number)

@@ -1,0 +1,4 @@
+pub mod Bounded
+pub mod Clock
+pub mod Memo
+pub mod Laws

@@ -1,0 +1,119 @@
+//! A table of bounded size in which a hand goes round and drops an entry that was not used of late.
+
+ghost use Rattle.std.specs.Prelude.{◌≡◌, ◌<◌, ◌≤◌, ◌+◌, [], IsSome, IsOk, OnOk, OnErr, None, length};
+ghost use Rattle.transposition.specs.Clock.{Drops};
+ghost use Rattle.indexmap.specs.IndexMap.{spare};
+ghost use Rattle.transposition.specs.Bounded.{bounded, found, IsBoundedMap, SameEntries, Puts, PutsForOther};
+
+use crate::clock::Clock;
+use indexmap::IndexMap;
+use std::alloc::{AllocError, Global};
+use std::hash::Hash;
+use std::marker::Model;
+
+/// A map of at most so many entries. Each entry has a mark, which a look-up sets. At capacity a hand goes round the
+/// entries, clears marks and drops the first entry without one for a new key. Memory is taken as entries come.
+/// Clauses see the entries and the capacity.
+#[derive(Drop)]
+pub struct ClockTable<K: Eq + Hash, V> {
+    map: IndexMap<K, V>,
+    clock: Clock,
+    capacity: usize,
+}
+
+impl<K: Eq + Hash, V> Model for ClockTable<K, V> {
+    ghost use Rattle.std.specs.Prelude.{◌≡◌, ◌≤◌, length};
+    ghost use Rattle.transposition.specs.Bounded.{Bounded, bounded};
+
+    ghost Value = { Bounded K V };
+
+    ghost view = { λ a. bounded a.map.entries a.capacity };
+
+    ghost invariant = { λ a. (length a.clock.marks ≡ length a.map.entries) × (length a.map.entries ≤ a.capacity)
+        × (1 ≤ a.capacity) };
+}
+
+impl<K: Eq + Hash + Drop, V: Copy + Drop> ClockTable<K, V> {
+    /// A table without entries. Takes no memory.
+    pub fn new(alloc: Global, capacity: usize) -> Self
+        requires { 1 ≤ capacity }
+        ensures empty { result ≡ bounded [] capacity }
+    {
+        ClockTable {
+            map: IndexMap::new(alloc),
+            clock: Clock::new(alloc),
+            capacity,
+        }
+    }
+
+    /// How many entries there may be.
+    pub fn capacity(&self) -> usize
+        ensures value { result ≡ self.now.capacity }
+    {
+        self.capacity
+    }
+
+    /// How many entries there are.
+    pub fn len(&self) -> usize
+        ensures value { result ≡ length self.now.entries }
+        ensures valid { IsBoundedMap K.eq self.now }
+    {
+        self.map.len()
+    }
+
+    /// The value of the key's entry; None exactly where it has none. Takes no memory.
+    pub fn get(&mut self, key: &K) -> Option<V>
+        ensures value { result ≡ found K.eq self.old.entries key.now }
+        ensures same { SameEntries K.eq self.old.entries self.new.entries }
+        ensures capacity { self.new.capacity ≡ self.old.capacity }
+    {
+        let (place, _, value) = self.map.get_full(key)?;
+        let value = *value;
+        self.clock.mark(place);
+        Some(value)
+    }
+
+    /// Puts a value at a key. A key that is there keeps its entry, takes the value, takes no memory and cannot fail.
+    /// A new key adds an entry, and at capacity one other entry is dropped. Where memory is refused, the entries stay.
+    pub fn put(&mut self, key: K, value: V) -> Result<(), AllocError>
+        ensures present { IsSome (found K.eq self.old.entries key)
+            → IsOk result × Puts K.eq self.old.entries self.new.entries key value 0 }
+        ensures below { OnOk result (found K.eq self.old.entries key ≡ None
+            → length self.old.entries < self.old.capacity
+            → Puts K.eq self.old.entries self.new.entries key value 1) }
+        ensures full { OnOk result (found K.eq self.old.entries key ≡ None
+            → self.old.capacity ≤ length self.old.entries
+            → (dropped : K) × PutsForOther K.eq self.old.entries self.new.entries key value dropped) }
+        ensures err { OnErr result (SameEntries K.eq self.old.entries self.new.entries) }
+        ensures capacity { self.new.capacity ≡ self.old.capacity }
+    {
+        if self.map.contains_key(&key) {
+            self.map.insert(key, value).unwrap();
+            return Ok(());
+        }
+        self.map.reserve(1)?;
+        if self.map.len() < self.capacity {
+            self.clock.add()?;
+            self.map.insert(key, value).unwrap();
+            return Ok(());
+        }
+        drop_one(&mut self.map, &mut self.clock);
+        self.map.insert(key, value).unwrap();
+        Ok(())
+    }
+}
+
+// Drops the entry at which the hand stops. The last entry takes its place, and the last mark is that of a new entry.
+fn drop_one<K: Eq + Hash + Drop, V: Drop>(map: &mut IndexMap<K, V>, clock: &mut Clock)
+    requires some { 0 < length map.old.entries }
+    requires marks { length clock.old.marks ≡ length map.old.entries }
+    ensures dropped { (dropped : K) × Drops K.eq map.old.entries map.new.entries dropped }
+    ensures number { length map.new.entries + 1 ≡ length map.old.entries }
+    ensures marks { length clock.new.marks ≡ length clock.old.marks }
+    ensures room { spare map.old ≤ spare map.new }
+{
+    prove!(map.len() > 0);
+    let place = clock.stop();
+    map.swap_remove_index(place);
+    clock.replace();
+}
