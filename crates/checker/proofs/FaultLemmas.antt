@@ -279,16 +279,14 @@ past_fault n line why.Syntax rest h = (h.0, refl, h.1)
 past_fault n line (why.Rule rule) rest h = absurd h
 
 -- the lines of a whole text
-pub lines_of_text : Head → List AnyNode → List (List ℕ)
+abbrev pub lines_of_text : Head → List AnyNode → List (List ℕ)
 lines_of_text head nodes = lines_of_head head ++ node_lines 0 nodes ++ end_line ∷ []
 
 length-lines_of_text : (head : Head) (nodes : List AnyNode) → length (lines_of_text head nodes) ≡ 5 + length nodes
-unfolding lines_of_text
 length-lines_of_text head nodes = omega (arith, length-append (lines_of_head head) (node_lines 0 nodes ++ end_line ∷ []), length_push (node_lines 0 nodes) end_line, length-node_lines 0 nodes)
 
 -- where a whole text stands first, no line up to its last has a fault
 pub Faultless-text : (wanted : Wanted) (head : Head) (nodes : List AnyNode) (bytes rest : List ℕ) → IsHead wanted head → AreJudged head nodes → length nodes ≡ head.count → StandFirst (lines_of_text head nodes) bytes rest → Faultless wanted bytes (head.start + head.count + 1)
-unfolding lines_of_text
 Faultless-text wanted head nodes bytes rest is judged all stood =
     let s = stands_from wanted head nodes (end_line ∷ []) bytes rest is judged stood in
     let get : slice_get (lines_of_text head nodes) (4 + (length (node_lines 0 nodes) + 0)) ≡ Some end_line = after_get (lines_of_head head) (node_lines 0 nodes ++ end_line ∷ []) (length (node_lines 0 nodes) + 0) end_line (after_get (node_lines 0 nodes) (end_line ∷ []) 0 end_line refl) in
@@ -296,7 +294,6 @@ Faultless-text wanted head nodes bytes rest is judged all stood =
     Faultless-body wanted bytes (head.start + head.count + 1) head nodes s.has s.stand judged.each (λ k low past. omega (arith, all)) (λ past. end) (λ past. absurd (omega arith))
 
 pub exit_past : (wanted : Wanted) (head : Head) (nodes : List AnyNode) (fault : CheckFault) (old : ReaderState) (left new_left : Option (List ℕ)) → IsHead wanted head → AreJudged head nodes → length nodes ≡ head.count → RefusesAfter (lines_of_text head nodes) (IsPastEnd (head.start + head.count + 1)) fault old left new_left → IsFaultOf wanted old.held fault left new_left
-unfolding lines_of_text
 exit_past wanted head nodes fault old left new_left is judged all r =
     let place : length (lines_of_text head nodes) + 1 ≡ head.start + head.count + 1 = omega (arith, length-lines_of_text head nodes, is.start, all) in
     conclude wanted (lines_of_text head nodes) (IsPastEnd (head.start + head.count + 1)) fault old left new_left

@@ -3,3 +3,4 @@ pub mod ProgressLemmas
 pub mod HeadLemmas
 pub mod NodeLemmas
 pub mod FaultLemmas
+pub mod TextLemmas

@@ -8,14 +8,14 @@ use Rattle.std.proofs.lemmas.Grind.{flat_map-append}
 use Rattle.port_io.specs.Lines.{ReaderState, HasNoLf, IsLine, with_lf, StandsNext, to_come, line_given}
 use Rattle.port_io.specs.Reading.{ReadsOn}
 use Rattle.port_io.specs.declared.lines.Line.{Line}
-use Rattle.port_io.specs.declared.lines.Line.TheVariants.{Text, End}
+use Rattle.port_io.specs.declared.lines.Line.TheVariants.{Text, End, TooLong, Unfinished}
 use Rattle.port_io.specs.declared.sources.Failed.{Failed}
 use Rattle.port_io.proofs.NextLemmas.{with_lf-only, StandsNext-only}
 use Rattle.port_io.proofs.ToldLemmas.{prepend_known-prepend, prepend_known-nil}
 use Rattle.strategy_text.specs.Text.{text_of_lines}
 use Rattle.strategy_text.specs.declared.rule.Rule.{Rule}
 use Rattle.checker.specs.Accepted.{IsGone}
-use Rattle.checker.specs.Progress.{StandFirst, ReadsLines, HasNext, IsWrongNext, IsWrongAfter, RefusesAfter, RefusesNext, IsRefusedLine, IsPastEnd, AnyLine, NoRule}
+use Rattle.checker.specs.Progress.{StandFirst, ReadsLines, HasNext, IsWrongNext, IsWrongAfter, RefusesAfter, RefusesNext, IsRefusedLine, IsPastEnd, AnyLine, NoRule, ReadsEnd}
 use Rattle.checker.specs.declared.fault.CheckFault.{CheckFault}
 use Rattle.checker.specs.declared.fault.CheckFault.TheVariants.{Rejected, Read, Memory}
 use Rattle.checker.specs.declared.fault.Why.{Why}
@@ -237,3 +237,60 @@ both_ways false e f = absurd cc
 pub err_so : {X : Type 0} (P Q : CheckFault → Type 0) (result : Result X CheckFault) → ((fault : CheckFault) → P fault → Q fault) → IfErr result P → IfErr result Q
 err_so P Q (Ok x) h k = tt
 err_so P Q (Err fault) h k = h fault k
+
+-- the line after those that were given was refused
+pub RefusesNext-after : (given : List (List ℕ)) (Wrong : CheckFault → List ℕ → Type 0) (fault : CheckFault) (old mid : ReaderState) (left mid_left new_left : Option (List ℕ)) → ReadsLines given old mid left mid_left → RefusesAfter [] Wrong fault mid mid_left new_left → RefusesAfter given Wrong fault old left new_left
+RefusesNext-after given Wrong fault old mid left mid_left new_left a b =
+    subst (λ (lines : List (List ℕ)). RefusesAfter lines Wrong fault old left new_left) (append-nil given) (RefusesAfter-then given [] Wrong fault old mid left mid_left new_left a b)
+
+-- ---- the end of the input
+
+front_nil : (xs ys : List ℕ) → xs ++ ys ≡ [] → xs ≡ []
+front_nil [] ys e = refl
+front_nil (x ∷ xs) ys e = absurd cc
+
+-- bytes stood where the input is to end
+pub refuses_past : (number : ℕ) (other : Line) (text : List ℕ) (old new : ReaderState) (left new_left : Option (List ℕ)) → (other ≡ End → ⊥) → ReadsOn old.held (line_given {E = Failed} (Ok other) text ++ new.held) left new_left → StandsNext other (line_given {E = Failed} (Ok other) text ++ new.held) → RefusesAfter [] (IsPastEnd number) (Rejected number why.Syntax) old left new_left
+refuses_past number other text old new left new_left differs reads shown =
+    let some : (old.held ++ reads.0 ≡ [] → ⊥) = λ none. differs (StandsNext-only other End (old.held ++ reads.0) (subst (StandsNext other) reads.1 shown) none) in
+    record {
+      read = reads.0;
+      gone = reads.2;
+      in_hand = (old.held ++ reads.0, StandFirst-none (old.held ++ reads.0), (refl, some));
+      in_all = told_all (λ bytes. IsWrongAfter [] (IsPastEnd number) (Rejected number why.Syntax) (old.held ++ bytes)) left (λ bytes e.
+          let s = told_split bytes reads.0 new_left (sym e ∙ reads.2) in
+          (old.held ++ bytes, StandFirst-none (old.held ++ bytes), (refl, λ none. some (front_nil (old.held ++ reads.0) s.0 (append_assoc old.held reads.0 s.0 ∙ ap (λ (more : List ℕ). old.held ++ more) (sym s.2) ∙ none)))));
+      no_line = λ e. absurd (not_read number why.Syntax e);
+    }
+
+-- a read failed where the input is to end
+pub past_read : (number : ℕ) (old new : ReaderState) (left new_left : Option (List ℕ)) → ReadsOn old.held new.held left new_left → HasNoLf new.held → RefusesAfter [] (IsPastEnd number) Read old left new_left
+past_read number old new left new_left reads none = record {
+  read = reads.0;
+  gone = reads.2;
+  in_hand = (old.held ++ reads.0, StandFirst-none (old.held ++ reads.0), tt);
+  in_all = told_all (λ bytes. IsWrongAfter [] (IsPastEnd number) Read (old.held ++ bytes)) left (λ bytes e. (old.held ++ bytes, StandFirst-none (old.held ++ bytes), tt));
+  no_line = λ e. (old.held ++ reads.0, StandFirst-none (old.held ++ reads.0), subst HasNoLf reads.1 none);
+}
+
+nil_parts : (xs ys : List ℕ) → xs ++ ys ≡ [] → (xs ≡ []) × (ys ≡ [])
+nil_parts [] ys e = (refl, e)
+nil_parts (x ∷ xs) ys e = absurd cc
+
+-- the input ended
+pub reads_end : (text : List ℕ) (old new : ReaderState) (left new_left : Option (List ℕ)) → ReadsOn old.held (line_given {E = Failed} (Ok End) text ++ new.held) left new_left → StandsNext End (line_given {E = Failed} (Ok End) text ++ new.held) → IfSome (to_come old left) (StandsNext End) → ReadsEnd old left new_left
+reads_end text old new left new_left reads shown answer =
+    let parts = nil_parts old.held reads.0 (sym reads.1 ∙ shown) in
+    record {
+      held = parts.0;
+      gone = subst (λ (read : List ℕ). IsGone read left new_left) parts.1 reads.2;
+      whole = told_all (λ rest. rest ≡ []) new_left (λ rest e.
+          let all : left ≡ Some (reads.0 ++ rest) = reads.2 ∙ ap (prepend_known reads.0) e in
+          (nil_parts reads.0 rest (nil_parts old.held (reads.0 ++ rest) (told_at (StandsNext End) (to_come old left) (old.held ++ (reads.0 ++ rest)) answer (ap (prepend_known old.held) all))).1).1);
+    }
+
+pub ended : (other : Line) (text : List ℕ) (old new : ReaderState) (left new_left : Option (List ℕ)) → other ≡ End → ReadsOn old.held (line_given {E = Failed} (Ok other) text ++ new.held) left new_left → StandsNext other (line_given {E = Failed} (Ok other) text ++ new.held) → IfSome (to_come old left) (StandsNext other) → ReadsEnd old left new_left
+ended End text old new left new_left e reads shown answer = reads_end text old new left new_left reads shown answer
+ended Text text old new left new_left e reads shown answer = absurd cc
+ended TooLong text old new left new_left e reads shown answer = absurd cc
+ended Unfinished text old new left new_left e reads shown answer = absurd cc

@@ -26,11 +26,15 @@ pub record Spells (wanted : Wanted) (strategy : Strategy) (held new_held : List 
 abbrev pub IsReadWhole : Option (List ℕ) → Type 0
 IsReadWhole new_left = IfSome new_left (λ rest. rest ≡ [])
 
+-- the strategy is legal and of a wanted side; the bytes that were read are its text, and all bytes were read
+pub record Loads (wanted : Wanted) (strategy : Strategy) (left new_left : Option (List ℕ)) : Type 0 where
+  pub spells : Spells wanted strategy [] [] left new_left
+  pub whole : IsReadWhole new_left
+
 -- a legal strategy of a wanted side stands after the answer, with its game, its side and its number of nodes; where the source tells its bytes, they are the strategy's text, and all of them were read
 pub record Accepts (wanted : Wanted) (accepted : Accepted) (left new_left : Option (List ℕ)) : Type 0 where
   pub strategy : Strategy
-  pub spells : Spells wanted strategy [] [] left new_left
-  pub whole : IsReadWhole new_left
+  pub loads : Loads wanted strategy left new_left
   pub game : accepted.game ≡ strategy.game
   pub side : accepted.side ≡ side_of strategy.nodes
   pub number : accepted.nodes ≡ length (nodes_of strategy.nodes)

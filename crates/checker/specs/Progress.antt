@@ -1,5 +1,5 @@
 -- Private: how far a check has come.
-use Rattle.std.specs.Prelude.{◌≡◌, ◌≢◌, ◌==◌, ℕ, ◌+◌, ◌<◌, ◌≤◌, List, [], ◌∷◌, ◌++◌, length, All, Option, None, Some, IfSome, map, slice_get}
+use Rattle.std.specs.Prelude.{◌≡◌, ◌≢◌, ◌==◌, ℕ, ◌+◌, ◌<◌, ◌≤◌, List, [], ◌∷◌, ◌++◌, length, All, Option, None, Some, IfSome, map, slice_get, Result, Ok, Err}
 use Rattle.port_io.specs.Lines.{ReaderState, HasNoLf, IsLine, with_lf}
 use Rattle.items.specs.Game.{GameNumbers, IsGame}
 use Rattle.items.specs.Multiset.{sizes_of}
@@ -7,7 +7,9 @@ use Rattle.loads.specs.declared.position.Position.{Position}
 use Rattle.strategy_text.specs.Spelling.{SpellsGame, most_nodes}
 use Rattle.strategy_text.specs.Text.{AnyNode, of_adversary, of_algorithm, node_line, node_lines, first_line, game_line, side_line, count_line, head_lines, end_line, text_of_lines}
 use Rattle.strategy_text.specs.declared.node.Format.{Format}
+use Rattle.strategy_text.specs.declared.node.Nodes.{Nodes}
 use Rattle.strategy_text.specs.declared.node.Side.{Side}
+use Rattle.strategy_text.specs.declared.node.Strategy.{Strategy}
 use Rattle.strategy_text.specs.declared.rule.Rule.{Rule}
 use Rattle.strategy_text.specs.declared.rule.Rule.TheVariants as rules
 use Rattle.checker.specs.declared.head.Head as declared
@@ -165,3 +167,12 @@ pub record ReadsEnd (old : ReaderState) (left new_left : Option (List ℕ)) : Ty
   pub held : old.held ≡ []
   pub gone : IsGone [] left new_left
   pub whole : IsReadWhole new_left
+
+-- the strategy of a head that was read and of nodes
+abbrev pub strategy_of_parts : declared.Head → Nodes → Strategy
+strategy_of_parts head nodes = record { format = head.format; game = head.game; nodes = nodes }
+
+-- the same, or why there is none
+abbrev pub strategy_or : Result declared.Head CheckFault → Nodes → Result Strategy CheckFault
+strategy_or (Ok head) nodes = Ok (strategy_of_parts head nodes)
+strategy_or (Err fault) nodes = Err fault

@@ -7,4 +7,4 @@ mod node;
 mod reading;
 
 pub use fault::{Accepted, CheckFault, Wanted, Why};
-pub use reading::check;
+pub use reading::{check, load, load_from};

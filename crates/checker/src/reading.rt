@@ -5,9 +5,9 @@ ghost use Rattle.port_io.specs.Faults.{Rose};
 ghost use Rattle.port_io.specs.declared.lines.Line.TheVariants.{End};
 ghost use Rattle.strategy_text.specs.Spelling.{most_nodes};
 ghost use Rattle.strategy_text.specs.Text.{AnyNode, end_line, nodes_of, side_of};
-ghost use Rattle.checker.specs.Accepted.{Accepts, Spells, IsFaultOf, IsReadWhole};
+ghost use Rattle.checker.specs.Accepted.{Accepts, Loads, Spells, IsFaultOf};
 ghost use Rattle.checker.specs.Head.{side_of_node};
-ghost use Rattle.checker.specs.Progress.{any_node, ReadsLines, ReadsNodes, ReadsText, ReadsEnd, RefusesNext, RefusesAfter, RefusesNode, IsPastEnd, NoRule, IsHead, told_by};
+ghost use Rattle.checker.specs.Progress.{any_node, ReadsLines, ReadsNodes, ReadsText, ReadsEnd, RefusesNext, RefusesAfter, RefusesNode, IsPastEnd, NoRule, told_by, strategy_or, strategy_of_parts};
 ghost use Rattle.checker.specs.declared.fault.CheckFault.TheVariants.{Read};
 ghost use Rattle.checker.specs.declared.fault.Wanted.TheVariants.{Either};
 
@@ -40,15 +40,15 @@ fn judge_nodes<S: Source>(
     Ok(())
 }
 
-// No nodes of a side.
-fn no_nodes(alloc: Global, side: Side) -> Nodes
-    ensures none { nodes_of result ≡ [] }
-    ensures side { side_of result ≡ side }
+// Takes the nodes away, and begins with none of a side.
+fn begin(nodes: &mut Nodes, alloc: Global, side: Side)
+    ensures none { nodes_of nodes.new ≡ [] }
+    ensures side { side_of nodes.new ≡ side }
 {
-    match side {
+    *nodes = match side {
         Side::Adversary => Nodes::Adversary(AdvNodes::new(alloc)),
         Side::Algorithm => Nodes::Algorithm(AlgNodes::new(alloc)),
-    }
+    };
 }
 
 // Puts a node of the same side after the others.
@@ -70,22 +70,24 @@ fn keep_nodes<S: Source>(
     lines: &mut LineReader,
     source: &mut S,
     head: &Head,
-) -> Result<Nodes, CheckFault>
+    nodes: &mut Nodes,
+) -> Result<(), CheckFault>
     requires open_still { lines.old.ending ≡ None }
     requires most { head.now.count ≤ most_nodes }
+    requires none { nodes_of nodes.old ≡ [] }
+    requires side { side_of nodes.old ≡ head.now.side }
     ensures count { S.faults source.old ≤ S.faults source.new }
-    ensures ok { IfOk result (λ nodes. ReadsNodes (told_by head.now) (nodes_of nodes) lines.old lines.new (S.left source.old) (S.left source.new)) }
-    ensures side { IfOk result (λ nodes. side_of nodes ≡ head.now.side) }
+    ensures ok { OnOk result (ReadsNodes (told_by head.now) (nodes_of nodes.new) lines.old lines.new (S.left source.old) (S.left source.new)) }
+    ensures side { OnOk result (side_of nodes.new ≡ head.now.side) }
     ensures read { result ≡ Err Read → Rose (S.faults source.old) (S.faults source.new) }
     ensures refused { IfErr result (λ fault. RefusesNode (told_by head.now) fault lines.old (S.left source.old) (S.left source.new)) }
 {
     let mut positions = PackedPositions::new(alloc);
-    let mut nodes = no_nodes(alloc, head.side);
     for k in 0..head.count {
         let node = read_node(alloc, lines, source, head, &mut positions)?;
-        keep(&mut nodes, node)?;
+        keep(nodes, node)?;
     }
-    Ok(nodes)
+    Ok(())
 }
 
 // Reads the last line.
@@ -153,6 +155,108 @@ fn judge_text<S: Source>(
     judge_nodes(alloc, lines, source, &head)?;
     read_end(lines, source, 5 + u64::from(head.count))?;
     Ok(head)
+}
+
+// Reads and judges a text up to its last line, and keeps its nodes.
+fn keep_text<S: Source>(
+    alloc: Global,
+    lines: &mut LineReader,
+    source: &mut S,
+    wanted: Wanted,
+    nodes: &mut Nodes,
+) -> Result<Head, CheckFault>
+    requires { lines.old.ending ≡ None }
+    ensures count { S.faults source.old ≤ S.faults source.new }
+    ensures ok { IfOk result (λ head. ReadsText wanted (told_by head) (nodes_of nodes.new) lines.old lines.new (S.left source.old) (S.left source.new)) }
+    ensures side { IfOk result (λ head. side_of nodes.new ≡ head.side) }
+    ensures read { result ≡ Err Read → Rose (S.faults source.old) (S.faults source.new) }
+    ensures refused { IfErr result (λ fault. IsFaultOf wanted lines.old.held fault (S.left source.old) (S.left source.new)) }
+{
+    let head = read_head(lines, source, wanted)?;
+    begin(nodes, alloc, head.side);
+    keep_nodes(alloc, lines, source, &head, nodes)?;
+    read_end(lines, source, 5 + u64::from(head.count))?;
+    Ok(head)
+}
+
+// The strategy of a head and its nodes.
+fn strategy_of(read: Result<Head, CheckFault>, nodes: Nodes) -> Result<Strategy, CheckFault>
+    ensures { result ≡ strategy_or read nodes }
+{
+    match read {
+        Ok(head) => Ok(Strategy {
+            format: head.format,
+            game: head.game,
+            nodes,
+        }),
+        Err(fault) => Err(fault),
+    }
+}
+
+/// Reads the lines of a strategy of a wanted side that come next, up to its last line and no further, judges each
+/// node as soon as its line is whole, and gives the strategy. The cost is that of [`check`], and the nodes are kept.
+///
+/// # Errors
+///
+/// The first fault of the bytes in hand, at the least line that has one; a failed read; or memory that was refused.
+pub fn load_from<S: Source>(
+    alloc: Global,
+    lines: &mut LineReader,
+    source: &mut S,
+    wanted: Wanted,
+) -> Result<Strategy, CheckFault>
+    requires open_still { lines.old.ending ≡ None }
+    ensures count { S.faults source.old ≤ S.faults source.new }
+    ensures loaded { IfOk result (λ strategy. Spells wanted strategy lines.old.held lines.new.held (S.left source.old) (S.left source.new)) }
+    ensures open { OnOk result (lines.new.ending ≡ None) }
+    ensures read { result ≡ Err Read → Rose (S.faults source.old) (S.faults source.new) }
+    ensures fault { IfErr result (λ fault. IsFaultOf wanted lines.old.held fault (S.left source.old) (S.left source.new)) }
+{
+    let mut nodes = Nodes::Adversary(AdvNodes::new(alloc));
+    let read = keep_text(alloc, lines, source, wanted, &mut nodes);
+    strategy_of(read, nodes)
+}
+
+// Reads and judges a text up to its last line, sees that the input ends there, and keeps its nodes.
+fn load_text<S: Source>(
+    alloc: Global,
+    lines: &mut LineReader,
+    source: &mut S,
+    wanted: Wanted,
+    nodes: &mut Nodes,
+) -> Result<Head, CheckFault>
+    requires open_still { lines.old.ending ≡ None }
+    requires fresh { lines.old.held ≡ [] }
+    ensures count { S.faults source.old ≤ S.faults source.new }
+    ensures ok { IfOk result (λ head. Loads wanted (strategy_of_parts head nodes.new) (S.left source.old) (S.left source.new)) }
+    ensures read { result ≡ Err Read → Rose (S.faults source.old) (S.faults source.new) }
+    ensures fault { IfErr result (λ fault. IsFaultOf wanted [] fault (S.left source.old) (S.left source.new)) }
+{
+    let head = keep_text(alloc, lines, source, wanted, nodes)?;
+    read_past(lines, source, 6 + u64::from(head.count))?;
+    Ok(head)
+}
+
+/// Reads the text of a strategy of a wanted side to its end, judges each node as soon as its line is whole, and
+/// gives the strategy. The cost is that of [`check`], and the nodes are kept.
+///
+/// # Errors
+///
+/// The first fault of the bytes read, at the least line that has one; a failed read; or memory that was refused.
+pub fn load<S: Source>(
+    alloc: Global,
+    source: &mut S,
+    wanted: Wanted,
+) -> Result<Strategy, CheckFault>
+    ensures count { S.faults source.old ≤ S.faults source.new }
+    ensures loaded { IfOk result (λ strategy. Loads wanted strategy (S.left source.old) (S.left source.new)) }
+    ensures read { result ≡ Err Read → Rose (S.faults source.old) (S.faults source.new) }
+    ensures fault { IfErr result (λ fault. IsFaultOf wanted [] fault (S.left source.old) (S.left source.new)) }
+{
+    let mut lines = LineReader::new(alloc)?;
+    let mut nodes = Nodes::Adversary(AdvNodes::new(alloc));
+    let read = load_text(alloc, &mut lines, source, wanted, &mut nodes);
+    strategy_of(read, nodes)
 }
 
 /// Reads the text of a strategy of either side to its end, and judges each node as soon as its line is whole. The

@@ -1,0 +1,178 @@
+-- A whole text that was read is that of a legal strategy.
+use Rattle.std.proofs.Common.{◌≡◌, ◌==◌, ℕ, suc, zero, ◌+◌, ◌<◌, ◌≤◌, List, [], ◌∷◌, ◌++◌, length, take, map, get_or, All, Option, Some, None, sym, ap, ◌∙◌, subst, refl, arith, append_assoc, IfSome}
+use Rattle.std.specs.Prelude.{Result, Ok, Err, IfOk}
+use Rattle.std.specs.Io.KnownBytes.{prepend_known}
+use Rattle.std.specs.List.{slice_get}
+use Rattle.std.proofs.Math.Seq.{take-length}
+use Rattle.std.proofs.lemmas.List.{length-map, append-nil}
+use Rattle.std.proofs.lemmas.List.Elements.{All-cons, All-nil}
+use Rattle.std.proofs.lemmas.Option.{slice_get-get_or}
+use Rattle.port_io.specs.Lines.{ReaderState}
+use Rattle.port_io.proofs.ToldLemmas.{prepend_known-prepend, prepend_known-nil}
+use Rattle.items.specs.Game.{GameNumbers}
+use Rattle.items.specs.Multiset.{sizes_of}
+use Rattle.loads.specs.declared.position.Position.{Position}
+use Rattle.strategy_text.specs.Spelling.{IsSpellableAdversary, IsSpellableAlgorithm, IsStep, IsAct, most_nodes}
+use Rattle.strategy_text.specs.Text.{AnyNode, of_adversary, of_algorithm, node_line, node_lines, nodes_of, side_of, end_line, head_lines, text_of, text_of_lines}
+use Rattle.strategy_text.specs.declared.node.Act.{Act}
+use Rattle.strategy_text.specs.declared.node.Act.TheVariants.{Finish, Big, Reply}
+use Rattle.strategy_text.specs.declared.node.AdvNode.{AdvNode}
+use Rattle.strategy_text.specs.declared.node.AlgNode.{AlgNode}
+use Rattle.strategy_text.specs.declared.node.Format.{Format}
+use Rattle.strategy_text.specs.declared.node.Format.TheVariants.{One, Two}
+use Rattle.strategy_text.specs.declared.node.Nodes.{Nodes}
+use Rattle.strategy_text.specs.declared.node.Nodes.TheVariants as nodes
+use Rattle.strategy_text.specs.declared.node.Side.{Side}
+use Rattle.strategy_text.specs.declared.node.Side.TheVariants.{Adversary, Algorithm}
+use Rattle.strategy_text.specs.declared.node.Step.{Step}
+use Rattle.strategy_text.specs.declared.node.Step.TheVariants.{Send, Burst}
+use Rattle.strategy_text.specs.declared.node.Strategy.{Strategy}
+use Rattle.adversary_graph.specs.Legal as adversary_legal
+use Rattle.adversary_graph.specs.Nodes as adversary_nodes
+use Rattle.algorithm_graph.specs.Legal as algorithm_legal
+use Rattle.algorithm_graph.specs.Nodes as algorithm_nodes
+use Rattle.checker.specs.Accepted.{Spells, Loads, Accepts, IsFaultOf}
+use Rattle.checker.specs.FirstFault.{IsWanted}
+use Rattle.checker.specs.Head.{Head, position_of, side_of_node, SpellsUnder, MeetsRules, EachMeetsRules, AreLegalNodes, IsLegal}
+use Rattle.checker.specs.Progress.{ReadsText, ReadsEnd, RefusesAfter, IsPastEnd, IsHead, AreJudged, strategy_or, told_by}
+use Rattle.checker.specs.declared.fault.Accepted.{Accepted}
+use Rattle.checker.specs.declared.head.Head as declared
+use Rattle.checker.specs.declared.fault.CheckFault.{CheckFault}
+use Rattle.checker.specs.declared.fault.CheckFault.TheVariants.{Memory}
+use Rattle.checker.specs.declared.fault.Wanted.{Wanted}
+use Rattle.checker.proofs.FaultLemmas.{exit_past, lines_of_text}
+use Rattle.checker.proofs.ProgressLemmas.{RefusesNext-after}
+
+-- ---- nodes of one side
+
+map_get : {X Y : Type 0} (f : X → Y) (xs : List X) (k : ℕ) (x : X) → slice_get xs k ≡ Some x → slice_get (map f xs) k ≡ Some (f x)
+map_get f [] k x e = let none : None ≡ Some x = e in absurd cc
+map_get f (y ∷ ys) zero x e = let same : y ≡ x = cc in ap (λ z. Some (f z)) same
+map_get f (y ∷ ys) (suc k) x e = map_get f ys k x e
+
+adversary_positions : (k : ℕ) (list : List AdvNode) → map position_of (take k (map of_adversary list)) ≡ map adversary_nodes.position_of (take k list)
+adversary_positions zero [] = refl
+adversary_positions zero (node ∷ list) = refl
+adversary_positions (suc k) [] = refl
+adversary_positions (suc k) (node ∷ list) = ap (λ ps. adversary_nodes.position_of node ∷ ps) (adversary_positions k list)
+
+algorithm_positions : (k : ℕ) (list : List AlgNode) → map position_of (take k (map of_algorithm list)) ≡ map algorithm_nodes.position_of (take k list)
+algorithm_positions zero [] = refl
+algorithm_positions zero (node ∷ list) = refl
+algorithm_positions (suc k) [] = refl
+algorithm_positions (suc k) (node ∷ list) = ap (λ ps. algorithm_nodes.position_of node ∷ ps) (algorithm_positions k list)
+
+adversary_each : (head : Head) (list : List AdvNode) → EachMeetsRules head (map of_adversary list) → adversary_legal.EachMeetsRules head.format head.game head.sizes head.count list
+unfolding EachMeetsRules adversary_legal.EachMeetsRules
+adversary_each head list each k node e =
+    subst (λ (ps : List Position). MeetsRules head ps (k + 1 == head.count) (of_adversary node)) (adversary_positions k list) (each k (of_adversary node) (map_get of_adversary list k node e))
+
+algorithm_each : (head : Head) (list : List AlgNode) → EachMeetsRules head (map of_algorithm list) → algorithm_legal.EachMeetsRules head.game head.sizes head.count list
+unfolding EachMeetsRules algorithm_legal.EachMeetsRules
+algorithm_each head list each k node e =
+    subst (λ (ps : List Position). MeetsRules head ps (k + 1 == head.count) (of_algorithm node)) (algorithm_positions k list) (each k (of_algorithm node) (map_get of_algorithm list k node e))
+
+step_formed : (format : Format) (step : Step) → IsStep format step → adversary_nodes.IsOfFormat format step
+step_formed One (Send size pack placements) h = tt
+step_formed One (Burst number size pack) h = let two : One ≡ Two = h.second in absurd cc
+step_formed Two step h = tt
+
+act_formed : (format : Format) (act : Act) → IsAct format act → algorithm_nodes.IsOfFormat format act
+act_formed One Finish h = tt
+act_formed One (Big b) h = let two : One ≡ Two = h.second in absurd cc
+act_formed One (Reply entries) h = tt
+act_formed Two act h = tt
+
+-- nodes that were judged under a head are legal
+pub legal_from : (wanted : Wanted) (head : Head) (kept : Nodes) → IsHead wanted head → length (nodes_of kept) ≡ head.count → AreJudged head (nodes_of kept) → AreLegalNodes head.format head.game (sizes_of head.game) kept
+legal_from wanted head (nodes.Adversary list) is number judged =
+    let count : length list ≡ head.count = sym (length-map list of_adversary) ∙ number in
+    record {
+      of_game = is.of_game;
+      low = omega (arith, count, is.low);
+      high = omega (arith, count, is.high);
+      formed = λ k d within. step_formed head.format (get_or list k d).step (judged.spelled k (of_adversary (get_or list k d)) (map_get of_adversary list k (get_or list k d) (slice_get-get_or list k d within))).spells.spellable.step;
+      each = subst (λ (n : ℕ). adversary_legal.EachMeetsRules head.format head.game (sizes_of head.game) n list) (sym count) (subst (λ (sizes : List ℕ). adversary_legal.EachMeetsRules head.format head.game sizes head.count list) is.whole_game (adversary_each head list judged.each));
+    }
+legal_from wanted head (nodes.Algorithm list) is number judged =
+    let count : length list ≡ head.count = sym (length-map list of_algorithm) ∙ number in
+    record {
+      of_game = is.of_game;
+      low = omega (arith, count, is.low);
+      high = omega (arith, count, is.high);
+      formed = λ k d within. act_formed head.format (get_or list k d).act (judged.spelled k (of_algorithm (get_or list k d)) (map_get of_algorithm list k (get_or list k d) (slice_get-get_or list k d within))).spells.spellable.act;
+      each = subst (λ (n : ℕ). algorithm_legal.EachMeetsRules head.game (sizes_of head.game) n list) (sym count) (subst (λ (sizes : List ℕ). algorithm_legal.EachMeetsRules head.game sizes head.count list) is.whole_game (algorithm_each head list judged.each));
+    }
+
+-- the nodes of a side, as a strategy keeps them
+strip_adversary : (list : List AnyNode) → ((k : ℕ) (node : AnyNode) → slice_get list k ≡ Some node → side_of_node node ≡ Adversary) → (kept : List AdvNode) × (map of_adversary kept ≡ list)
+strip_adversary [] h = ([], refl)
+strip_adversary (of_adversary node ∷ list) h = let r = strip_adversary list (λ k n e. h (suc k) n e) in (node ∷ r.0, ap (λ ns. of_adversary node ∷ ns) r.1)
+strip_adversary (of_algorithm node ∷ list) h = let other : Algorithm ≡ Adversary = h zero (of_algorithm node) refl in absurd cc
+
+strip_algorithm : (list : List AnyNode) → ((k : ℕ) (node : AnyNode) → slice_get list k ≡ Some node → side_of_node node ≡ Algorithm) → (kept : List AlgNode) × (map of_algorithm kept ≡ list)
+strip_algorithm [] h = ([], refl)
+strip_algorithm (of_algorithm node ∷ list) h = let r = strip_algorithm list (λ k n e. h (suc k) n e) in (node ∷ r.0, ap (λ ns. of_algorithm node ∷ ns) r.1)
+strip_algorithm (of_adversary node ∷ list) h = let other : Adversary ≡ Algorithm = h zero (of_adversary node) refl in absurd cc
+
+strip : (side : Side) (list : List AnyNode) → ((k : ℕ) (node : AnyNode) → slice_get list k ≡ Some node → side_of_node node ≡ side) → (kept : Nodes) × (nodes_of kept ≡ list) × (side_of kept ≡ side)
+strip Adversary list h = let r = strip_adversary list h in (nodes.Adversary r.0, r.1, refl)
+strip Algorithm list h = let r = strip_algorithm list h in (nodes.Algorithm r.0, r.1, refl)
+
+-- ---- a text that was read
+
+pub Spells-from : (wanted : Wanted) (head : Head) (kept : Nodes) (old new : ReaderState) (left new_left : Option (List ℕ)) → side_of kept ≡ head.side → ReadsText wanted head (nodes_of kept) old new left new_left → Spells wanted (record { format = head.format; game = head.game; nodes = kept }) old.held new.held left new_left
+Spells-from wanted head kept old new left new_left side r = record {
+  legal = legal_from wanted head kept r.is_head r.number r.judged;
+  wanted_side = subst (IsWanted wanted) (sym side) r.is_head.wanted_side;
+  read = r.reads.read;
+  gone = r.reads.gone;
+  spelled = subst (λ (s : Side). old.held ++ r.reads.read ≡ text_of_lines (head_lines head.format head.game s (length (nodes_of kept)) ++ node_lines 0 (nodes_of kept) ++ end_line ∷ []) ++ new.held) (sym side)
+      (subst (λ (n : ℕ). old.held ++ r.reads.read ≡ text_of_lines (head_lines head.format head.game head.side n ++ node_lines 0 (nodes_of kept) ++ end_line ∷ []) ++ new.held) (sym r.number) r.reads.stand.split);
+}
+
+-- a text that was read to the end of the input
+pub Loads-from : (wanted : Wanted) (head : Head) (kept : Nodes) (old mid : ReaderState) (left mid_left new_left : Option (List ℕ)) → old.held ≡ [] → side_of kept ≡ head.side → ReadsText wanted head (nodes_of kept) old mid left mid_left → ReadsEnd mid mid_left new_left → Loads wanted (record { format = head.format; game = head.game; nodes = kept }) left new_left
+Loads-from wanted head kept old mid left mid_left new_left fresh side text end =
+    let s = Spells-from wanted head kept old mid left mid_left side text in
+    record {
+      spells = record {
+        legal = s.legal;
+        wanted_side = s.wanted_side;
+        read = s.read;
+        gone = s.gone ∙ ap (prepend_known s.read) end.gone ∙ prepend_known-prepend s.read [] new_left ∙ ap (λ (read : List ℕ). prepend_known read new_left) (append-nil s.read);
+        spelled = ap (λ (held : List ℕ). held ++ s.read) (sym fresh) ∙ s.spelled ∙ ap (λ (held : List ℕ). text_of (record { format = head.format; game = head.game; nodes = kept }) ++ held) end.held;
+      };
+      whole = end.whole;
+    }
+
+pub Accepts-from : (wanted : Wanted) (head : Head) (list : List AnyNode) (accepted : Accepted) (old mid : ReaderState) (left mid_left new_left : Option (List ℕ)) → old.held ≡ [] → ReadsText wanted head list old mid left mid_left → ReadsEnd mid mid_left new_left → accepted.game ≡ head.game → accepted.side ≡ head.side → accepted.nodes ≡ head.count → Accepts wanted accepted left new_left
+Accepts-from wanted head list accepted old mid left mid_left new_left fresh r end game side number =
+    let kept = strip head.side list (λ k node e. (r.judged.spelled k node e).side) in
+    let text : ReadsText wanted head (nodes_of kept.0) old mid left mid_left = subst (λ (ns : List AnyNode). ReadsText wanted head ns old mid left mid_left) (sym kept.1) r in
+    record {
+      strategy = record { format = head.format; game = head.game; nodes = kept.0 };
+      loads = Loads-from wanted head kept.0 old mid left mid_left new_left fresh kept.2 text end;
+      game = game;
+      side = side ∙ sym kept.2;
+      number = number ∙ sym r.number ∙ ap length (sym kept.1);
+    }
+
+-- bytes past the end of a text were refused
+pub past_fault_of : (wanted : Wanted) (head : Head) (list : List AnyNode) (number : ℕ) (fault : CheckFault) (old mid : ReaderState) (left mid_left new_left : Option (List ℕ)) → old.held ≡ [] → 6 + head.count ≡ number → ReadsText wanted head list old mid left mid_left → RefusesAfter [] (IsPastEnd number) fault mid mid_left new_left → IsFaultOf wanted [] fault left new_left
+past_fault_of wanted head list number fault old mid left mid_left new_left fresh place r refused =
+    let at : number ≡ head.start + head.count + 1 = omega (arith, place, r.is_head.start) in
+    subst (λ (held : List ℕ). IsFaultOf wanted held fault left new_left) fresh
+    (exit_past wanted head list fault old left new_left r.is_head r.judged r.number
+    (RefusesNext-after (lines_of_text head list) (IsPastEnd (head.start + head.count + 1)) fault old mid left mid_left new_left r.reads
+    (subst (λ (n : ℕ). RefusesAfter [] (IsPastEnd n) fault mid mid_left new_left) at refused)))
+
+pub no_memory : (wanted : Wanted) (left : Option (List ℕ)) → IsFaultOf wanted [] Memory left left
+no_memory wanted left = ([], sym (prepend_known-nil left))
+
+-- the strategy of what was read
+pub loaded_from : (wanted : Wanted) (read : Result declared.Head CheckFault) (result : Result Strategy CheckFault) (kept : Nodes) (old new : ReaderState) (left new_left : Option (List ℕ)) → result ≡ strategy_or read kept → IfOk read (λ head. ReadsText wanted (told_by head) (nodes_of kept) old new left new_left) → IfOk read (λ head. side_of kept ≡ head.side) → IfOk result (λ strategy. Spells wanted strategy old.held new.held left new_left)
+loaded_from wanted (Ok head) result kept old new left new_left e r side =
+    subst (λ (x : Result Strategy CheckFault). IfOk x (λ strategy. Spells wanted strategy old.held new.held left new_left)) (sym e) (Spells-from wanted (told_by head) kept old new left new_left side r)
+loaded_from wanted (Err fault) result kept old new left new_left e r side =
+    subst (λ (x : Result Strategy CheckFault). IfOk x (λ strategy. Spells wanted strategy old.held new.held left new_left)) (sym e) tt
