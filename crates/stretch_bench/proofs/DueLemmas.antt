@@ -1,30 +1,51 @@
 -- What follows from a text that is due.
-use Rattle.std.proofs.Common.{◌≡◌, ℕ, List, [], ◌++◌, get_or, take, drop, Option, Some, None, refl, ap, sym, subst, ◌∙◌, arith, append_assoc, append-nil, take-append-drop}
+use Rattle.std.proofs.Common.{◌≡◌, ◌≤◌, ℕ, List, [], ◌++◌, length, get_or, take, drop, Option, Some, None, refl, ap, sym, subst, ◌∙◌, arith, append_assoc, append-nil, take-append-drop}
 use Rattle.std.proofs.lemmas.List.{append_cancel_left}
-use Rattle.std.specs.Prelude.{unwrap_or, IfSome}
+use Rattle.std.specs.Prelude.{unwrap_or, IfSome, ◌↔◌}
+use Rattle.std.proofs.lemmas.List.{length-map}
 use Rattle.std.specs.Io.KnownBytes.{append_known}
 use Rattle.port_io.specs.Told.{AppendsSome}
+use Rattle.items.specs.Game.{GameNumbers, IsGame}
+use Rattle.items.specs.Multiset.{sizes_of}
+use Rattle.online_play.specs.Algorithm.{ForcesEvery}
+use Rattle.strategy_text.specs.Spelling.{most_nodes}
+use Rattle.strategy_text.specs.Text.{of_adversary, of_algorithm, nodes_of, side_of, text_of}
+use Rattle.strategy_text.specs.declared.node.Format.{Format}
+use Rattle.strategy_text.specs.declared.node.Nodes.{Nodes}
+use Rattle.strategy_text.specs.declared.node.Nodes.TheVariants as sides
+use Rattle.strategy_text.specs.declared.node.Side.TheVariants.{Adversary}
+use Rattle.adversary_graph.proofs.WonLemmas.{legal_strategy_forces}
+use Rattle.checker.specs.Head.{AreLegalNodes}
 use Rattle.checker.specs.declared.fault.Accepted.{Accepted}
-use Rattle.checker.specs.Accepted.{Accepts, IsLegalText}
-use Rattle.checker.specs.FirstFault.{LineFault}
-use Rattle.checker.proofs.LegalText.{HasNoFault-from_legal}
+use Rattle.checker.specs.Accepted.{Accepts}
+use Rattle.checker.specs.FirstFault.{FirstFault, IsLegalText}
+use Rattle.checker.specs.declared.fault.Wanted.TheVariants.{Either}
+use Rattle.checker.proofs.LegalText.{legal_text_has_no_fault}
 use Rattle.stretch_bench.specs.declared.command.Command.TheVariants.{Check}
 use Rattle.stretch_bench.specs.declared.status.Status.{Status}
 use Rattle.stretch_bench.specs.declared.status.Status.TheVariants.{Done, Rejected, Usage, Undecided, ReadFault, WriteFault, OutOfMemory, Unpackable}
-use Rattle.stretch_bench.specs.Words.{SpellsNone}
-use Rattle.stretch_bench.specs.Lines.{accepted_line}
+use Rattle.stretch_bench.specs.Answer.{Run, IsAnswer, IsStopped}
+use Rattle.stretch_bench.specs.Words.{Spells, SpellsNone}
+use Rattle.stretch_bench.specs.Lines.{accepted_line, adversary_accepted}
 use Rattle.stretch_bench.specs.Due.{IsDue}
 use Rattle.stretch_bench.specs.Written.{WritesFirst, HasNumbers}
 use Rattle.stretch_bench.proofs.Fronts.{same_line}
 
 -- the numbers of a legal strategy are small
-legal_numbers : (accepted : Accepted) (left new_left : Option (List ℕ)) → Accepts accepted left new_left → HasNumbers accepted
-legal_numbers accepted left new_left behind =
+small_nodes : (format : Format) (game : GameNumbers) (sizes : List ℕ) (nodes : Nodes) → AreLegalNodes format game sizes nodes → IsGame game × (length (nodes_of nodes) ≤ most_nodes)
+small_nodes format game sizes (sides.Adversary list) legal = (legal.of_game, omega (arith, legal.high, length-map list of_adversary))
+small_nodes format game sizes (sides.Algorithm list) legal = (legal.of_game, omega (arith, legal.high, length-map list of_algorithm))
+
+legal_numbers : (accepted : Accepted) (left new_left : Option (List ℕ)) → Accepts Either accepted left new_left → HasNumbers accepted
+legal_numbers accepted left new_left stands =
+    let strategy = stands.strategy in
+    let small = small_nodes strategy.format strategy.game (sizes_of strategy.game) strategy.nodes stands.loads.spells.legal in
+    let of_game : IsGame accepted.game = subst IsGame (sym stands.game) small.0 in
     record {
-      bins = omega (arith, behind.legal.of_game.bins.high);
-      capacity = omega (arith, behind.legal.of_game.capacity.high);
-      target = omega (arith, behind.legal.of_game.capacity.high, behind.legal.of_game.target.high);
-      nodes = omega (arith, behind.legal.high, behind.number);
+      bins = omega (arith, of_game.bins.high);
+      capacity = omega (arith, of_game.capacity.high);
+      target = omega (arith, of_game.capacity.high, of_game.target.high);
+      nodes = omega (arith, small.1, stands.number);
     }
 
 -- where no command is spelled, usage is due
@@ -39,9 +60,9 @@ usage_due words left new_left OutOfMemory text due none = absurd due
 usage_due words left new_left Unpackable text due none = absurd due
 
 -- behind an accepted line stands a legal strategy
-pub stands_behind : (words : List (List ℕ)) (left new_left : Option (List ℕ)) (status : Status) (text : List ℕ) (accepted : Accepted) (more : List ℕ) → IsDue words left new_left status text → HasNumbers accepted → text ≡ accepted_line accepted ++ more → Accepts accepted left new_left
+pub stands_behind : (words : List (List ℕ)) (left new_left : Option (List ℕ)) (status : Status) (text : List ℕ) (accepted : Accepted) (more : List ℕ) → IsDue words left new_left status text → HasNumbers accepted → text ≡ accepted_line accepted ++ more → Accepts Either accepted left new_left
 stands_behind words left new_left Done text accepted more due numbers e =
-    subst (λ a. Accepts a left new_left) (same_line due.accepted accepted more (legal_numbers due.accepted left new_left due.accepts) numbers (sym due.line ∙ e)) due.accepts
+    subst (λ a. Accepts Either a left new_left) (same_line due.accepted accepted more (legal_numbers due.accepted left new_left due.accepts) numbers (sym due.line ∙ e)) due.accepts
 stands_behind words left new_left Rejected text accepted more due numbers e =
     absurd (let differ : 114 ≡ 97 = ap (λ l. get_or l 0 0) (sym due.line ∙ e) in omega arith)
 stands_behind words left new_left Usage text accepted more due numbers e =
@@ -72,33 +93,67 @@ none_written known accepted first =
     not_empty (accepted_line accepted ++ found.0) found.1 refl
 
 -- the text was written whole, as a piece of the same bytes
-pub behind_whole : (words : List (List ℕ)) (left new_left : Option (List ℕ)) (status : Status) (text piece : List ℕ) (old new : Option (List ℕ)) (accepted : Accepted) → IsDue words left new_left status text → piece ≡ text → new ≡ append_known old piece → HasNumbers accepted → WritesFirst old new (accepted_line accepted) → Accepts accepted left new_left
+pub behind_whole : (words : List (List ℕ)) (left new_left : Option (List ℕ)) (status : Status) (text piece : List ℕ) (old new : Option (List ℕ)) (accepted : Accepted) → IsDue words left new_left status text → piece ≡ text → new ≡ append_known old piece → HasNumbers accepted → WritesFirst old new (accepted_line accepted) → Accepts Either accepted left new_left
 behind_whole words left new_left status text piece old new accepted due same whole numbers first =
     let found = first_of old new piece (accepted_line accepted) whole first in
     stands_behind words left new_left status text accepted found.0 due numbers (sym same ∙ found.1)
 
 -- a front of the text was written
-pub behind_front : (words : List (List ℕ)) (left new_left : Option (List ℕ)) (status : Status) (text piece : List ℕ) (old new : Option (List ℕ)) (accepted : Accepted) → IsDue words left new_left status text → piece ≡ text → AppendsSome old new piece → HasNumbers accepted → WritesFirst old new (accepted_line accepted) → Accepts accepted left new_left
+pub behind_front : (words : List (List ℕ)) (left new_left : Option (List ℕ)) (status : Status) (text piece : List ℕ) (old new : Option (List ℕ)) (accepted : Accepted) → IsDue words left new_left status text → piece ≡ text → AppendsSome old new piece → HasNumbers accepted → WritesFirst old new (accepted_line accepted) → Accepts Either accepted left new_left
 behind_front words left new_left status text piece old new accepted due same some numbers first =
     let n = some.0 in
     let found = first_of old new (take n piece) (accepted_line accepted) some.2 first in
     stands_behind words left new_left status text accepted (found.0 ++ drop n piece) due numbers
     (sym same ∙ sym (take-append-drop n piece) ∙ ap (λ l. l ++ drop n piece) found.1 ∙ append_assoc (accepted_line accepted) found.0 (drop n piece))
 
--- a status other than Rejected is none over a legal text either
-pub never_rejected : (status : Status) → (status ≡ Rejected → ⊥) → (left : Option (List ℕ)) → IfSome left (λ bytes. IsLegalText bytes → status ≡ Rejected → ⊥)
-never_rejected status other None = tt
-never_rejected status other (Some bytes) = λ legal e. other e
+-- where all bytes were read, they are the text of the accepted strategy
+legal_bytes : (accepted : Accepted) (bytes : List ℕ) (new_left : Option (List ℕ)) → Accepts Either accepted (Some bytes) new_left → IsLegalText Either bytes
+legal_bytes accepted bytes None stands = let gone : Some bytes ≡ None = stands.loads.spells.gone in absurd cc
+legal_bytes accepted bytes (Some rest) stands =
+    let spells = stands.loads.spells in
+    let none : rest ≡ [] = stands.loads.whole in
+    let all : bytes ≡ spells.read ++ rest = (let gone : Some bytes ≡ Some (spells.read ++ rest) = spells.gone in cc) in
+    record {
+      strategy = stands.strategy;
+      legal = spells.legal;
+      wanted_side = spells.wanted_side;
+      spelled = all ∙ ap (λ (more : List ℕ). spells.read ++ more) none ∙ append-nil spells.read ∙ spells.spelled ∙ append-nil (text_of stands.strategy);
+    }
 
--- a rejection is due only over a text that is no legal strategy's
-pub not_rejected : (words : List (List ℕ)) (left new_left : Option (List ℕ)) (status : Status) (text : List ℕ) → IsDue words left new_left status text → IfSome left (λ bytes. IsLegalText bytes → status ≡ Rejected → ⊥)
-not_rejected words None new_left status text due = tt
-not_rejected words (Some bytes) new_left Rejected text due = λ legal e.
-    HasNoFault-from_legal legal.0 legal.1 legal.2 due.at due.why (subst (λ (b : List ℕ). LineFault b due.at due.why) legal.3 due.first.has)
-not_rejected words (Some bytes) new_left Done text due = λ legal e. cc
-not_rejected words (Some bytes) new_left Usage text due = λ legal e. cc
-not_rejected words (Some bytes) new_left Undecided text due = absurd due
-not_rejected words (Some bytes) new_left ReadFault text due = absurd due
-not_rejected words (Some bytes) new_left WriteFault text due = absurd due
-not_rejected words (Some bytes) new_left OutOfMemory text due = absurd due
-not_rejected words (Some bytes) new_left Unpackable text due = absurd due
+-- what is due for a check is done exactly where the bytes are a legal text
+pub exact_due : (words : List (List ℕ)) (left new_left : Option (List ℕ)) (status : Status) (text : List ℕ) → IsDue words left new_left status text → Spells words Check → IfSome left (λ bytes. ¬ IsStopped status → (status ≡ Done) ↔ IsLegalText Either bytes)
+exact_due words None new_left status text due check = tt
+exact_due words (Some bytes) new_left Done text due check = λ on. (λ e. legal_bytes due.accepted bytes new_left due.accepts, λ legal. refl)
+exact_due words (Some bytes) new_left Rejected text due check = λ on. (λ e. absurd cc, λ legal. absurd (legal_text_has_no_fault Either bytes legal due.at due.why due.rejects.first_of_input.has))
+exact_due words (Some bytes) new_left Usage text due check = λ on. absurd (due.no_command Check check)
+exact_due words (Some bytes) new_left Undecided text due check = absurd due
+exact_due words (Some bytes) new_left ReadFault text due check = absurd due
+exact_due words (Some bytes) new_left WriteFault text due check = absurd due
+exact_due words (Some bytes) new_left OutOfMemory text due check = absurd due
+exact_due words (Some bytes) new_left Unpackable text due check = absurd due
+
+-- a run that was stopped says nothing of the input
+pub stopped_any : (left : Option (List ℕ)) (status : Status) → IsStopped status → IfSome left (λ bytes. ¬ IsStopped status → (status ≡ Done) ↔ IsLegalText Either bytes)
+stopped_any None status h = tt
+stopped_any (Some bytes) status h = λ on. absurd (on h)
+
+-- a text that is due was written whole
+pub answer_due : (run : Run) (status : Status) (text : List ℕ) → IsDue run.words run.left run.new_left status text → run.new_written ≡ append_known run.written text → IsAnswer run status
+answer_due run Done text due e = (text, due, e)
+answer_due run Rejected text due e = (text, due, e)
+answer_due run Usage text due e = (text, due, e)
+answer_due run Undecided text due e = due
+answer_due run ReadFault text due e = absurd due
+answer_due run WriteFault text due e = absurd due
+answer_due run OutOfMemory text due e = absurd due
+answer_due run Unpackable text due e = due
+
+-- a legal strategy of the adversary forces every algorithm of its game
+adversary_forces : (format : Format) (game : GameNumbers) (nodes : Nodes) → AreLegalNodes format game (sizes_of game) nodes → side_of nodes ≡ Adversary → ForcesEvery game
+adversary_forces format game (sides.Adversary list) legal e = legal_strategy_forces format game list legal
+adversary_forces format game (sides.Algorithm list) legal e = absurd cc
+
+pub accepted_forces : (game : GameNumbers) (nodes : ℕ) (left new_left : Option (List ℕ)) → Accepts Either (adversary_accepted game nodes) left new_left → ForcesEvery game
+accepted_forces game nodes left new_left stands =
+    let strategy = stands.strategy in
+    subst ForcesEvery (sym stands.game) (adversary_forces strategy.format strategy.game strategy.nodes stands.loads.spells.legal (sym stands.side))

@@ -5,7 +5,8 @@ use Rattle.items.specs.Game.{numbers}
 use Rattle.strategy_text.specs.declared.node.Side.{Side}
 use Rattle.strategy_text.specs.declared.node.Side.TheVariants.{Adversary, Algorithm}
 use Rattle.checker.specs.declared.fault.Accepted.{Accepted}
-use Rattle.stretch_bench.specs.Lines.{side_name, accepted_line}
+use Rattle.stretch_bench.specs.Lines.{accepted_line}
+use Rattle.strategy_text.specs.Text.{side_word}
 use Rattle.stretch_bench.specs.Written.{HasNumbers}
 
 -- no element of the list is x
@@ -37,7 +38,7 @@ number_front x m n rest other more low fits same e =
     let parts = one_front x (decimal m) (decimal n) rest other more (decimal_lacks x m low fits) (decimal_lacks x n low same) e in
     (decimal_injective m n fits same parts.0, parts.1)
 
-side_front : (s r : Side) (rest other more : List ℕ) → side_name s ++ 32 ∷ rest ≡ (side_name r ++ 32 ∷ other) ++ more → (s ≡ r) × (rest ≡ other ++ more)
+side_front : (s r : Side) (rest other more : List ℕ) → side_word s ++ 32 ∷ rest ≡ (side_word r ++ 32 ∷ other) ++ more → (s ≡ r) × (rest ≡ other ++ more)
 side_front Adversary Adversary rest other more e = (refl, ap (drop 10) e)
 side_front Algorithm Algorithm rest other more e = (refl, ap (drop 10) e)
 side_front Adversary Algorithm rest other more e = absurd (let differ : 100 ≡ 108 = ap (λ l. get_or l 1 0) e in omega arith)

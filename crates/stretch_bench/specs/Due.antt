@@ -1,9 +1,9 @@
 -- What a call is asked for: a status, and the text that is written with it.
-use Rattle.std.specs.Prelude.{◌≡◌, ℕ, List, Option, IfSome}
+use Rattle.std.specs.Prelude.{◌≡◌, ℕ, List, [], Option}
 use Rattle.checker.specs.declared.fault.Accepted.{Accepted}
+use Rattle.checker.specs.declared.fault.Wanted.TheVariants.{Either}
 use Rattle.checker.specs.declared.fault.Why.{Why}
-use Rattle.checker.specs.Accepted.{Accepts}
-use Rattle.checker.specs.FirstFault.{FirstFault}
+use Rattle.checker.specs.Accepted.{Accepts, Rejects}
 use Rattle.stretch_bench.specs.declared.command.Command.TheVariants.{Check}
 use Rattle.stretch_bench.specs.declared.status.Status.{Status}
 use Rattle.stretch_bench.specs.declared.status.Status.TheVariants.{Done, Rejected, Usage, Undecided, ReadFault, WriteFault, OutOfMemory, Unpackable}
@@ -14,15 +14,15 @@ use Rattle.stretch_bench.specs.Lines.{accepted_line, rejected_line, usage_line}
 pub record IsAccepted (words : List (List ℕ)) (left new_left : Option (List ℕ)) (text : List ℕ) : Type 0 where
   pub command : Spells words Check
   pub accepted : Accepted
-  pub accepts : Accepts accepted left new_left
+  pub accepts : Accepts Either accepted left new_left
   pub line : text ≡ accepted_line accepted
 
--- a check found a fault: where the source tells its bytes, the first fault of the input
+-- a check found a fault, the first one of the bytes read and of the whole input
 pub record IsRejected (words : List (List ℕ)) (left new_left : Option (List ℕ)) (text : List ℕ) : Type 0 where
   pub command : Spells words Check
   pub at : ℕ
   pub why : Why
-  pub first : IfSome left (λ bytes. FirstFault bytes at why)
+  pub rejects : Rejects Either [] at why left new_left
   pub line : text ≡ rejected_line at why
 
 -- the words spell no command, and nothing was read

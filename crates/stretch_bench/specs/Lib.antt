@@ -2,4 +2,5 @@ pub mod Words
 pub mod Lines
 pub mod Due
 pub mod Written
+pub mod Answer
 pub mod Codes

@@ -8,7 +8,7 @@ use Rattle.checker.specs.declared.fault.Accepted.{Accepted}
 abbrev pub WritesWhole : Option (List ℕ) → Option (List ℕ) → (List ℕ → Type 0) → Type 0
 WritesWhole old new IsText = (text : List ℕ) × IsText text × (new ≡ append_known old text)
 
--- a text of this kind was written from its front, but not all of it
+-- a prefix of a text of this kind was written, but not all of it
 abbrev pub WritesFront : Option (List ℕ) → Option (List ℕ) → (List ℕ → Type 0) → Type 0
 WritesFront old new IsText = (text : List ℕ) × IsText text × AppendsSome old new text
 

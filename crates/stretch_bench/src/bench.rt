@@ -1,13 +1,17 @@
 //! The top call.
 
-ghost use Rattle.std.specs.Prelude.{◌≡◌, ◌≢◌, ◌≤◌, ◌⊎◌, IfSome};
-ghost use Rattle.port_io.specs.Faults.{Rose};
+ghost use Rattle.std.specs.Prelude.{◌≡◌, ◌↔◌, ◌≤◌, ◌⊎◌, ℕ, IfSome};
+ghost use Rattle.items.specs.Game.{GameNumbers};
+ghost use Rattle.online_play.specs.Algorithm.{ForcesEvery};
 ghost use Rattle.checker.specs.declared.fault.Accepted.{Accepted};
-ghost use Rattle.checker.specs.Accepted.{Accepts, IsLegalText};
-ghost use Rattle.stretch_bench.specs.Words.{spelling_of, SpellsNone};
-ghost use Rattle.stretch_bench.specs.Lines.{accepted_line};
-ghost use Rattle.stretch_bench.specs.Due.{IsDue, IsDueText};
-ghost use Rattle.stretch_bench.specs.Written.{WritesWhole, WritesFront, WritesFirst, HasNumbers};
+ghost use Rattle.checker.specs.declared.fault.Wanted.TheVariants.{Either};
+ghost use Rattle.checker.specs.Accepted.{Accepts};
+ghost use Rattle.checker.specs.FirstFault.{IsLegalText};
+ghost use Rattle.stretch_bench.specs.declared.command.Command.TheVariants.{Check};
+ghost use Rattle.stretch_bench.specs.Answer.{IsAnswer, IsStopped};
+ghost use Rattle.stretch_bench.specs.Lines.{accepted_line, adversary_accepted};
+ghost use Rattle.stretch_bench.specs.Words.{spelling_of, Spells, SpellsNone};
+ghost use Rattle.stretch_bench.specs.Written.{WritesFirst, HasNumbers};
 
 use crate::due::{Stop, due_of};
 use crate::status::Status;
@@ -17,9 +21,9 @@ use std::alloc::Global;
 /// Runs the command that the words spell: first the words, then the reading and the work, then the
 /// writing of a text that was made whole before. It does all that the program does.
 ///
-/// The one command is `check`, which reads the text of a strategy of the adversary and writes whether it
-/// is legal: `accepted adversary M G T nodes N`, or the first fault of the input, `rejected line L syntax`
-/// or `rejected line L rule NAME`. For other words it writes `usage`. Each line ends in a line feed.
+/// The one command is `check`, which reads the text of a strategy and writes whether it is legal:
+/// `accepted SIDE M G T nodes N`, or the first fault of the input, `rejected line L syntax` or
+/// `rejected line L rule NAME`. For other words it writes `usage`. Each line ends in a line feed.
 ///
 /// # Errors
 ///
@@ -34,26 +38,26 @@ pub fn run_bench<S: Source, K: Sink>(
     ensures source_count { S.faults source.old ≤ S.faults source.new }
     ensures sink_count { K.faults sink.old ≤ K.faults sink.new }
 
-    // The text that is due with the status was written whole.
-    ensures done { result ≡ Status.Done → WritesWhole (K.written sink.old) (K.written sink.new) (IsDue (spelling_of words.now) (S.left source.old) (S.left source.new) Status.Done) }
-    ensures rejected { result ≡ Status.Rejected → WritesWhole (K.written sink.old) (K.written sink.new) (IsDue (spelling_of words.now) (S.left source.old) (S.left source.new) Status.Rejected) }
-    ensures usage { result ≡ Status.Usage → WritesWhole (K.written sink.old) (K.written sink.new) (IsDue (spelling_of words.now) (S.left source.old) (S.left source.new) Status.Usage) }
+    // What each status stands for, and what was written with it.
+    ensures answer { IsAnswer (record {
+        words = spelling_of words.now;
+        left = S.left source.old; new_left = S.left source.new;
+        reads_failed = S.faults source.old; new_reads_failed = S.faults source.new;
+        written = K.written sink.old; new_written = K.written sink.new;
+        writes_failed = K.faults sink.old; new_writes_failed = K.faults sink.new
+    }) result }
     ensures no_command { SpellsNone (spelling_of words.now) → (source.new ≡ source.old) × ((result ≡ Status.Usage) ⊎ (result ≡ Status.WriteFault) ⊎ (result ≡ Status.OutOfMemory)) }
-
-    // The text of a legal strategy is not rejected.
-    ensures legal { IfSome (S.left source.old) (λ bytes. IsLegalText bytes → result ≢ Status.Rejected) }
-
-    // Where the text could not be made or written whole.
-    ensures read_fault { result ≡ Status.ReadFault → Rose (S.faults source.old) (S.faults source.new) × (sink.new ≡ sink.old) }
-    ensures write_fault { result ≡ Status.WriteFault → Rose (K.faults sink.old) (K.faults sink.new) × WritesFront (K.written sink.old) (K.written sink.new) (IsDueText (spelling_of words.now) (S.left source.old) (S.left source.new)) }
+    ensures read_fault { result ≡ Status.ReadFault → sink.new ≡ sink.old }
     ensures memory { result ≡ Status.OutOfMemory → sink.new ≡ sink.old }
 
-    // No command comes to these.
-    ensures undecided { result ≢ Status.Undecided }
-    ensures unpackable { result ≢ Status.Unpackable }
+    // A check is done exactly where the input is the text of a legal strategy.
+    ensures exact { Spells (spelling_of words.now) Check → IfSome (S.left source.old) (λ bytes. ¬ IsStopped result → (result ≡ Status.Done) ↔ IsLegalText Either bytes) }
 
-    // Behind an accepted line that was written stands a legal strategy, whatever the status.
-    ensures accepted { (accepted : Accepted) → HasNumbers accepted → WritesFirst (K.written sink.old) (K.written sink.new) (accepted_line accepted) → Accepts accepted (S.left source.old) (S.left source.new) }
+    // A legal strategy stands after an accepted line that was written, whatever the status.
+    ensures accepted { (accepted : Accepted) → HasNumbers accepted → WritesFirst (K.written sink.old) (K.written sink.new) (accepted_line accepted) → Accepts Either accepted (S.left source.old) (S.left source.new) }
+
+    // Where it is the adversary's, every deterministic online algorithm of the game is forced to the target.
+    ensures forced { (game : GameNumbers) (nodes : ℕ) → HasNumbers (adversary_accepted game nodes) → WritesFirst (K.written sink.old) (K.written sink.new) (accepted_line (adversary_accepted game nodes)) → ForcesEvery game }
 {
     let due = match due_of(alloc, words, source) {
         Ok(due) => due,

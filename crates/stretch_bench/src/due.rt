@@ -1,11 +1,13 @@
 //! The work of a call: what is due to be written, made before anything is written.
 
-ghost use Rattle.std.specs.Prelude.{◌≡◌, ◌≢◌, ◌≤◌, Err, IfOk, IsOk, string_bytes};
+ghost use Rattle.std.specs.Prelude.{◌≡◌, ◌≢◌, ◌≤◌, [], Err, IfOk, IsOk, string_bytes};
 ghost use Rattle.port_io.specs.Faults.{Rose};
 ghost use Rattle.stretch_bench.specs.declared.command.Command.TheVariants.{Check};
 ghost use Rattle.stretch_bench.specs.declared.due.Stop.TheVariants.{Read, Memory};
 ghost use Rattle.stretch_bench.specs.Words.{spelling_of, Spells, SpellsNone};
 ghost use Rattle.stretch_bench.specs.Due.{IsDue};
+ghost use Rattle.checker.specs.Accepted.{IsInterrupted};
+ghost use Rattle.checker.specs.declared.fault.Wanted.TheVariants.{Either};
 
 use crate::command::{Command, command_of};
 use crate::lines::{line_of_accepted, line_of_rejected};
@@ -48,6 +50,7 @@ pub(crate) fn due_of<S: Source>(
     ensures due { IfOk result (λ due. IsDue (spelling_of words.now) (S.left source.old) (S.left source.new) due.status (string_bytes due.text)) }
     ensures no_command { SpellsNone (spelling_of words.now) → (source.new ≡ source.old) × (result ≢ Err Read) }
     ensures read { result ≡ Err Read → Rose (S.faults source.old) (S.faults source.new) }
+    ensures interrupted { result ≡ Err Read → IsInterrupted Either [] (S.left source.old) (S.left source.new) }
 {
     match command_of(words) {
         Some(Command::Check) => due_of_check(alloc, words, source),
@@ -64,6 +67,7 @@ fn due_of_check<S: Source>(alloc: Global, words: &[String], source: &mut S) -> R
     ensures count { S.faults source.old ≤ S.faults source.new }
     ensures due { IfOk result (λ due. IsDue (spelling_of words.now) (S.left source.old) (S.left source.new) due.status (string_bytes due.text)) }
     ensures read { result ≡ Err Read → Rose (S.faults source.old) (S.faults source.new) }
+    ensures interrupted { result ≡ Err Read → IsInterrupted Either [] (S.left source.old) (S.left source.new) }
 {
     match check(alloc, source) {
         Ok(accepted) => Ok(Due {

@@ -1,12 +1,19 @@
 use Rattle.std.proofs.Common.{inl}
-use Rattle.stretch_bench.proofs.DueLemmas.{usage_due, none_written, behind_whole, behind_front, never_rejected, not_rejected}
+use Rattle.stretch_bench.specs.Lines.{adversary_accepted}
+use Rattle.stretch_bench.proofs.DueLemmas.{usage_due, none_written, behind_whole, behind_front, exact_due, stopped_any, answer_due, accepted_forces}
 use Rattle.stretch_bench.proofs.bench.run_bench.Goals as goal
 
 pub returns-in-Err-Read-clause-accepted : goal.returns-in-Err-Read-clause-accepted
 returns-in-Err-Read-clause-accepted g c accepted numbers first = absurd (none_written _ accepted first)
 
+pub returns-in-Err-Read-clause-forced : goal.returns-in-Err-Read-clause-forced
+returns-in-Err-Read-clause-forced g c game nodes numbers first = absurd (none_written _ (adversary_accepted game nodes) first)
+
 pub returns-in-Err-Memory-clause-accepted : goal.returns-in-Err-Memory-clause-accepted
 returns-in-Err-Memory-clause-accepted g c accepted numbers first = absurd (none_written _ accepted first)
+
+pub returns-in-Err-Memory-clause-forced : goal.returns-in-Err-Memory-clause-forced
+returns-in-Err-Memory-clause-forced g c game nodes numbers first = absurd (none_written _ (adversary_accepted game nodes) first)
 
 pub returns-in-Ok-put_all-clause-no_command : goal.returns-in-Ok-put_all-clause-no_command
 returns-in-Ok-put_all-clause-no_command g c none = ((c.due_of.ensures.no_command none).0, inl (usage_due _ _ _ _ _ c.in-Ok.ensures.due none))
@@ -15,18 +22,26 @@ pub returns-in-Ok-put_all-clause-accepted : goal.returns-in-Ok-put_all-clause-ac
 returns-in-Ok-put_all-clause-accepted g c accepted numbers first =
     behind_whole _ _ _ _ _ _ _ _ accepted c.in-Ok.ensures.due c.as_bytes.ensures.value c.in-Ok-put_all.ensures.ok numbers first
 
+pub returns-in-Ok-put_all-clause-forced : goal.returns-in-Ok-put_all-clause-forced
+returns-in-Ok-put_all-clause-forced g c game nodes numbers first =
+    accepted_forces game nodes _ _ (behind_whole _ _ _ _ _ _ _ _ (adversary_accepted game nodes) c.in-Ok.ensures.due c.as_bytes.ensures.value c.in-Ok-put_all.ensures.ok numbers first)
+
 pub returns-clause-accepted : goal.returns-clause-accepted
 returns-clause-accepted g c accepted numbers first =
     behind_front _ _ _ _ _ _ _ _ accepted c.in-Ok.ensures.due c.as_bytes.ensures.value c.in-Err.ensures.err numbers first
 
-pub returns-in-Err-Read-clause-legal : goal.returns-in-Err-Read-clause-legal
-returns-in-Err-Read-clause-legal g c = never_rejected _ (λ e. cc) _
+pub returns-clause-forced : goal.returns-clause-forced
+returns-clause-forced g c game nodes numbers first =
+    accepted_forces game nodes _ _ (behind_front _ _ _ _ _ _ _ _ (adversary_accepted game nodes) c.in-Ok.ensures.due c.as_bytes.ensures.value c.in-Err.ensures.err numbers first)
 
-pub returns-in-Err-Memory-clause-legal : goal.returns-in-Err-Memory-clause-legal
-returns-in-Err-Memory-clause-legal g c = never_rejected _ (λ e. cc) _
+pub returns-in-Err-Read-clause-exact : goal.returns-in-Err-Read-clause-exact
+returns-in-Err-Read-clause-exact g c check = stopped_any _ _ tt
 
-pub returns-in-Ok-put_all-clause-legal : goal.returns-in-Ok-put_all-clause-legal
-returns-in-Ok-put_all-clause-legal g c = not_rejected _ _ _ _ _ c.in-Ok.ensures.due
+pub returns-in-Err-Memory-clause-exact : goal.returns-in-Err-Memory-clause-exact
+returns-in-Err-Memory-clause-exact g c check = stopped_any _ _ tt
 
-pub returns-clause-legal : goal.returns-clause-legal
-returns-clause-legal g c = never_rejected _ (λ e. cc) _
+pub returns-in-Ok-put_all-clause-exact : goal.returns-in-Ok-put_all-clause-exact
+returns-in-Ok-put_all-clause-exact g c check = exact_due _ _ _ _ _ c.in-Ok.ensures.due check
+
+pub returns-clause-exact : goal.returns-clause-exact
+returns-clause-exact g c check = stopped_any _ _ tt

@@ -5,4 +5,4 @@ pub returns-in-Syntax : goal.returns-in-Syntax
 returns-in-Syntax c = said _ _ _ c.format.ensures.ok (syntax_text c.args.line c.args.why c.in-Syntax.is)
 
 pub returns-in-Rule : goal.returns-in-Rule
-returns-in-Rule c = said _ _ _ c.format-in-Rule.ensures.ok (rule_text c.args.line c.args.why c.in-Rule.rule _ c.in-Rule.is c.name_of_rule-name.ensures)
+returns-in-Rule c = said _ _ _ c.format-in-Rule.ensures.ok (rule_text c.args.line c.args.why c.in-Rule.rule _ c.in-Rule.is c.word-name.ensures.value)

@@ -1,0 +1,249 @@
+-- The text of a legal strategy has no fault: its lines are whole, and spell what they are to spell.
+use Rattle.std.proofs.Common.{◌≡◌, ◌==◌, ℕ, zero, suc, ◌+◌, ◌<◌, ◌≤◌, List, [], ◌∷◌, ◌++◌, length, get_or, take, map, decimal, codes, All, Option, Some, None, sym, ap, ◌∙◌, subst, refl, arith, length-append, length-take}
+use Rattle.std.specs.List.{slice_get}
+use Rattle.std.proofs.lemmas.List.{length-map, length_push, append-nil}
+use Rattle.std.proofs.lemmas.List.Elements.{All-nil, All-cons, All-append, All-map}
+use Rattle.std.proofs.lemmas.Option.{slice_get_within, slice_get-get_or, get_or_from_slice_get}
+use Rattle.port_io.specs.Lines.{IsLine}
+use Rattle.items.specs.Game.{GameNumbers, IsGame}
+use Rattle.items.specs.Multiset.{sizes_of}
+use Rattle.loads.specs.declared.position.Position.{Position}
+use Rattle.strategy_text.specs.Spelling.{IsSpellableNode, IsSpellable, most_child, most_nodes}
+use Rattle.strategy_text.specs.Text.{AnyNode, of_adversary, of_algorithm, node_line, node_lines, nodes_of, side_of, first_line, game_line, side_line, count_line, end_line, strategy_lines, text_of, text_of_lines}
+use Rattle.strategy_text.specs.declared.node.AdvNode.{AdvNode}
+use Rattle.strategy_text.specs.declared.node.AlgNode.{AlgNode}
+use Rattle.strategy_text.specs.declared.node.Format.{Format}
+use Rattle.strategy_text.specs.declared.node.Format.TheVariants.{One, Two}
+use Rattle.strategy_text.specs.declared.node.Nodes.{Nodes}
+use Rattle.strategy_text.specs.declared.node.Nodes.TheVariants as nodes
+use Rattle.strategy_text.specs.declared.node.Side.{Side}
+use Rattle.strategy_text.specs.declared.node.Side.TheVariants.{Adversary, Algorithm}
+use Rattle.strategy_text.specs.declared.node.Strategy.{Strategy}
+use Rattle.strategy_text.proofs.Texts.{text_tells, no_prefix, lines_are_lines}
+use Rattle.adversary_graph.specs.Nodes as adversary_nodes
+use Rattle.adversary_graph.specs.Legal.{EachMeetsRules as EachAdversary}
+use Rattle.adversary_graph.specs.Legal as adversary
+use Rattle.algorithm_graph.specs.Nodes as algorithm_nodes
+use Rattle.algorithm_graph.specs.Legal.{EachMeetsRules as EachAlgorithm}
+use Rattle.algorithm_graph.specs.Legal as algorithm
+use Rattle.checker.specs.declared.fault.Wanted.{Wanted}
+use Rattle.checker.specs.Head.{Head, head_of_game, position_of, side_of_node, MeetsRules, EachMeetsRules, AreLegalNodes, IsLegal}
+use Rattle.checker.specs.FirstFault.{HasForm, HasBytesPast, LineFault, HasNoFault, IsWanted, IsLegalText, LegalTextHasNoFault}
+use Rattle.checker.specs.Laws.{LegalIsSpellable, LegalLinesAreLines, LegalTextTellsStrategy, NoLegalTextBeginsAnother}
+use Rattle.checker.specs.Progress.{StandFirst, IsHead, lines_of_head, AreJudged}
+use Rattle.checker.proofs.ShortLines.{length-joined, short_number, long_number, node_short}
+use Rattle.checker.proofs.LegalNodes.{IsFormed, node_small, node_spellable}
+use Rattle.checker.proofs.LineLemmas.{no_lf, same_rest, line_at, after_get}
+use Rattle.checker.proofs.HeadLemmas.{head_from}
+use Rattle.checker.proofs.NodeLemmas.{length-node_lines}
+use Rattle.checker.proofs.FaultLemmas.{none_below, Faultless-body, HasNodes-from}
+
+-- ---- the nodes of either side
+
+-- an element of a mapped list
+mapped : {X : Type 0} (f : X → AnyNode) (xs : List X) (k : ℕ) (node : AnyNode) → slice_get (map f xs) k ≡ Some node → (x : X) × (slice_get xs k ≡ Some x) × (f x ≡ node)
+mapped f [] k node e = let none : None ≡ Some node = e in absurd cc
+mapped f (x ∷ xs) zero node e = let same : f x ≡ node = cc in (x, refl, same)
+mapped f (x ∷ xs) (suc k) node e = mapped f xs k node e
+
+-- the positions of the front of a mapped list
+positions : {X : Type 0} (f : X → AnyNode) (g : X → Position) → ((x : X) → g x ≡ position_of (f x)) → (k : ℕ) (xs : List X) → map g (take k xs) ≡ map position_of (take k (map f xs))
+positions f g same zero xs = refl
+positions f g same (suc k) [] = refl
+positions f g same (suc k) (x ∷ xs) = ap (λ (p : Position). p ∷ map g (take k xs)) (same x) ∙ ap (λ (ps : List Position). position_of (f x) ∷ ps) (positions f g same k xs)
+
+each_adversary : (format : Format) (game : GameNumbers) (list : List AdvNode) → EachAdversary format game (sizes_of game) (length list) list → EachMeetsRules (head_of_game format game Adversary (length (map of_adversary list))) (map of_adversary list)
+unfolding EachAdversary EachMeetsRules
+each_adversary format game list each k node e =
+    let head : Head = head_of_game format game Adversary (length (map of_adversary list)) in
+    let m = mapped of_adversary list k node e in
+    let front = positions of_adversary adversary_nodes.position_of (λ x. refl) k list in
+    subst (λ (x : AnyNode). MeetsRules head (map position_of (take k (map of_adversary list))) (k + 1 == length (map of_adversary list)) x) m.2
+    (subst (λ (ps : List Position). MeetsRules head ps (k + 1 == length (map of_adversary list)) (of_adversary m.0)) front
+    (subst (λ (c : ℕ). MeetsRules head (map adversary_nodes.position_of (take k list)) (k + 1 == c) (of_adversary m.0)) (sym (length-map list of_adversary)) (each k m.0 m.1)))
+
+each_algorithm : (format : Format) (game : GameNumbers) (list : List AlgNode) → EachAlgorithm game (sizes_of game) (length list) list → EachMeetsRules (head_of_game format game Algorithm (length (map of_algorithm list))) (map of_algorithm list)
+unfolding EachAlgorithm EachMeetsRules
+each_algorithm format game list each k node e =
+    let head : Head = head_of_game format game Algorithm (length (map of_algorithm list)) in
+    let m = mapped of_algorithm list k node e in
+    let front = positions of_algorithm algorithm_nodes.position_of (λ x. refl) k list in
+    subst (λ (x : AnyNode). MeetsRules head (map position_of (take k (map of_algorithm list))) (k + 1 == length (map of_algorithm list)) x) m.2
+    (subst (λ (ps : List Position). MeetsRules head ps (k + 1 == length (map of_algorithm list)) (of_algorithm m.0)) front
+    (subst (λ (c : ℕ). MeetsRules head (map algorithm_nodes.position_of (take k list)) (k + 1 == c) (of_algorithm m.0)) (sym (length-map list of_algorithm)) (each k m.0 m.1)))
+
+-- the nodes of a legal strategy of either side
+record LegalNodes (head : Head) (list : List AnyNode) : Type 0 where
+  of_game : IsGame head.game
+  low : 1 ≤ length list
+  high : length list ≤ most_nodes
+  formed : All (IsFormed head.format) list
+  sides : All (λ node. side_of_node node ≡ head.side) list
+  each : EachMeetsRules head list
+
+legal_nodes : (format : Format) (game : GameNumbers) (list : Nodes) → AreLegalNodes format game (sizes_of game) list → LegalNodes (head_of_game format game (side_of list) (length (nodes_of list))) (nodes_of list)
+legal_nodes format game (nodes.Adversary list) h = record {
+  of_game = h.of_game;
+  low = omega (arith, h.low, length-map list of_adversary);
+  high = omega (arith, h.high, length-map list of_adversary);
+  formed = All-map (IsFormed format) of_adversary list h.formed;
+  sides = All-map (λ node. side_of_node node ≡ Adversary) of_adversary list (λ k d within. refl);
+  each = each_adversary format game list h.each;
+}
+legal_nodes format game (nodes.Algorithm list) h = record {
+  of_game = h.of_game;
+  low = omega (arith, h.low, length-map list of_algorithm);
+  high = omega (arith, h.high, length-map list of_algorithm);
+  formed = All-map (IsFormed format) of_algorithm list h.formed;
+  sides = All-map (λ node. side_of_node node ≡ Algorithm) of_algorithm list (λ k d within. refl);
+  each = each_algorithm format game list h.each;
+}
+
+-- what the head lines of a strategy's text tell
+abbrev head_of : Strategy → Head
+head_of strategy = head_of_game strategy.format strategy.game (side_of strategy.nodes) (length (nodes_of strategy.nodes))
+
+nodes_are_legal : (strategy : Strategy) → IsLegal strategy → LegalNodes (head_of strategy) (nodes_of strategy.nodes)
+nodes_are_legal strategy h = legal_nodes strategy.format strategy.game strategy.nodes h
+
+-- ---- each node of a legal strategy
+
+meets_at : (head : Head) (list : List AnyNode) → EachMeetsRules head list → (k : ℕ) (node : AnyNode) → slice_get list k ≡ Some node → MeetsRules head (map position_of (take k list)) (k + 1 == head.count) node
+unfolding EachMeetsRules
+meets_at head list each k node e = each k node e
+
+few_earlier : (list : List AnyNode) (k : ℕ) (node : AnyNode) → length list ≤ most_nodes → slice_get list k ≡ Some node → length (map position_of (take k list)) ≤ most_nodes
+few_earlier list k node high e = omega (arith, length-map (take k list) position_of, length-take k list, slice_get_within list k node e)
+
+spellable_at : (head : Head) (list : List AnyNode) → head.sizes ≡ sizes_of head.game → LegalNodes head list → (k : ℕ) (node : AnyNode) → slice_get list k ≡ Some node → IsFormed head.format node → IsSpellableNode head.format node
+spellable_at head list sizes h k node e formed =
+    node_spellable head (map position_of (take k list)) (k + 1 == head.count) node h.of_game sizes (few_earlier list k node h.high e) formed (meets_at head list h.each k node e)
+
+each_spellable : (head : Head) (list : List AnyNode) → head.sizes ≡ sizes_of head.game → LegalNodes head list → All (IsSpellableNode head.format) list
+each_spellable head list sizes h k d within = spellable_at head list sizes h k (get_or list k d) (slice_get-get_or list k d within) (h.formed k d within)
+
+short_at : (head : Head) (list : List AnyNode) → head.sizes ≡ sizes_of head.game → LegalNodes head list → (k : ℕ) (node : AnyNode) → slice_get list k ≡ Some node → length (node_line k node) ≤ 16384
+short_at head list sizes h k node e =
+    node_short k node (omega (arith, slice_get_within list k node e, h.high)) (node_small head (map position_of (take k list)) (k + 1 == head.count) node h.of_game sizes (few_earlier list k node h.high e) (meets_at head list h.each k node e))
+
+-- a legal strategy has a text
+pub legal_is_spellable : LegalIsSpellable
+legal_is_spellable strategy legal =
+    let h = nodes_are_legal strategy legal in
+    record {
+      bins = omega (arith, h.of_game.bins.high);
+      capacity = omega (arith, h.of_game.capacity.high);
+      target = omega (arith, h.of_game.target.high, h.of_game.capacity.high);
+      low = h.low;
+      high = h.high;
+      each = each_spellable (head_of strategy) (nodes_of strategy.nodes) refl h;
+    }
+
+-- ---- the lines of a legal strategy
+
+abbrev IsShortLine : List ℕ → Type 0
+IsShortLine line = length line ≤ 16384
+
+first_short : (format : Format) → IsShortLine (first_line format)
+first_short One = omega arith
+first_short Two = omega arith
+
+side_short : (side : Side) → IsShortLine (side_line side)
+side_short Adversary = omega arith
+side_short Algorithm = omega arith
+
+game_short : (game : GameNumbers) → IsGame game → IsShortLine (game_line game)
+unfolding game_line
+game_short game h =
+    let bins = short_number game.bins (omega (arith, h.bins.high)) in
+    let capacity = short_number game.capacity (omega (arith, h.capacity.high)) in
+    let target = short_number game.target (omega (arith, h.capacity.high, h.target.high)) in
+    omega (arith, length-joined (codes "game" ∷ decimal game.bins ∷ decimal game.capacity ∷ decimal game.target ∷ []), bins, capacity, target)
+
+count_short : (count : ℕ) → count ≤ most_nodes → IsShortLine (count_line count)
+unfolding count_line
+count_short count h = omega (arith, length-joined (codes "nodes" ∷ decimal count ∷ []), long_number count (omega arith))
+
+nodes_short : (number : ℕ) (list : List AnyNode) → ((k : ℕ) (node : AnyNode) → slice_get list k ≡ Some node → IsShortLine (node_line (number + k) node)) → All IsShortLine (node_lines number list)
+nodes_short number [] h = All-nil IsShortLine
+nodes_short number (n ∷ ns) h =
+    let here : number + 0 ≡ number = omega arith in
+    All-cons IsShortLine (node_line number n) (node_lines (number + 1) ns) (subst (λ (i : ℕ). IsShortLine (node_line i n)) here (h 0 n refl))
+    (nodes_short (number + 1) ns (λ k node e. (let next : number + suc k ≡ (number + 1) + k = omega arith in subst (λ (i : ℕ). IsShortLine (node_line i node)) next (h (suc k) node e))))
+
+lines_short : (strategy : Strategy) → IsLegal strategy → All IsShortLine (strategy_lines strategy)
+lines_short strategy legal =
+    let h = nodes_are_legal strategy legal in
+    let head = head_of strategy in
+    let list = nodes_of strategy.nodes in
+    let short = nodes_short 0 list (λ k node e. (let at : k ≡ 0 + k = omega arith in subst (λ (i : ℕ). IsShortLine (node_line i node)) at (short_at head list refl h k node e))) in
+    let end : length end_line ≤ 16384 = omega arith in
+    let tail = All-append IsShortLine (node_lines 0 list) (end_line ∷ []) short (All-cons IsShortLine end_line [] end (All-nil IsShortLine)) in
+    All-cons IsShortLine (first_line head.format) (game_line head.game ∷ side_line head.side ∷ count_line head.count ∷ node_lines 0 list ++ end_line ∷ []) (first_short head.format)
+    (All-cons IsShortLine (game_line head.game) (side_line head.side ∷ count_line head.count ∷ node_lines 0 list ++ end_line ∷ []) (game_short head.game h.of_game)
+    (All-cons IsShortLine (side_line head.side) (count_line head.count ∷ node_lines 0 list ++ end_line ∷ []) (side_short head.side)
+    (All-cons IsShortLine (count_line head.count) (node_lines 0 list ++ end_line ∷ []) (count_short head.count h.high) tail)))
+
+-- the lines of a legal strategy are lines
+pub legal_lines_are_lines : LegalLinesAreLines
+legal_lines_are_lines strategy legal k d within = record {
+  no_lf = lines_are_lines strategy (legal_is_spellable strategy legal) k d within;
+  short = lines_short strategy legal k d within;
+}
+
+-- two legal strategies never have the same text, and no text of a legal one begins another
+pub legal_text_tells : LegalTextTellsStrategy
+legal_text_tells one other a b e = text_tells one other (legal_is_spellable one a) (legal_is_spellable other b) e
+
+pub no_legal_prefix : NoLegalTextBeginsAnother
+no_legal_prefix one other more a b e = no_prefix one other more (legal_is_spellable one a) (legal_is_spellable other b) e
+
+-- ---- no fault
+
+legal_stands : (strategy : Strategy) → IsLegal strategy → StandFirst (strategy_lines strategy) (text_of strategy) []
+legal_stands strategy legal = record { whole = legal_lines_are_lines strategy legal; split = sym (append-nil (text_of strategy)) }
+
+-- an element of a list, each of which has a property
+formed_at : (P : AnyNode → Type 0) (list : List AnyNode) (k : ℕ) (node : AnyNode) → All P list → slice_get list k ≡ Some node → P node
+formed_at P list k node h e = subst P (get_or_from_slice_get list k node node e) (h k node (slice_get_within list k node e))
+
+legal_judged : (strategy : Strategy) → IsLegal strategy → AreJudged (head_of strategy) (nodes_of strategy.nodes)
+legal_judged strategy legal =
+    let h = nodes_are_legal strategy legal in
+    let head = head_of strategy in
+    let list = nodes_of strategy.nodes in
+    record {
+      spelled = λ k node e. (record {
+        spells = record {
+          spellable = spellable_at head list refl h k node e (formed_at (IsFormed head.format) list k node h.formed e);
+          short = short_at head list refl h k node e;
+          spelled = refl;
+        };
+        side = formed_at (λ (n : AnyNode). side_of_node n ≡ head.side) list k node h.sides e;
+      });
+      each = h.each;
+    }
+
+pub legal_has_no_fault : (wanted : Wanted) (strategy : Strategy) → IsLegal strategy → IsWanted wanted (side_of strategy.nodes) → HasNoFault wanted (text_of strategy)
+legal_has_no_fault wanted strategy legal of_side line fault f =
+    let h = nodes_are_legal strategy legal in
+    let head = head_of strategy in
+    let list = nodes_of strategy.nodes in
+    let lines = strategy_lines strategy in
+    let bytes = text_of strategy in
+    let more = end_line ∷ [] in
+    let stood = legal_stands strategy legal in
+    let judged = legal_judged strategy legal in
+    let is : IsHead wanted head = record { of_game = h.of_game; wanted_side = of_side; low = h.low; high = h.high; whole_game = refl; start = refl } in
+    let has = head_from wanted head (node_lines 0 list ++ more) bytes [] is stood in
+    let stand = HasNodes-from head list more bytes [] refl judged stood in
+    let number : length (node_lines 0 list) ≡ length list = length-node_lines 0 list in
+    let get : slice_get lines (4 + (length (node_lines 0 list) + 0)) ≡ Some end_line = after_get (lines_of_head head) (node_lines 0 list ++ more) (length (node_lines 0 list) + 0) end_line (after_get (node_lines 0 list) more 0 end_line refl) in
+    let end : HasForm bytes (head.start + head.count) (λ text. text ≡ end_line) = (end_line, line_at lines bytes [] (4 + (length (node_lines 0 list) + 0)) (head.start + head.count) end_line stood get (omega (arith, number)), refl) in
+    let all : length lines ≡ 4 + (length (node_lines 0 list) + 1) = omega (arith, length-append (lines_of_head head) (node_lines 0 list ++ more), length_push (node_lines 0 list) end_line) in
+    let past : HasBytesPast bytes (head.start + head.count) → ⊥ = λ p. p.2 (same_rest p.1.lines lines p.0 [] p.1.each (no_lf lines stood.whole) (omega (arith, p.1.place, all, number)) (sym p.1.split ∙ stood.split)) in
+    none_below wanted bytes (line + 1) (Faultless-body wanted bytes (line + 1) head list has stand h.each (λ k few far. few) (λ far. end) (λ far. past)) line fault (omega arith) f
+
+pub legal_text_has_no_fault : LegalTextHasNoFault
+legal_text_has_no_fault wanted bytes is line fault f =
+    legal_has_no_fault wanted is.strategy is.legal is.wanted_side line fault (subst (λ (text : List ℕ). LineFault wanted text line fault) is.spelled f)
