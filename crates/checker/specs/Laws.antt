@@ -1,10 +1,13 @@
 -- What holds of the text of every legal strategy, and of every text.
-use Rattle.std.specs.Prelude.{◌≡◌, List, [], ◌++◌, ℕ, All}
+use Rattle.std.specs.Prelude.{◌≡◌, ◌⊎◌, ◌↔◌, ℕ, List, [], ◌++◌, All}
 use Rattle.port_io.specs.Lines.{IsLine}
 use Rattle.strategy_text.specs.Spelling.{IsSpellable}
 use Rattle.strategy_text.specs.Text.{strategy_lines, text_of}
 use Rattle.strategy_text.specs.declared.node.Strategy.{Strategy}
+use Rattle.checker.specs.FirstFault.{FirstFault, HasNoFault, IsLegalText}
 use Rattle.checker.specs.Head.{IsLegal}
+use Rattle.checker.specs.declared.fault.Wanted.{Wanted}
+use Rattle.checker.specs.declared.fault.Why.{Why}
 
 -- each legal strategy has a text
 abbrev pub LegalIsSpellable : Type 0
@@ -21,3 +24,15 @@ LegalTextTellsStrategy = (one other : Strategy) → IsLegal one → IsLegal othe
 -- no legal strategy's text is a proper prefix of another's
 abbrev pub NoLegalTextBeginsAnother : Type 0
 NoLegalTextBeginsAnother = (one other : Strategy) (more : List ℕ) → IsLegal one → IsLegal other → text_of one ++ more ≡ text_of other → more ≡ []
+
+-- a text has a first fault
+abbrev pub HasFirstFault : Wanted → List ℕ → Type 0
+HasFirstFault wanted bytes = (line : ℕ) × (fault : Why) × FirstFault wanted bytes line fault
+
+-- each text has a first fault, or no line of it has a fault
+abbrev pub EveryTextHasAFirstFaultOrNone : Type 0
+EveryTextHasAFirstFaultOrNone = (wanted : Wanted) (bytes : List ℕ) → HasFirstFault wanted bytes ⊎ HasNoFault wanted bytes
+
+-- the texts without a fault are exactly those of legal strategies of a wanted side
+abbrev pub OnlyLegalTextsHaveNoFault : Type 0
+OnlyLegalTextsHaveNoFault = (wanted : Wanted) (bytes : List ℕ) → HasNoFault wanted bytes ↔ IsLegalText wanted bytes

@@ -2,3 +2,4 @@ pub mod Head
 pub mod FirstFault
 pub mod Accepted
 pub mod Progress
+pub mod Laws

@@ -2,6 +2,7 @@
 
 ghost use Rattle.checker.specs.FirstFault.{OneFirstFault, LegalTextHasNoFault, FaultDependsOnLinesBefore};
 ghost use Rattle.checker.specs.Laws.{LegalIsSpellable, LegalLinesAreLines, LegalTextTellsStrategy, NoLegalTextBeginsAnother};
+ghost use Rattle.checker.specs.Laws.{EveryTextHasAFirstFaultOrNone, OnlyLegalTextsHaveNoFault};
 
 /// A text has at most one first fault: one line, and one thing that is wrong with it.
 pub fn a_text_has_one_first_fault()
@@ -30,4 +31,11 @@ pub fn a_legal_text_has_no_fault()
 /// nothing, and without them it is the same.
 pub fn faults_depend_on_the_lines_before()
     ensures { FaultDependsOnLinesBefore }
+{}
+
+/// Every text has a first fault, or no line of it has a fault; and the texts without a fault are exactly
+/// those of the legal strategies of a wanted side.
+pub fn every_text_has_a_first_fault_or_none()
+    ensures decided { EveryTextHasAFirstFaultOrNone }
+    ensures legal { OnlyLegalTextsHaveNoFault }
 {}
