@@ -2,3 +2,4 @@ pub mod RuleLemmas
 pub mod WonLemmas
 pub mod PoolLemmas
 pub mod PlayLemmas
+pub mod EndLemmas

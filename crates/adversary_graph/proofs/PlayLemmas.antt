@@ -4,8 +4,8 @@ use Rattle.std.specs.Prelude.{Any}
 use Rattle.std.specs.List.{All, slice_get}
 use Rattle.std.specs.Option.{option_and_then}
 use Rattle.std.proofs.lemmas.Bool.{cases_lt, cases_eq, cond-true, cond-false, eq-eqb, ne_eqb}
-use Rattle.std.proofs.lemmas.List.{get_or-set_other, get_or_default, length-set}
-use Rattle.std.proofs.lemmas.List.Elements.{All-contains, All-head, All-tail, All-cons}
+use Rattle.std.proofs.lemmas.List.{replicate-append-replicate, get_or-set_other, get_or_default, length-set}
+use Rattle.std.proofs.lemmas.List.Elements.{All-contains, All-head, All-tail, Contains-get_or}
 use Rattle.std.proofs.lemmas.List.Quantifiers.{any-set}
 use Rattle.std.proofs.lemmas.List.Sums.{sum_by-append}
 use Rattle.std.proofs.lemmas.Option.{none-some, same_Some}
@@ -20,14 +20,14 @@ use Rattle.loads.specs.Loads.{loads_after}
 use Rattle.loads.specs.Position.{StandsAt, IsEmptyPosition}
 use Rattle.loads.specs.Wins.{empty_position}
 use Rattle.loads.specs.declared.position.Position.{Position}
-use Rattle.loads.proofs.CountLemmas.{Contains-Same}
+use Rattle.items.proofs.MemberLemmas.{Contains-tail, Contains-Same}
 use Rattle.loads.proofs.DistinctLemmas.{Contains-distinct}
 use Rattle.loads.proofs.LoadsLemmas.{Same-loads_after}
 use Rattle.online_play.specs.Algorithm.{IsAlgorithm, bins_of, placed, run}
-use Rattle.online_play.specs.Laws.{LeadsTo}
+use Rattle.online_play.specs.Laws.{ComesTo}
 use Rattle.online_play.proofs.PlayLemmas.{sum_small, run-le-sum}
 use Rattle.online_play.proofs.RunLemmas.{run-push, length-run, bins_of-push}
-use Rattle.online_play.proofs.WonLemmas.{LeadsTo-empty, run-nil}
+use Rattle.online_play.proofs.WonLemmas.{ComesTo-empty, run-nil}
 use Rattle.strategy_text.specs.declared.node.AdvNode.{AdvNode}
 use Rattle.strategy_text.specs.declared.node.Placement.{Placement}
 use Rattle.strategy_text.specs.declared.node.Step.{Step}
@@ -40,7 +40,7 @@ use Rattle.adversary_graph.specs.Nodes.{position_of, sent_items, sent_size}
 use Rattle.adversary_graph.specs.Play.{End, end_at, end_by_step, end_of, goes_on, load_hit, next_at, child_of}
 use Rattle.adversary_graph.specs.Playing.{GoesOn, IsCourse, IsStep, StandsReady}
 use Rattle.adversary_graph.specs.Pools.{Pool, IsPool, IsRoot}
-use Rattle.adversary_graph.specs.Rules.{IsOverAtTarget, LeadsTo as LeadsBack, most_below_target}
+use Rattle.adversary_graph.specs.Rules.{IsOverAtTarget, LeadsTo, most_below_target}
 use Rattle.adversary_graph.proofs.RuleLemmas.{sizes_are_sizes}
 use Rattle.adversary_graph.proofs.WonLemmas.{Met, met, earlier_node, packable_node, one_less, root_position}
 
@@ -68,7 +68,7 @@ module _ (game : GameNumbers) (answer : List ℕ → ℕ) (algorithm : IsAlgorit
       omega (arith, total, load, sum_by-append (λ x. x) history (size ∷ []))
 
   -- the item leads to the position after it
-  pub leads_after : (position : Position) → LeadsTo game answer history position → LeadsTo game answer (history ++ size ∷ []) (after position (load_hit game answer history size) size)
+  pub leads_after : (position : Position) → ComesTo game answer history position → ComesTo game answer (history ++ size ∷ []) (after position (load_hit game answer history size) size)
   leads_after position at = record {
     packable = packable;
     loads = subst (λ (loads : List ℕ). Same loads (loads_after position.loads (load_hit game answer history size) size)) (sym run_placed)
@@ -77,10 +77,10 @@ module _ (game : GameNumbers) (answer : List ℕ → ℕ) (algorithm : IsAlgorit
   }
 
   -- the load that is hit is one of the position
-  pub hit_is_load : (position : Position) → LeadsTo game answer history position → Contains position.loads (load_hit game answer history size)
+  pub hit_is_load : (position : Position) → ComesTo game answer history position → Contains position.loads (load_hit game answer history size)
   hit_is_load position at =
       Contains-Same (load_hit game answer history size) (run game answer history) position.loads at.loads
-        (answer (history ++ size ∷ []), bin_in_run, refl)
+        (Contains-get_or (run game answer history) (answer (history ++ size ∷ [])) 0 bin_in_run)
 
   -- an item that takes the load that it hits to the target
   pub reaches : game.target ≤ load_hit game answer history size + size → Any (λ load. game.target ≤ load) (run game answer (history ++ size ∷ []))
@@ -122,12 +122,12 @@ pub record Hits (game : GameNumbers) (answer : List ℕ → ℕ) (nodes : List A
   pub ready : (child : ℕ) → next ≡ To child → (child < number) × StandsReady game answer nodes child (history ++ size ∷ [])
 
 module _ (pool : Pool) (is_pool : IsPool pool) (answer : List ℕ → ℕ) (algorithm : IsAlgorithm pool.game answer) where
-  rules_at : (number : ℕ) (node : AdvNode) → slice_get pool.nodes number ≡ Some node → Met pool.format pool.game (sizes_of pool.game) (map position_of (take number pool.nodes)) node
+  pub rules_at : (number : ℕ) (node : AdvNode) → slice_get pool.nodes number ≡ Some node → Met pool.format pool.game (sizes_of pool.game) (map position_of (take number pool.nodes)) node
   unfolding EachFollows
   rules_at number node e = met pool.format pool.game (sizes_of pool.game) (map position_of (take number pool.nodes)) false node (is_pool.follow number node e)
 
   -- what a node sends can come
-  pub ready_packable : (number : ℕ) (history : List ℕ) (node : AdvNode) → slice_get pool.nodes number ≡ Some node → LeadsTo pool.game answer history (position_of node)
+  pub ready_packable : (number : ℕ) (history : List ℕ) (node : AdvNode) → slice_get pool.nodes number ≡ Some node → ComesTo pool.game answer history (position_of node)
       → Packable pool.game (history ++ sent_items node.step)
   ready_packable number history node e at =
       Packable-Same pool.game (node.items ++ sent_items node.step) (history ++ sent_items node.step)
@@ -136,7 +136,7 @@ module _ (pool : Pool) (is_pool : IsPool pool) (answer : List ℕ → ℕ) (algo
 
   hits_by : (number : ℕ) (history loads items : List ℕ) (size : ℕ) (pack : Option (List (List ℕ))) (placements : List Placement)
       → Met pool.format pool.game (sizes_of pool.game) (map position_of (take number pool.nodes)) (record { loads = loads; items = items; step = Send size pack placements })
-      → Packable pool.game (history ++ size ∷ []) → LeadsTo pool.game answer history (record { loads = loads; items = items })
+      → Packable pool.game (history ++ size ∷ []) → ComesTo pool.game answer history (record { loads = loads; items = items })
       → Hits pool.game answer pool.nodes number history size placements
   hits_by number history loads items size pack placements m packable at =
       let game = pool.game in
@@ -152,13 +152,13 @@ module _ (pool : Pool) (is_pool : IsPool pool) (answer : List ℕ → ℕ) (algo
         is = found.1;
         over = found.2.0;
         ready = λ child is.
-          let stands : StandsAt earlier child (after here load size) = subst (λ (next : Then). LeadsBack earlier next (after here load size)) is found.2.1 in
+          let stands : StandsAt earlier child (after here load size) = subst (λ (next : Then). LeadsTo earlier next (after here load size)) is found.2.1 in
           let node = earlier_node pool.nodes number child (after here load size) stands in
-          (node.2, (node.0, node.1, subst (λ (p : Position). LeadsTo game answer (history ++ size ∷ []) p) (sym node.3) (leads_after game answer algorithm history size packable here at)));
+          (node.2, (node.0, node.1, subst (λ (p : Position). ComesTo game answer (history ++ size ∷ []) p) (sym node.3) (leads_after game answer algorithm history size packable here at)));
       }
 
   pub hits_at : (number : ℕ) (history : List ℕ) (node : AdvNode) (size : ℕ) (pack : Option (List (List ℕ))) (placements : List Placement)
-      → slice_get pool.nodes number ≡ Some node → node.step ≡ Send size pack placements → LeadsTo pool.game answer history (position_of node)
+      → slice_get pool.nodes number ≡ Some node → node.step ≡ Send size pack placements → ComesTo pool.game answer history (position_of node)
       → Hits pool.game answer pool.nodes number history size placements
   hits_at number history node size pack placements e is at =
       hits_by number history node.loads node.items size pack placements
@@ -174,7 +174,7 @@ module _ (pool : Pool) (is_pool : IsPool pool) (answer : List ℕ → ℕ) (algo
   goes_by number history size placements (To child) end ready = let h = ready child refl in (h.0, h.1, refl)
 
   pub send_step : (number : ℕ) (history : List ℕ) (node : AdvNode) (size : ℕ) (pack : Option (List (List ℕ))) (placements : List Placement)
-      → slice_get pool.nodes number ≡ Some node → node.step ≡ Send size pack placements → LeadsTo pool.game answer history (position_of node)
+      → slice_get pool.nodes number ≡ Some node → node.step ≡ Send size pack placements → ComesTo pool.game answer history (position_of node)
       → IsStep pool.game answer pool.nodes number history (option_and_then child_of (next_at (load_hit pool.game answer history size) placements)) (history ++ size ∷ [])
   send_step number history node size pack placements e is at =
       let h = hits_at number history node size pack placements e is at in
@@ -210,4 +210,27 @@ goes_to_end game answer nodes (suc n) number history items l step =
 pub root_ready : (pool : Pool) (answer : List ℕ → ℕ) (root : ℕ) → IsPool pool → IsRoot pool.nodes root → StandsReady pool.game answer pool.nodes root []
 unfolding EachFollows
 root_ready pool answer root p r =
-    (r.0, r.1, subst (λ (position : Position). LeadsTo pool.game answer [] position) (sym (root_position pool.game (position_of r.0) (p.follow root r.0 r.1).0.one_each r.2)) (LeadsTo-empty pool.game answer))
+    (r.0, r.1, subst (λ (position : Position). ComesTo pool.game answer [] position) (sym (root_position pool.game (position_of r.0) (p.follow root r.0 r.1).0.one_each r.2)) (ComesTo-empty pool.game answer))
+
+-- ---- a size several times
+
+replicate-le : (x size i n : ℕ) → i ≤ n → count x (replicate i size) ≤ count x (replicate n size)
+replicate-le x size zero n l = omega arith
+replicate-le x size (suc i) zero l = absurd (omega arith)
+replicate-le x size (suc i) (suc n) l = omega (arith, replicate-le x size i n (omega arith))
+
+pub times_packable : (game : GameNumbers) (history : List ℕ) (i times size : ℕ) → i < times → Packable game (history ++ replicate times size) → Packable game ((history ++ replicate i size) ++ size ∷ [])
+times_packable game history i times size l packable =
+    Packable-part game ((history ++ replicate i size) ++ size ∷ []) (history ++ replicate times size)
+      (λ x. omega (arith, count-append x (history ++ replicate i size) (size ∷ []), count-append x history (replicate i size), count-append x history (replicate times size), replicate-le x size (suc i) times l))
+      packable
+
+pub times_more : (history : List ℕ) (i size : ℕ) → (history ++ replicate i size) ++ size ∷ [] ≡ history ++ replicate (i + 1) size
+times_more history i size = append_assoc history (replicate i size) (size ∷ []) ∙ ap (λ (xs : List ℕ). history ++ xs) (replicate-append-replicate i 1 size)
+
+-- ---- the node that a play comes to
+
+pub ready_at : (game : GameNumbers) (answer : List ℕ → ℕ) (nodes : List AdvNode) (number : ℕ) (items : List ℕ) (node : AdvNode)
+    → StandsReady game answer nodes number items → slice_get nodes number ≡ Some node → ComesTo game answer items (position_of node)
+ready_at game answer nodes number items node ready e =
+    subst (λ (n : AdvNode). ComesTo game answer items (position_of n)) (same_Some ready.0 node (sym ready.1 ∙ e)) ready.2

@@ -131,7 +131,7 @@ some_child P (placement ∷ placements) all not =
 -- ---- the items of a node with what it sends are packable
 
 -- the items of a node are sizes of the game, and so is what it sends
-sent_sizes : (game : GameNumbers) (sizes loads items : List ℕ) (step : Step) → All (IsSize game.capacity) sizes
+pub sent_sizes : (game : GameNumbers) (sizes loads items : List ℕ) (step : Step) → All (IsSize game.capacity) sizes
     → All (Contains sizes) items → Contains sizes (sent_size step) → All (IsSize game.capacity) (items ++ sent_items step)
 sent_sizes game sizes loads items (Send size pack placements) z a s =
     All-append (IsSize game.capacity) items (size ∷ []) (All-weaker (Contains sizes) (IsSize game.capacity) (λ x c. All-contains (IsSize game.capacity) sizes x z c) items a)
@@ -141,7 +141,7 @@ sent_sizes game sizes loads items (Burst number size pack) z a s =
     (All-replicate (IsSize game.capacity) number size (All-contains (IsSize game.capacity) sizes size z s))
 
 -- what a node without a packing leads to
-not_all_over : (game : GameNumbers) (format : Format) (loads items : List ℕ) (size : ℕ) (placements : List Placement)
+pub not_all_over : (game : GameNumbers) (format : Format) (loads items : List ℕ) (size : ℕ) (placements : List Placement)
     → IsPacked game format (node_at (position loads items) (Send size None placements)) → All (λ placement. IsOver placement.next) placements → ⊥
 not_all_over game One loads items size placements packed all = packed.shown.1 tt
 not_all_over game Two loads items size placements packed all = packed.shown.1 all

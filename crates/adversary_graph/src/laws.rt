@@ -1,6 +1,17 @@
 //! Laws of the adversary's strategies, as contracts of functions that do nothing.
 
 ghost use Rattle.adversary_graph.specs.Laws.{LegalNodesAreWon, LegalStrategiesForceEvery};
+ghost use Rattle.adversary_graph.specs.Pools.{IsPool};
+
+use crate::pool::AdvPool;
+
+/// The nodes of a pool meet every rule but `root` over the nodes before them, and the numbers of its game are within
+/// their ranges.
+pub fn pool_is_legal(pool: &AdvPool)
+    ensures { IsPool pool.now }
+{
+    let _len = pool.len();
+}
 
 /// From the position of each node of a legal strategy the adversary wins. So a legal strategy forces every
 /// deterministic online algorithm of its game: each meets a packable list of items on which a load reaches the

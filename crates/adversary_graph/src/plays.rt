@@ -1,15 +1,21 @@
 //! Plays of the adversary's nodes against a player.
 
-ghost use Rattle.std.specs.Prelude.{◌≡◌, ◌<◌, ◌+◌, ◌++◌, ◌∷◌, [], ℕ, List, Option, Some, None, MatchOption, OnOk, IfOk, length, replicate, slice_get};
-ghost use Rattle.std.specs.Option.{option_and_then};
-ghost use Rattle.items.specs.Packable.{Packable};
-ghost use Rattle.online_play.specs.Algorithm.{bins_of, run};
-ghost use Rattle.adversary_graph.specs.Play.{IsLost, Play, child_of, end_of, end_packing, first_child, load_hit, next_at, play, without_all, beyond};
+ghost use Rattle.std.specs.Prelude.{◌≡◌, ◌<◌, ◌≤◌, ◌+◌, ◌++◌, ◌∷◌, [], ℕ, List, Option, Some, None, OnOk, IfOk, length, replicate};
+ghost use Rattle.std.specs.List.{concat};
+ghost use Rattle.std.specs.Option.{option_and_then, unwrap_or};
+ghost use Rattle.packing_witness.specs.Edits.{without};
+ghost use Rattle.items.specs.Multiset.{count};
+ghost use Rattle.items.specs.Packable.{IsPacking, Packable};
+ghost use Rattle.adversary_graph.specs.Nodes.{placements_of};
+ghost use Rattle.adversary_graph.specs.Play.{IsLost, beyond, child_of, end_of, end_packing, first_child};
+ghost use Rattle.adversary_graph.specs.Play.{load_hit, next_at, play, without_all};
 ghost use Rattle.adversary_graph.specs.Pools.{IsRoot};
-ghost use Rattle.adversary_graph.specs.Playing.{IsCourse, IsStep, StandsReady, play_of};
+ghost use Rattle.adversary_graph.specs.Playing.{IsCourse, IsEnd, IsStep, ShowsEndPacking, StandsReady, play_of};
 
+use crate::laws::pool_is_legal;
 use crate::pool::AdvPool;
 use crate::step::packing_of;
+use items::laws::game_is_legal;
 use items::{Game, Nums};
 use online_play::{Actual, Bins, Online, Transcript};
 use packing_witness::Packing;
@@ -24,6 +30,7 @@ pub fn refute<O: Online>(alloc: Global, pool: &AdvPool, root: u32, player: &O) -
     ensures played { IfOk result (λ transcript. play pool.now.game pool.now.nodes root (O.answer player.now pool.now.game) ≡ Some (play_of transcript)) }
     ensures lost { IfOk result (λ transcript. IsLost pool.now.game (play_of transcript)) }
 {
+    pool_is_legal(pool);
     let mut course = Course::new(alloc, &pool.game());
     let end = play_on(pool, root, player, &mut course)?;
     let packing = packing_for(pool, end, &course.items)?;
@@ -64,6 +71,7 @@ impl Course {
         ensures course { OnOk result (IsCourse game.now (O.answer player.now game.now) self.new) }
         ensures load { IfOk result (λ load. load ≡ load_hit game.now (O.answer player.now game.now) self.old.items size) }
     {
+        game_is_legal(game);
         self.items.push(size)?;
         let bin = player.place(game, self.items.as_slice());
         self.bins.push(bin)?;
@@ -95,6 +103,7 @@ fn play_on<O: Online>(pool: &AdvPool, root: u32, player: &O, course: &mut Course
     ensures end { IfOk result (λ number. end_of pool.now.game (O.answer player.now pool.now.game) pool.now.nodes (root + 1) root []
         ≡ Some (record { items = course.new.items; number = number })) }
 {
+    pool_is_legal(pool);
     let mut number = root;
     loop {
         match play_step(pool, number, player, course)? {
@@ -111,6 +120,7 @@ fn play_step<O: Online>(pool: &AdvPool, number: u32, player: &O, course: &mut Co
     ensures course { OnOk result (IsCourse pool.now.game (O.answer player.now pool.now.game) course.new) }
     ensures step { IfOk result (λ next. IsStep pool.now.game (O.answer player.now pool.now.game) pool.now.nodes number course.old.items next course.new.items) }
 {
+    pool_is_legal(pool);
     let game = pool.game();
     match &pool.node(number).step {
         Step::Send { size, placements, .. } => {
@@ -145,9 +155,115 @@ fn child_of(next: Then) -> Option<u32>
     }
 }
 
-// A packing of a play's items: the end packing of its last node without what that has beyond the items.
+// A packing of a play's items: the end packing of the node of this number without what that has beyond the items.
 fn packing_for(pool: &AdvPool, number: u32, items: &Nums) -> Result<Packing, AllocError>
-    requires stub { ⊥ }
+    requires end { IsEnd pool.now number items.now }
+    ensures made { IfOk result (λ packing. (bins : List (List ℕ)) × (end_packing pool.now.nodes (number + 1) number ≡ Some bins)
+        × (packing ≡ without_all (beyond pool.now.game (concat bins) items.now) bins)) }
+    ensures packed { IfOk result (λ packing. IsPacking pool.now.game packing items.now) }
 {
-    unreachable!()
+    pool_is_legal(pool);
+    let game = pool.game();
+    let packing = without_beyond(&game, end_packing(pool, number), items.as_slice())?;
+    Ok(packing)
+}
+
+// The end packing of the node of this number.
+fn end_packing(pool: &AdvPool, number: u32) -> &Packing
+    requires within { number < length pool.now.nodes }
+    ensures { end_packing pool.now.nodes (number + 1) number ≡ Some result.now }
+{
+    packing_of(&pool.node(packed_node(pool, number)).step).unwrap()
+}
+
+// The node whose packing is the end packing of the node of this number.
+fn packed_node(pool: &AdvPool, number: u32) -> u32
+    requires within { number < length pool.now.nodes }
+    ensures { ShowsEndPacking pool.now.nodes number result }
+{
+    pool_is_legal(pool);
+    let mut at = number;
+    loop {
+        let step = &pool.node(at).step;
+        let Some(_shown) = packing_of(step) else {
+            at = first_child(step).unwrap();
+            continue;
+        };
+        return at;
+    }
+}
+
+// The child of the first placement that has one.
+fn first_child(step: &Step) -> Option<u32>
+    ensures { result ≡ first_child (placements_of step.now) }
+{
+    match step {
+        Step::Send { placements, .. } => first_child_of(placements.as_slice()),
+        Step::Burst { .. } => None,
+    }
+}
+
+fn first_child_of(placements: &[Placement]) -> Option<u32>
+    ensures { result ≡ first_child placements.now }
+{
+    for placement in placements {
+        if let Then::To(child) = placement.next {
+            return Some(child);
+        }
+    }
+    None
+}
+
+// The bins without what they have beyond the items.
+fn without_beyond(game: &Game, bins: &Packing, items: &[u16]) -> Result<Packing, AllocError>
+    requires few { (x : ℕ) → count x (concat bins.now) ≤ 960 }
+    ensures { IfOk result (λ packing. packing ≡ without_all (beyond game.now (concat bins.now) items.now) bins.now) }
+{
+    let mut packing = bins.copy()?;
+    for i in 0..game.g() {
+        let size = i + 1;
+        let surplus = times_in_bins(bins.bins(), size).saturating_sub(times(items, size));
+        packing = without_times(packing, size, surplus)?;
+    }
+    Ok(packing)
+}
+
+// The bins when an item is taken out so often.
+fn without_times(bins: Packing, size: u16, times: usize) -> Result<Packing, AllocError>
+    ensures { IfOk result (λ packing. packing ≡ without_all (replicate times size) bins) }
+{
+    let mut packing = bins;
+    for _i in 0..times {
+        packing = without_one(packing, size)?;
+    }
+    Ok(packing)
+}
+
+// The bins when an item is taken out of the first bin that has one.
+fn without_one(bins: Packing, size: u16) -> Result<Packing, AllocError>
+    ensures { IfOk result (λ packing. packing ≡ unwrap_or (without size bins) bins) }
+{
+    match bins.without(size)? {
+        Some(rest) => Ok(rest),
+        None => Ok(bins),
+    }
+}
+
+// How often a size stands in the bins.
+fn times_in_bins(bins: &[Nums], size: u16) -> usize
+    requires { count size (concat bins.now) ≤ 960 }
+    ensures { result ≡ count size (concat bins.now) }
+{
+    let mut total = 0usize;
+    for bin in bins {
+        total += times(bin.as_slice(), size);
+    }
+    total
+}
+
+// How often a size stands in a list.
+fn times(list: &[u16], size: u16) -> usize
+    ensures { result ≡ count size list.now }
+{
+    list.iter().filter(|item| **item == size).count()
 }

@@ -1,0 +1,4 @@
+pub mod RuleLemmas
+pub mod SizesLemmas
+pub mod ReplayLemmas
+pub mod BelowLemmas

@@ -1,5 +1,5 @@
 -- What a node of the algorithm answers.
-use Rattle.std.specs.Prelude.{ℕ, List, []}
+use Rattle.std.specs.Prelude.{List, []}
 use Rattle.loads.specs.declared.position.Position.{Position}
 use Rattle.loads.specs.Position.{position}
 use Rattle.strategy_text.specs.declared.node.Act.{Act}

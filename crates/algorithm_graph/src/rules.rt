@@ -1,17 +1,28 @@
 //! The rules of an algorithm's node.
 
-ghost use Rattle.std.specs.Prelude.{◌≡◌, MatchResult, IfOk, All};
-ghost use Rattle.items.specs.Multiset.{IsSize};
-ghost use Rattle.algorithm_graph.specs.Nodes.{position_of, IsOfFormat};
-ghost use Rattle.algorithm_graph.specs.Rules.{MeetsRules, Breaks};
+ghost use Rattle.std.specs.Prelude.{◌≡◌, ◌↔◌, ◌++◌, ◌≤◌, ◌<◌, IsTrue, All, Contains, MatchOption, MatchResult};
+ghost use Rattle.std.specs.Prelude.{IfOk, length, slice_get, Some, sum, take, ℕ};
+ghost use Rattle.items.specs.Multiset.{IsSize, sizes_of};
+ghost use Rattle.loads.specs.Loads.{IsLoads};
+ghost use Rattle.loads.specs.Position.{AreItemsOf, IsEmptyPosition};
+ghost use Rattle.strategy_text.specs.Rules.{AllMet};
+ghost use Rattle.algorithm_graph.specs.Nodes.{position_of, entries_of};
+ghost use Rattle.algorithm_graph.specs.Rules.{MeetsRules, Breaks, Meets, NamesLoad, rules_past_items};
+ghost use Rattle.algorithm_graph.specs.Rules.{FinishesIfSaid, BigFinishesIfSaid, RepliesIfSaid};
+ghost use Rattle.algorithm_graph.specs.Judging.{node_at, sizes_in, sizes_up_to, if_one_of, BreaksPastItems};
+ghost use Rattle.algorithm_graph.specs.Judging.{HaveRoom, HasSize, LeadsOn};
 
-use items::{Game, Sizes};
-use loads::{EarlierPositions, Position};
+use good_situations::{big_finishes, finishes};
+use items::{Game, Items, Sizes};
+use loads::{EarlierPositions, Loads, Position};
+use reachable_loads::Reach;
 use std::alloc::{AllocError, Global};
-use strategy_text::{AlgNode, Rule};
+use strategy_text::{Act, AlgNode, Entry, Rule};
 
-/// Judges a node of the algorithm as the one that follows the earlier ones, where items may have these sizes: its
-/// position where it meets every rule, else the first rule that it breaks.
+/// The position of a node that meets every rule as the node that follows the earlier ones, or the first rule
+/// that it breaks. Items may have the given sizes, each of which is a size of the game. The rule `root` is judged
+/// only where the node is the last one. A node that replies costs the set of the loads that its items reach, once;
+/// any other is judged without memory.
 pub fn judge<E: EarlierPositions>(
     alloc: Global,
     game: &Game,
@@ -22,8 +33,282 @@ pub fn judge<E: EarlierPositions>(
 ) -> Result<Result<Position, Rule>, AllocError>
     requires sizes { All (IsSize game.now.capacity) sizes.now }
     ensures exact { IfOk result (λ judged. MatchResult judged
-        (λ position. (position ≡ position_of node.now) × MeetsRules game.now sizes.now (E.positions earlier.now) last node.now)
+        (λ position. (position ≡ position_of node.now)
+        × MeetsRules game.now sizes.now (E.positions earlier.now) last node.now)
         (Breaks game.now sizes.now (E.positions earlier.now) last node.now)) }
 {
-    Err(AllocError)
+    let loads = node.loads.as_slice();
+    let Some(loads) = Loads::from_slice(alloc, game, loads) else {
+        return Ok(Err(Rule::Loads));
+    };
+    let Some(items) = items_of(game, sizes, &loads, node.items.as_slice()) else {
+        return Ok(Err(Rule::Items));
+    };
+    let position = Position { loads, items };
+    match fault_past_items(alloc, game, sizes, earlier, last, &position, &node.act)? {
+        Some(rule) => Ok(Err(rule)),
+        None => Ok(Ok(position)),
+    }
+}
+
+/// The first rule of the whole game that the node breaks as the node that follows the earlier ones; None exactly
+/// where it breaks none. The rule `root` is judged only where the node is the last one. The cost is that of `judge`.
+pub fn node_fault<E: EarlierPositions>(
+    alloc: Global,
+    game: &Game,
+    earlier: &E,
+    last: bool,
+    node: &AlgNode,
+) -> Result<Option<Rule>, AllocError>
+    ensures exact { IfOk result (λ fault. MatchOption fault
+        (MeetsRules game.now (sizes_of game.now) (E.positions earlier.now) last node.now)
+        (Breaks game.now (sizes_of game.now) (E.positions earlier.now) last node.now)) }
+{
+    match judge(alloc, game, &Sizes::of_game(game), earlier, last, node)? {
+        Ok(_) => Ok(None),
+        Err(rule) => Ok(Some(rule)),
+    }
+}
+
+// The items as a multiset; None exactly where they are not items of these loads.
+fn items_of(game: &Game, sizes: &Sizes, loads: &Loads, items: &[u16]) -> Option<Items>
+    requires sizes { All (IsSize game.now.capacity) sizes.now }
+    requires of_game { IsLoads game.now loads.now }
+    ensures exact { MatchOption result
+        (¬ AreItemsOf sizes.now loads.now items.now)
+        (λ made. (made ≡ items.now) × AreItemsOf sizes.now loads.now items.now) }
+{
+    let _capacity = game.g();
+    let Some(made) = Items::from_slice(game, items) else {
+        return None;
+    };
+    if are_allowed(sizes, items) && u32::from(made.volume()) == total_of(loads.as_slice()) {
+        Some(made)
+    } else {
+        None
+    }
+}
+
+fn are_allowed(sizes: &Sizes, items: &[u16]) -> bool
+    ensures { IsTrue result ↔ All (Contains sizes.now) items.now }
+{
+    for item in items {
+        if !sizes.contains(*item) {
+            return false;
+        }
+    }
+    true
+}
+
+fn total_of(loads: &[u16]) -> u32
+    requires { length loads.now ≤ 8 }
+    ensures { result ≡ sum loads.now }
+{
+    loads.iter().map(|load| u32::from(*load)).sum()
+}
+
+// The first rule past `items` that a node breaks which does this at the position.
+fn fault_past_items<E: EarlierPositions>(
+    alloc: Global,
+    game: &Game,
+    sizes: &Sizes,
+    earlier: &E,
+    last: bool,
+    position: &Position,
+    act: &Act,
+) -> Result<Option<Rule>, AllocError>
+    requires sizes { All (IsSize game.now.capacity) sizes.now }
+    requires loads { IsLoads game.now position.now.loads }
+    requires items { AreItemsOf sizes.now position.now.loads position.now.items }
+    ensures exact { let node = node_at position.now act.now in IfOk result (λ fault. MatchOption fault
+        (AllMet (Meets game.now sizes.now (E.positions earlier.now) last node) rules_past_items)
+        (BreaksPastItems game.now sizes.now (E.positions earlier.now) last node)) }
+{
+    if !finishes_if_said(game, position, act) {
+        return Ok(Some(Rule::Finish));
+    }
+    if !big_finishes_if_said(game, position, act) {
+        return Ok(Some(Rule::Big));
+    }
+    if !replies_if_said(alloc, game, sizes, position, act)? {
+        return Ok(Some(Rule::Replies));
+    }
+    let entries = entries_of(act);
+    if !name_loads(game, &position.loads, entries) {
+        return Ok(Some(Rule::Reply));
+    }
+    if !lead_to_children(game, earlier, position, entries) {
+        return Ok(Some(Rule::Child));
+    }
+    if last && !is_empty(position) {
+        return Ok(Some(Rule::Root));
+    }
+    Ok(None)
+}
+
+fn finishes_if_said(game: &Game, position: &Position, act: &Act) -> bool
+    ensures { IsTrue result ↔ FinishesIfSaid game.now (node_at position.now act.now) act.now }
+{
+    match act {
+        Act::Finish => finishes(game, &position.loads),
+        Act::Big(_) => true,
+        Act::Reply(_) => true,
+    }
+}
+
+fn big_finishes_if_said(game: &Game, position: &Position, act: &Act) -> bool
+    ensures { IsTrue result ↔ BigFinishesIfSaid game.now (node_at position.now act.now) act.now }
+{
+    match act {
+        Act::Finish => true,
+        Act::Big(b) => big_finishes(game, &position.loads, &position.items, *b),
+        Act::Reply(_) => true,
+    }
+}
+
+// Whether a node that replies does so to each size that may come.
+fn replies_if_said(
+    alloc: Global,
+    game: &Game,
+    sizes: &Sizes,
+    position: &Position,
+    act: &Act,
+) -> Result<bool, AllocError>
+    requires { All (IsSize game.now.capacity) position.now.items }
+    ensures { IfOk result (λ met. IsTrue met
+        ↔ RepliesIfSaid game.now sizes.now (node_at position.now act.now) act.now) }
+{
+    match act {
+        Act::Finish => Ok(true),
+        Act::Big(_) => Ok(true),
+        Act::Reply(entries) => {
+            let room = room_after(alloc, game, &position.items)?;
+            Ok(are_sizes_up_to(sizes, room, entries.as_slice()))
+        }
+    }
+}
+
+// The greatest size of an item with which the items are packable, and 0 where there is none.
+fn room_after(alloc: Global, game: &Game, items: &Items) -> Result<u16, AllocError>
+    requires { All (IsSize game.now.capacity) items.now }
+    ensures { IfOk result (HaveRoom game.now items.now) }
+{
+    let list = items.list(alloc)?;
+    let mut reach = Reach::start(alloc, game)?;
+    for item in list.as_slice() {
+        let more = reach.add(*item)?;
+        reach = more;
+    }
+    Ok(reach.room())
+}
+
+// Whether the entries have the sizes that are at most the room, ascending.
+fn are_sizes_up_to(sizes: &Sizes, room: u16, entries: &[Entry]) -> bool
+    ensures { IsTrue result ↔ (sizes_in entries.now ≡ sizes_up_to sizes.now room) }
+{
+    let mut place = 0;
+    for below in 0..room {
+        let Some(next) = past_entry(sizes, entries, place, below + 1) else {
+            return false;
+        };
+        place = next;
+    }
+    place == entries.len()
+}
+
+// The place after the entry of this size, and the same place where items do not have the size; None where the entry
+// of a size that they have does not stand there.
+fn past_entry(sizes: &Sizes, entries: &[Entry], place: usize, size: u16) -> Option<usize>
+    requires { place ≤ length entries.now }
+    ensures { let in_order = sizes_in entries.now in MatchOption result
+        (Contains sizes.now size × (slice_get in_order place ≡ Some size → ⊥))
+        (λ next. (next ≤ length entries.now) × (take next in_order ≡ take place in_order ++ if_one_of sizes.now size)) }
+{
+    if !sizes.contains(size) {
+        return Some(place);
+    }
+    if place < entries.len() && entries[place].size == size {
+        return Some(place + 1);
+    }
+    None
+}
+
+// The entries of a node that replies; none of any other.
+fn entries_of(act: &Act) -> &[Entry]
+    ensures { result.now ≡ entries_of act.now }
+{
+    match act {
+        Act::Finish => &[],
+        Act::Big(_) => &[],
+        Act::Reply(entries) => entries.as_slice(),
+    }
+}
+
+fn name_loads(game: &Game, loads: &Loads, entries: &[Entry]) -> bool
+    ensures { IsTrue result ↔ All (NamesLoad game.now loads.now) entries.now }
+{
+    for entry in entries {
+        if !names_load(game, loads, entry) {
+            return false;
+        }
+    }
+    true
+}
+
+fn names_load(game: &Game, loads: &Loads, entry: &Entry) -> bool
+    ensures exact { IsTrue result ↔ NamesLoad game.now loads.now entry.now }
+{
+    has_load(loads.as_slice(), entry.load)
+        && u32::from(entry.load) + u32::from(entry.size) < u32::from(game.t())
+}
+
+fn has_load(loads: &[u16], load: u16) -> bool
+    ensures { IsTrue result ↔ Contains loads.now load }
+{
+    loads.contains(&load)
+}
+
+// Whether each entry leads to an earlier node at the position after its item.
+fn lead_to_children<E: EarlierPositions>(
+    game: &Game,
+    earlier: &E,
+    position: &Position,
+    entries: &[Entry],
+) -> bool
+    requires loads { IsLoads game.now position.now.loads }
+    requires total { sum position.now.items ≡ sum position.now.loads }
+    requires sizes { All (HasSize game.now) entries.now }
+    requires named { All (NamesLoad game.now position.now.loads) entries.now }
+    ensures exact { IsTrue result ↔ All (LeadsOn (E.positions earlier.now) position.now) entries.now }
+{
+    for entry in entries {
+        if !leads_to_child(game, earlier, position, entry) {
+            return false;
+        }
+    }
+    true
+}
+
+fn leads_to_child<E: EarlierPositions>(
+    game: &Game,
+    earlier: &E,
+    position: &Position,
+    entry: &Entry,
+) -> bool
+    requires loads { IsLoads game.now position.now.loads }
+    requires total { sum position.now.items ≡ sum position.now.loads }
+    requires size { HasSize game.now entry.now }
+    requires named { NamesLoad game.now position.now.loads entry.now }
+    ensures exact { IsTrue result ↔ LeadsOn (E.positions earlier.now) position.now entry.now }
+{
+    let _capacity = game.g();
+    let loads = position.loads.place(game, entry.load, entry.size).unwrap();
+    let items = position.items.add(entry.size);
+    earlier.is_at(entry.to as usize, &loads, &items)
+}
+
+fn is_empty(position: &Position) -> bool
+    ensures exact { IsTrue result ↔ IsEmptyPosition position.now }
+{
+    position.items.volume() == 0 && position.loads.as_slice().iter().all(|load| *load == 0)
 }

@@ -1,12 +1,13 @@
 -- What can be decided: of numbers, lists and positions, and what bounded searches find.
-use Rattle.std.proofs.Common.{◌≡◌, ◌⊎◌, ◌↔◌, inl, inr, Bool, true, false, ℕ, zero, suc, ◌+◌, ◌<◌, ◌≤◌, List, [], ◌∷◌, ◌++◌, ◌*◌, length, get_or, All, Contains, Option, Some, None, IfSome, ⊎_elim, sym, ap, ◌∙◌, subst, refl, arith}
+use Rattle.std.proofs.Common.{◌≡◌, ◌⊎◌, ◌↔◌, inl, inr, Bool, true, false, ℕ, zero, suc, ◌+◌, ◌<◌, ◌≤◌, List, [], ◌∷◌, ◌*◌, length, get_or, All, Contains, Option, Some, None}
+use Rattle.std.proofs.Common.{⊎_elim, ap, ◌∙◌, subst, refl, arith}
 use Rattle.std.specs.Prelude.{IsTrue}
 use Rattle.std.specs.List.{slice_get, concat, sum}
 use Rattle.std.specs.List.Sorted.{IsNonDecreasing}
 use Rattle.std.proofs.lemmas.Bool.{cases_eq, cases_lt, false≢true}
 use Rattle.std.proofs.lemmas.List.{nil_from_length}
 use Rattle.std.proofs.lemmas.List.Elements.{All-nil, All-cons, All-head, All-tail}
-use Rattle.items.specs.Game.{GameNumbers, HasBins, HasCapacity, HasTarget, IsGame}
+use Rattle.items.specs.Game.{GameNumbers, IsGame}
 use Rattle.items.specs.Multiset.{IsSize, Same, count}
 use Rattle.items.specs.Packable.{bin_total, IsAssignment, IsPacking, Packable}
 use Rattle.items.proofs.MultisetLemmas.{RisesFrom, IsNonDecreasing-from_rises, RisesFrom-zero}
@@ -140,18 +141,22 @@ decided_ascending xs = decided_by (RisesFrom 0 xs) (IsNonDecreasing xs) (IsNonDe
 pub decided_neighbours : (R : ℕ → ℕ → Type 0) → ((k l : ℕ) → Decided (R k l)) → (n : ℕ) → Decided ((k : ℕ) → k + 1 < n → R k (k + 1))
 decided_neighbours R d zero = inl (λ k low. absurd (omega (arith, low)))
 decided_neighbours R d (suc n) =
-    decided_by ((k : ℕ) → k < n → R k (k + 1)) ((k : ℕ) → k + 1 < suc n → R k (k + 1)) (λ h k low. h k (omega (arith, low))) (λ h k low. h k (omega (arith, low))) (decided_below (λ k. R k (k + 1)) (λ k. d k (k + 1)) n)
+    decided_by ((k : ℕ) → k < n → R k (k + 1)) ((k : ℕ) → k + 1 < suc n → R k (k + 1)) (λ h k low. h k (omega (arith, low))) (λ h k low. h k (omega (arith, low)))
+    (decided_below (λ k. R k (k + 1)) (λ k. d k (k + 1)) n)
 
 -- ---- of items
 
 pub decided_size : (most size : ℕ) → Decided (IsSize most size)
-decided_size most size = decided_by ((1 ≤ size) × (size ≤ most)) (IsSize most size) (λ h. record { low = h.0; high = h.1 }) (λ h. (h.low, h.high)) (decided_both (1 ≤ size) (size ≤ most) (decided_le 1 size) (decided_le size most))
+decided_size most size =
+    decided_by ((1 ≤ size) × (size ≤ most)) (IsSize most size) (λ h. record { low = h.0; high = h.1 }) (λ h. (h.low, h.high))
+    (decided_both (1 ≤ size) (size ≤ most) (decided_le 1 size) (decided_le size most))
 
 pub decided_same : (xs ys : List ℕ) → Decided (Same xs ys)
 decided_same xs ys =
     let Equal : ℕ → Type 0 = λ x. (count x xs ≡ count x ys) in
     decided_by (All Equal xs × All Equal ys) (Same xs ys) (λ h. Same-from_members xs ys h.0 h.1) (λ h. ((λ k d within. h (get_or xs k d)), (λ k d within. h (get_or ys k d))))
-    (decided_both (All Equal xs) (All Equal ys) (decided_all Equal (λ x. decided_eq (count x xs) (count x ys)) xs) (decided_all Equal (λ x. decided_eq (count x xs) (count x ys)) ys))
+    (decided_both (All Equal xs) (All Equal ys) (decided_all Equal (λ x. decided_eq (count x xs) (count x ys)) xs)
+    (decided_all Equal (λ x. decided_eq (count x xs) (count x ys)) ys))
 
 pub decided_packing : (game : GameNumbers) (bins : List (List ℕ)) (items : List ℕ) → Decided (IsPacking game bins items)
 decided_packing game bins items =
@@ -160,7 +165,8 @@ decided_packing game bins items =
     (λ h. record { one_each = h.0.0; fits = h.0.1; together = h.1 })
     (λ h. ((h.one_each, h.fits), h.together))
     (decided_both ((length bins ≡ game.bins) × All Fits bins) (Same (concat bins) items)
-    (decided_both (length bins ≡ game.bins) (All Fits bins) (decided_eq (length bins) game.bins) (decided_all Fits (λ bin. decided_le (sum bin) game.capacity) bins)) (decided_same (concat bins) items))
+    (decided_both (length bins ≡ game.bins) (All Fits bins) (decided_eq (length bins) game.bins) (decided_all Fits (λ bin. decided_le (sum bin) game.capacity) bins))
+    (decided_same (concat bins) items))
 
 decided_assignment : (game : GameNumbers) (items bins : List ℕ) → Decided (IsAssignment game items bins)
 decided_assignment game items bins =
@@ -172,7 +178,8 @@ decided_assignment game items bins =
     (λ h. ((h.item_list, h.one_each), (h.of_game, h.fits)))
     (decided_both (Sized × (length bins ≡ length items)) (Placed × Fits)
     (decided_both Sized (length bins ≡ length items) (decided_all (IsSize game.capacity) (decided_size game.capacity) items) (decided_eq (length bins) (length items)))
-    (decided_both Placed Fits (decided_all (λ bin. bin < game.bins) (λ bin. decided_lt bin game.bins) bins) (decided_below (λ bin. bin_total bin items bins ≤ game.capacity) (λ bin. decided_le (bin_total bin items bins) game.capacity) game.bins)))
+    (decided_both Placed Fits (decided_all (λ bin. bin < game.bins) (λ bin. decided_lt bin game.bins) bins)
+    (decided_below (λ bin. bin_total bin items bins ≤ game.capacity) (λ bin. decided_le (bin_total bin items bins) game.capacity) game.bins)))
 
 pub decided_packable : (game : GameNumbers) (items : List ℕ) → Decided (Packable game items)
 decided_packable game items =

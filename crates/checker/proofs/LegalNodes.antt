@@ -1,14 +1,15 @@
 -- The text of a legal strategy has no fault: its lines are whole, and spell what they are to spell.
-use Rattle.std.proofs.Common.{◌≡◌, ◌≢◌, ◌==◌, ◌↔◌, replicate, ℕ, zero, suc, ◌+◌, ◌*◌, ◌<◌, ◌≤◌, Bool, List, [], ◌∷◌, ◌++◌, length, get_or, take, map, All, Contains, Option, Some, None, sym, ap, ◌∙◌, subst, refl, arith, length-append, length-take, IfSome, mul-le-mul}
-use Rattle.std.specs.List.{slice_get, AllByRecursion, concat}
+use Rattle.std.proofs.Common.{◌≡◌, ◌≢◌, ◌↔◌, replicate, ℕ, zero, suc, ◌+◌, ◌*◌, ◌<◌, ◌≤◌, Bool, List, [], ◌∷◌, ◌++◌, length, get_or, map, All, Contains, Option, Some}
+use Rattle.std.proofs.Common.{None, ap, subst, refl, arith, length-append, IfSome, mul-le-mul}
+use Rattle.std.specs.List.{AllByRecursion, concat}
 use Rattle.std.specs.Prelude.{sum}
 use Rattle.std.proofs.Math.ListN.{get_or-map}
-use Rattle.std.proofs.lemmas.List.{length-map, length-replicate, append-nil}
+use Rattle.std.proofs.lemmas.List.{length-map, length-replicate}
 use Rattle.std.proofs.lemmas.List.Sums.{get_or-le-sum_by, sum_by-cons, sum_by-le}
-use Rattle.std.proofs.lemmas.List.Elements.{All-nil, All-cons, All-append, All-map, All-replicate, All-weaker, All-contains, All-contains_itself, All-get_or, recursion_from_All}
-use Rattle.std.proofs.lemmas.Option.{slice_get_within, slice_get-get_or}
+use Rattle.std.proofs.lemmas.List.Elements.{All-nil, All-cons, All-append, All-replicate, All-weaker, All-contains, All-contains_itself, All-get_or, recursion_from_All}
+use Rattle.std.proofs.lemmas.Option.{slice_get_within}
 use Rattle.items.specs.Game.{GameNumbers, IsGame}
-use Rattle.items.specs.Multiset.{sizes_of, IsSize, IsMultiset}
+use Rattle.items.specs.Multiset.{sizes_of, IsSize}
 use Rattle.items.specs.Packable.{IsPacking}
 use Rattle.items.proofs.MultisetLemmas.{length-Same}
 use Rattle.items.proofs.SizesLemmas.{size_from_Contains}
@@ -16,11 +17,11 @@ use Rattle.packing_witness.proofs.PackableLemmas.{sum-packing-le}
 use Rattle.loads.specs.After.{after}
 use Rattle.loads.specs.Descending.{distinct}
 use Rattle.loads.specs.Loads.{IsLoads}
-use Rattle.loads.specs.Position.{position, AreItemsOf}
+use Rattle.loads.specs.Position.{AreItemsOf}
 use Rattle.loads.specs.declared.position.Position.{Position}
 use Rattle.loads.proofs.DistinctLemmas.{length-distinct-le, length-distinct_above_zero, Contains-from_distinct}
-use Rattle.strategy_text.specs.Spelling.{IsNumber, IsThen, IsPlacement, IsPack, IsOptionalPack, IsStep, IsEntry, IsAct, IsSpellableNode, IsSpellable, most_child, most_nodes}
-use Rattle.strategy_text.specs.Text.{AnyNode, of_adversary, of_algorithm, node_line, node_lines, nodes_of, side_of, first_line, game_line, side_line, count_line, end_line, strategy_lines, text_of}
+use Rattle.strategy_text.specs.Spelling.{IsNumber, IsThen, IsPlacement, IsPack, IsOptionalPack, IsStep, IsEntry, IsAct, IsSpellableNode, most_nodes}
+use Rattle.strategy_text.specs.Text.{AnyNode, of_adversary, of_algorithm}
 use Rattle.strategy_text.specs.declared.node.Act.{Act}
 use Rattle.strategy_text.specs.declared.node.Act.TheVariants.{Finish, Big, Reply}
 use Rattle.strategy_text.specs.declared.node.AdvNode.{AdvNode}
@@ -41,7 +42,7 @@ use Rattle.algorithm_graph.specs.Nodes.{entries_of}
 use Rattle.algorithm_graph.specs.Nodes as algorithm_nodes
 use Rattle.algorithm_graph.specs.Rules.{IsStrictlyAscending, RepliesIfSaid, NamesLoad, BigFinishesIfSaid}
 use Rattle.algorithm_graph.specs.Rules as algorithm
-use Rattle.checker.specs.Head.{Head, position_of, MeetsRules}
+use Rattle.checker.specs.Head.{Head, MeetsRules}
 use Rattle.checker.proofs.ShortLines.{IsSmallPack, IsShort, IsSmallStep, IsShortEntry, IsSmallAct, IsSmallPosition, IsSmallNode}
 
 -- ---- numbers
@@ -119,7 +120,8 @@ pack_spellable game bins items g p = record {
   each = bins_numbers bins game.capacity p.fits (omega (arith, g.capacity.high));
 }
 
-if_small : (game : GameNumbers) (pack : Option (List (List ℕ))) (items : List ℕ) → IsGame game → All (IsSize game.capacity) items → IfSome pack (λ bins. IsPacking game bins items) → IfSome pack IsSmallPack
+if_small : (game : GameNumbers) (pack : Option (List (List ℕ))) (items : List ℕ) → IsGame game → All (IsSize game.capacity) items
+    → IfSome pack (λ bins. IsPacking game bins items) → IfSome pack IsSmallPack
 if_small game None items g sizes h = tt
 if_small game (Some bins) items g sizes h = pack_small game bins items g sizes h
 
@@ -139,15 +141,19 @@ placed_some (x ∷ xs) placements some e none =
 -- a placement of a node that places each load has one of the loads
 placed_load : (loads placed : List ℕ) (k d : ℕ) → placed ≡ distinct loads → k < length placed → Contains loads (get_or placed k d)
 placed_load loads placed k d e l =
-    let each : All (Contains loads) (distinct loads) = All-weaker (Contains (distinct loads)) (Contains loads) (λ x. Contains-from_distinct x loads) (distinct loads) (All-contains_itself (distinct loads)) in
+    let each : All (Contains loads) (distinct loads) =
+    All-weaker (Contains (distinct loads)) (Contains loads) (λ x. Contains-from_distinct x loads) (distinct loads) (All-contains_itself (distinct loads)) in
     rw e (All-get_or (Contains loads) (distinct loads) k d (rw e at l) each)
 
-placed_low : (game : GameNumbers) (loads : List ℕ) (placements : List Placement) → IsGame game → IsLoads game loads → map (λ placement. placement.load) placements ≡ distinct loads → All (λ placement. placement.load < 1000) placements
+placed_low : (game : GameNumbers) (loads : List ℕ) (placements : List Placement) → IsGame game → IsLoads game loads
+    → map (λ placement. placement.load) placements ≡ distinct loads → All (λ placement. placement.load < 1000) placements
 placed_low game loads placements g are placed k d within =
     let count : length (map (λ (p : Placement). p.load) placements) ≡ length placements = length-map placements (λ (p : Placement). p.load) in
-    let there : Contains loads (get_or (map (λ (p : Placement). p.load) placements) k d.load) = placed_load loads (map (λ (p : Placement). p.load) placements) k d.load placed (omega arith) in
+    let there : Contains loads (get_or (map (λ (p : Placement). p.load) placements) k d.load) =
+    placed_load loads (map (λ (p : Placement). p.load) placements) k d.load placed (omega arith) in
     let same : get_or (map (λ (p : Placement). p.load) placements) k d.load ≡ (get_or placements k d).load = get_or-map (λ (p : Placement). p.load) placements k d in
-    let low : get_or (map (λ (p : Placement). p.load) placements) k d.load < game.target = All-contains (λ load. load < game.target) loads (get_or (map (λ (p : Placement). p.load) placements) k d.load) are.below_target there in
+    let low : get_or (map (λ (p : Placement). p.load) placements) k d.load < game.target =
+    All-contains (λ load. load < game.target) loads (get_or (map (λ (p : Placement). p.load) placements) k d.load) are.below_target there in
     omega (arith, low, same, g.target.high, g.capacity.high)
 
 -- what the rules say of what a node sends, as far as its line is concerned
@@ -160,15 +166,19 @@ record JudgedStep (format : Format) (game : GameNumbers) (earlier : List Positio
   placed : PlacesEachLoad loads step
   next : All (λ placement. IsThen placement.next) (placements_of step)
 
-short_placements : (placements : List Placement) → All (λ placement. placement.load < 1000) placements → All (λ placement. IsThen placement.next) placements → All IsShort placements
+short_placements : (placements : List Placement) → All (λ placement. placement.load < 1000) placements
+    → All (λ placement. IsThen placement.next) placements → All IsShort placements
 short_placements placements loads next k d within = record { load = loads k d within; next = next k d within }
 
-number_placements : (placements : List Placement) → All (λ placement. placement.load < 1000) placements → All (λ placement. IsThen placement.next) placements → All IsPlacement placements
+number_placements : (placements : List Placement) → All (λ placement. placement.load < 1000) placements
+    → All (λ placement. IsThen placement.next) placements → All IsPlacement placements
 number_placements placements loads next k d within = record { load = omega (arith, loads k d within); next = next k d within }
 
-step_small : (format : Format) (game : GameNumbers) (earlier : List Position) (loads items : List ℕ) (step : Step) → IsGame game → JudgedStep format game earlier loads items step → IsSmallStep step
+step_small : (format : Format) (game : GameNumbers) (earlier : List Position) (loads items : List ℕ) (step : Step) → IsGame game
+    → JudgedStep format game earlier loads items step → IsSmallStep step
 step_small format game earlier loads items (Send size pack placements) g j =
-    let all : All (IsSize game.capacity) (items ++ size ∷ []) = All-append (IsSize game.capacity) items (size ∷ []) j.sizes (All-cons (IsSize game.capacity) size [] j.sent (All-nil (IsSize game.capacity))) in
+    let all : All (IsSize game.capacity) (items ++ size ∷ []) =
+    All-append (IsSize game.capacity) items (size ∷ []) j.sizes (All-cons (IsSize game.capacity) size [] j.sent (All-nil (IsSize game.capacity))) in
     record {
       sent = omega (arith, j.sent.high, g.capacity.high);
       packed = if_small game pack (items ++ size ∷ []) g all j.packed;
@@ -176,14 +186,16 @@ step_small format game earlier loads items (Send size pack placements) g j =
       few = omega (arith, ap length j.placed, length-map placements (λ (p : Placement). p.load), length-distinct-le loads, j.are.one_each, g.bins.high);
     }
 step_small format game earlier loads items (Burst count size pack) g j =
-    let all : All (IsSize game.capacity) (items ++ replicate count size) = All-append (IsSize game.capacity) items (replicate count size) j.sizes (All-replicate (IsSize game.capacity) count size j.sent) in
+    let all : All (IsSize game.capacity) (items ++ replicate count size) =
+    All-append (IsSize game.capacity) items (replicate count size) j.sizes (All-replicate (IsSize game.capacity) count size j.sent) in
     record {
       times = omega (arith, few_packed game pack (items ++ replicate count size) g all j.packed, length-append items (replicate count size), length-replicate count size);
       sent = omega (arith, j.sent.high, g.capacity.high);
       packed = pack_small game pack (items ++ replicate count size) g all j.packed;
     }
 
-optional_pack : (format : Format) (game : GameNumbers) (pack : Option (List (List ℕ))) (items : List ℕ) → IsGame game → (pack ≡ None → format ≡ Two) → IfSome pack (λ bins. IsPacking game bins items) → IsOptionalPack format pack
+optional_pack : (format : Format) (game : GameNumbers) (pack : Option (List (List ℕ))) (items : List ℕ) → IsGame game → (pack ≡ None → format ≡ Two)
+    → IfSome pack (λ bins. IsPacking game bins items) → IsOptionalPack format pack
 optional_pack format game None items g asked h = asked refl
 optional_pack format game (Some bins) items g asked h = pack_spellable game bins items g h
 
@@ -191,7 +203,8 @@ second_format : (format : Format) (count size : ℕ) (pack : List (List ℕ)) �
 second_format One count size pack h = absurd h
 second_format Two count size pack h = refl
 
-step_spellable : (format : Format) (game : GameNumbers) (earlier : List Position) (loads items : List ℕ) (step : Step) → IsGame game → adversary_nodes.IsOfFormat format step → JudgedStep format game earlier loads items step → IsStep format step
+step_spellable : (format : Format) (game : GameNumbers) (earlier : List Position) (loads items : List ℕ) (step : Step) → IsGame game
+    → adversary_nodes.IsOfFormat format step → JudgedStep format game earlier loads items step → IsStep format step
 step_spellable format game earlier loads items (Send size pack placements) g formed j = record {
   sent = omega (arith, j.sent.high, g.capacity.high);
   packed = optional_pack format game pack (items ++ size ∷ []) g j.asked j.packed;
@@ -199,7 +212,8 @@ step_spellable format game earlier loads items (Send size pack placements) g for
   each = number_placements placements (placed_low game loads placements g j.are j.placed) j.next;
 }
 step_spellable format game earlier loads items (Burst count size pack) g formed j =
-    let all : All (IsSize game.capacity) (items ++ replicate count size) = All-append (IsSize game.capacity) items (replicate count size) j.sizes (All-replicate (IsSize game.capacity) count size j.sent) in
+    let all : All (IsSize game.capacity) (items ++ replicate count size) =
+    All-append (IsSize game.capacity) items (replicate count size) j.sizes (All-replicate (IsSize game.capacity) count size j.sent) in
     record {
       second = second_format format count size pack formed;
       times = omega (arith, few_packed game pack (items ++ replicate count size) g all j.packed, length-append items (replicate count size), length-replicate count size);
@@ -208,12 +222,14 @@ step_spellable format game earlier loads items (Burst count size pack) g formed 
     }
 
 -- a packing is missing in format 2 alone
-asked_second : (format : Format) (game : GameNumbers) (node : AdvNode) (pack : Option (List (List ℕ))) (step : Step) → (adversary.IsShown pack ↔ adversary.IsPackingAsked format step) → pack ≡ None → format ≡ Two
+asked_second : (format : Format) (game : GameNumbers) (node : AdvNode) (pack : Option (List (List ℕ))) (step : Step)
+    → (adversary.IsShown pack ↔ adversary.IsPackingAsked format step) → pack ≡ None → format ≡ Two
 asked_second One game node None step h e = absurd (h.1 tt)
 asked_second One game node (Some bins) step h e = absurd cc
 asked_second Two game node pack step h e = refl
 
-judged_step : (format : Format) (game : GameNumbers) (earlier : List Position) (last : Bool) (node : AdvNode) → length earlier ≤ most_nodes → adversary.MeetsRules format game (sizes_of game) earlier last node → JudgedStep format game earlier node.loads node.items node.step
+judged_step : (format : Format) (game : GameNumbers) (earlier : List Position) (last : Bool) (node : AdvNode) → length earlier ≤ most_nodes
+    → adversary.MeetsRules format game (sizes_of game) earlier last node → JudgedStep format game earlier node.loads node.items node.step
 judged_step format game earlier last node le m = record {
   are = m.0;
   sizes = items_are_sizes game node.loads node.items m.1.0;
@@ -221,7 +237,8 @@ judged_step format game earlier last node le m = record {
   asked = asked_second format game node (packing_of node.step) node.step m.1.1.1.1.0.shown;
   packed = m.1.1.1.1.0.holds;
   placed = m.1.1.1.1.1.0;
-  next = λ k d within. then_leads earlier (get_or (placements_of node.step) k d).next (after (adversary_nodes.position_of node) (get_or (placements_of node.step) k d).load (sent_size node.step)) (m.1.1.1.1.1.1.1.0 k d within) le;
+  next = λ k d within. then_leads earlier (get_or (placements_of node.step) k d).next
+      (after (adversary_nodes.position_of node) (get_or (placements_of node.step) k d).load (sent_size node.step)) (m.1.1.1.1.1.1.1.0 k d within) le;
 }
 
 -- ---- what the algorithm does
@@ -249,11 +266,15 @@ record JudgedAct (format : Format) (game : GameNumbers) (earlier : List Position
   named : All (NamesLoad game loads) (entries_of act)
   next : All (λ entry. entry.to ≤ most_nodes) (entries_of act)
 
-entry_sizes : (game : GameNumbers) (items : List ℕ) (entries : List Entry) → algorithm.ReplyToEach game (sizes_of game) items entries → All (IsSize game.capacity) (map (λ entry. entry.size) entries)
+entry_sizes : (game : GameNumbers) (items : List ℕ) (entries : List Entry) → algorithm.ReplyToEach game (sizes_of game) items entries
+    → All (IsSize game.capacity) (map (λ entry. entry.size) entries)
 entry_sizes game items entries h =
-    All-weaker (Contains (map (λ (e : Entry). e.size) entries)) (IsSize game.capacity) (λ size c. size_from_Contains game.capacity size ((h.exact size).0 c).0) (map (λ (e : Entry). e.size) entries) (All-contains_itself (map (λ (e : Entry). e.size) entries))
+    All-weaker (Contains (map (λ (e : Entry). e.size) entries)) (IsSize game.capacity) (λ size c. size_from_Contains game.capacity size ((h.exact size).0 c).0)
+    (map (λ (e : Entry). e.size) entries) (All-contains_itself (map (λ (e : Entry). e.size) entries))
 
-short_entries : (game : GameNumbers) (loads items : List ℕ) (entries : List Entry) → IsGame game → All (IsSize game.capacity) (map (λ entry. entry.size) entries) → All (NamesLoad game loads) entries → All (λ entry. entry.to ≤ most_nodes) entries → All IsShortEntry entries
+short_entries : (game : GameNumbers) (loads items : List ℕ) (entries : List Entry) → IsGame game
+    → All (IsSize game.capacity) (map (λ entry. entry.size) entries) → All (NamesLoad game loads) entries
+    → All (λ entry. entry.to ≤ most_nodes) entries → All IsShortEntry entries
 short_entries game loads items entries g sizes named next k d within =
     let count : length (map (λ (e : Entry). e.size) entries) ≡ length entries = length-map entries (λ (e : Entry). e.size) in
     let same : get_or (map (λ (e : Entry). e.size) entries) k d.size ≡ (get_or entries k d).size = get_or-map (λ (e : Entry). e.size) entries k d in
@@ -269,7 +290,8 @@ short_entries game loads items entries g sizes named next k d within =
 entry_number : (entries : List Entry) → All IsShortEntry entries → All IsEntry entries
 entry_number entries h = All-weaker IsShortEntry IsEntry (λ e s. record { size = omega (arith, s.size); load = omega (arith, s.load); to = s.to }) entries h
 
-act_small : (format : Format) (game : GameNumbers) (earlier : List Position) (loads items : List ℕ) (act : Act) → IsGame game → JudgedAct format game earlier loads items act → IsSmallAct act
+act_small : (format : Format) (game : GameNumbers) (earlier : List Position) (loads items : List ℕ) (act : Act) → IsGame game
+    → JudgedAct format game earlier loads items act → IsSmallAct act
 act_small format game earlier loads items Finish g j = tt
 act_small format game earlier loads items (Big bins) g j = omega (arith, j.kept.some_left, g.bins.high)
 act_small format game earlier loads items (Reply entries) g j =
@@ -283,19 +305,25 @@ second_act : (format : Format) (bins : ℕ) → algorithm_nodes.IsOfFormat forma
 second_act One bins h = absurd h
 second_act Two bins h = refl
 
-act_spellable : (format : Format) (game : GameNumbers) (earlier : List Position) (loads items : List ℕ) (act : Act) → IsGame game → algorithm_nodes.IsOfFormat format act → JudgedAct format game earlier loads items act → IsAct format act
+act_spellable : (format : Format) (game : GameNumbers) (earlier : List Position) (loads items : List ℕ) (act : Act) → IsGame game
+    → algorithm_nodes.IsOfFormat format act → JudgedAct format game earlier loads items act → IsAct format act
 act_spellable format game earlier loads items Finish g formed j = tt
 act_spellable format game earlier loads items (Big bins) g formed j = record { second = second_act format bins formed; kept = omega (arith, j.kept.some_left, g.bins.high) }
 act_spellable format game earlier loads items (Reply entries) g formed j =
     entry_number entries (short_entries game loads items entries g (entry_sizes game items entries j.replies) j.named j.next)
 
-judged_act : (format : Format) (game : GameNumbers) (earlier : List Position) (last : Bool) (node : AlgNode) → length earlier ≤ most_nodes → algorithm.MeetsRules game (sizes_of game) earlier last node → JudgedAct format game earlier node.loads node.items node.act
+judged_act : (format : Format) (game : GameNumbers) (earlier : List Position) (last : Bool) (node : AlgNode) → length earlier ≤ most_nodes
+    → algorithm.MeetsRules game (sizes_of game) earlier last node → JudgedAct format game earlier node.loads node.items node.act
 judged_act format game earlier last node le m = record {
   are = m.0;
   kept = m.1.1.1.0;
   replies = m.1.1.1.1.0;
   named = m.1.1.1.1.1.0;
-  next = λ k d within. omega (arith, slice_get_within earlier (get_or (entries_of node.act) k d).to (after (algorithm_nodes.position_of node) (get_or (entries_of node.act) k d).load (get_or (entries_of node.act) k d).size) (m.1.1.1.1.1.1.0 k d within));
+  next = λ k d within. omega (
+    arith,
+    slice_get_within earlier (get_or (entries_of node.act) k d).to
+        (after (algorithm_nodes.position_of node) (get_or (entries_of node.act) k d).load (get_or (entries_of node.act) k d).size) (m.1.1.1.1.1.1.0 k d within),
+  );
 }
 
 -- ---- a node of either side
@@ -305,15 +333,23 @@ abbrev pub IsFormed : Format → AnyNode → Type 0
 IsFormed format (of_adversary node) = adversary_nodes.IsOfFormat format node.step
 IsFormed format (of_algorithm node) = algorithm_nodes.IsOfFormat format node.act
 
-pub node_small : (head : Head) (earlier : List Position) (last : Bool) (node : AnyNode) → IsGame head.game → head.sizes ≡ sizes_of head.game → length earlier ≤ most_nodes → MeetsRules head earlier last node → IsSmallNode node
+pub node_small : (head : Head) (earlier : List Position) (last : Bool) (node : AnyNode) → IsGame head.game → head.sizes ≡ sizes_of head.game
+    → length earlier ≤ most_nodes → MeetsRules head earlier last node → IsSmallNode node
 node_small head earlier last (of_adversary node) g e le m =
-    let m' = subst (λ (sizes : List ℕ). adversary.MeetsRules head.format head.game sizes earlier last node) e m in
-    (position_small head.game node.loads node.items g m'.0 m'.1.0, step_small head.format head.game earlier node.loads node.items node.step g (judged_step head.format head.game earlier last node le m'))
+    let m' = subst (λ (sizes : List ℕ). adversary.MeetsRules head.format head.game sizes earlier last node) e m in (
+      position_small head.game node.loads node.items g m'.0 m'.1.0,
+      step_small head.format head.game earlier node.loads node.items node.step g
+          (judged_step head.format head.game earlier last node le m'),
+    )
 node_small head earlier last (of_algorithm node) g e le m =
-    let m' = subst (λ (sizes : List ℕ). algorithm.MeetsRules head.game sizes earlier last node) e m in
-    (position_small head.game node.loads node.items g m'.0 m'.1.0, act_small head.format head.game earlier node.loads node.items node.act g (judged_act head.format head.game earlier last node le m'))
+    let m' = subst (λ (sizes : List ℕ). algorithm.MeetsRules head.game sizes earlier last node) e m in (
+      position_small head.game node.loads node.items g m'.0 m'.1.0,
+      act_small head.format head.game earlier node.loads node.items node.act g
+          (judged_act head.format head.game earlier last node le m'),
+    )
 
-pub node_spellable : (head : Head) (earlier : List Position) (last : Bool) (node : AnyNode) → IsGame head.game → head.sizes ≡ sizes_of head.game → length earlier ≤ most_nodes → IsFormed head.format node → MeetsRules head earlier last node → IsSpellableNode head.format node
+pub node_spellable : (head : Head) (earlier : List Position) (last : Bool) (node : AnyNode) → IsGame head.game → head.sizes ≡ sizes_of head.game
+    → length earlier ≤ most_nodes → IsFormed head.format node → MeetsRules head earlier last node → IsSpellableNode head.format node
 node_spellable head earlier last (of_adversary node) g e le formed m =
     let m' = subst (λ (sizes : List ℕ). adversary.MeetsRules head.format head.game sizes earlier last node) e m in
     record {

@@ -1,15 +1,16 @@
 -- The text of a legal strategy has no fault: its lines are whole, and spell what they are to spell.
-use Rattle.std.proofs.Common.{◌≡◌, ◌==◌, ℕ, zero, suc, ◌+◌, ◌<◌, ◌≤◌, List, [], ◌∷◌, ◌++◌, length, get_or, take, map, decimal, codes, All, Option, Some, None, sym, ap, ◌∙◌, subst, refl, arith, length-append, length-take}
+use Rattle.std.proofs.Common.{◌≡◌, ◌==◌, ℕ, zero, suc, ◌+◌, ◌≤◌, List, [], ◌∷◌, ◌++◌, length, get_or, take, map, decimal, codes, All, Some, None, sym, ap, ◌∙◌, subst}
+use Rattle.std.proofs.Common.{refl, arith, length-append, length-take}
 use Rattle.std.specs.List.{slice_get}
 use Rattle.std.proofs.lemmas.List.{length-map, length_push, append-nil}
 use Rattle.std.proofs.lemmas.List.Elements.{All-nil, All-cons, All-append, All-map}
 use Rattle.std.proofs.lemmas.Option.{slice_get_within, slice_get-get_or, get_or_from_slice_get}
-use Rattle.port_io.specs.Lines.{IsLine}
 use Rattle.items.specs.Game.{GameNumbers, IsGame}
 use Rattle.items.specs.Multiset.{sizes_of}
 use Rattle.loads.specs.declared.position.Position.{Position}
-use Rattle.strategy_text.specs.Spelling.{IsSpellableNode, IsSpellable, most_child, most_nodes}
-use Rattle.strategy_text.specs.Text.{AnyNode, of_adversary, of_algorithm, node_line, node_lines, nodes_of, side_of, first_line, game_line, side_line, count_line, end_line, strategy_lines, text_of, text_of_lines}
+use Rattle.strategy_text.specs.Spelling.{IsSpellableNode, most_nodes}
+use Rattle.strategy_text.specs.Text.{AnyNode, of_adversary, of_algorithm, node_line, node_lines, nodes_of, side_of, first_line, game_line, side_line, count_line, end_line}
+use Rattle.strategy_text.specs.Text.{strategy_lines, text_of}
 use Rattle.strategy_text.specs.declared.node.AdvNode.{AdvNode}
 use Rattle.strategy_text.specs.declared.node.AlgNode.{AlgNode}
 use Rattle.strategy_text.specs.declared.node.Format.{Format}
@@ -22,13 +23,11 @@ use Rattle.strategy_text.specs.declared.node.Strategy.{Strategy}
 use Rattle.strategy_text.proofs.Texts.{text_tells, no_prefix, lines_are_lines}
 use Rattle.adversary_graph.specs.Nodes as adversary_nodes
 use Rattle.adversary_graph.specs.Legal.{EachMeetsRules as EachAdversary}
-use Rattle.adversary_graph.specs.Legal as adversary
 use Rattle.algorithm_graph.specs.Nodes as algorithm_nodes
 use Rattle.algorithm_graph.specs.Legal.{EachMeetsRules as EachAlgorithm}
-use Rattle.algorithm_graph.specs.Legal as algorithm
 use Rattle.checker.specs.declared.fault.Wanted.{Wanted}
 use Rattle.checker.specs.Head.{Head, head_of_game, position_of, side_of_node, MeetsRules, EachMeetsRules, AreLegalNodes, IsLegal}
-use Rattle.checker.specs.FirstFault.{HasForm, HasBytesPast, LineFault, HasNoFault, IsWanted, IsLegalText, LegalTextHasNoFault}
+use Rattle.checker.specs.FirstFault.{HasForm, HasBytesPast, LineFault, HasNoFault, IsWanted, LegalTextHasNoFault}
 use Rattle.checker.specs.Laws.{LegalIsSpellable, LegalLinesAreLines, LegalTextTellsStrategy, NoLegalTextBeginsAnother}
 use Rattle.checker.specs.Progress.{StandFirst, IsHead, lines_of_head, AreJudged}
 use Rattle.checker.proofs.ShortLines.{length-joined, short_number, long_number, node_short}
@@ -47,12 +46,14 @@ mapped f (x ∷ xs) zero node e = let same : f x ≡ node = cc in (x, refl, same
 mapped f (x ∷ xs) (suc k) node e = mapped f xs k node e
 
 -- the positions of the front of a mapped list
-positions : {X : Type 0} (f : X → AnyNode) (g : X → Position) → ((x : X) → g x ≡ position_of (f x)) → (k : ℕ) (xs : List X) → map g (take k xs) ≡ map position_of (take k (map f xs))
+positions : {X : Type 0} (f : X → AnyNode) (g : X → Position) → ((x : X) → g x ≡ position_of (f x)) → (k : ℕ) (xs : List X)
+    → map g (take k xs) ≡ map position_of (take k (map f xs))
 positions f g same zero xs = refl
 positions f g same (suc k) [] = refl
 positions f g same (suc k) (x ∷ xs) = ap (λ (p : Position). p ∷ map g (take k xs)) (same x) ∙ ap (λ (ps : List Position). position_of (f x) ∷ ps) (positions f g same k xs)
 
-each_adversary : (format : Format) (game : GameNumbers) (list : List AdvNode) → EachAdversary format game (sizes_of game) (length list) list → EachMeetsRules (head_of_game format game Adversary (length (map of_adversary list))) (map of_adversary list)
+each_adversary : (format : Format) (game : GameNumbers) (list : List AdvNode) → EachAdversary format game (sizes_of game) (length list) list
+    → EachMeetsRules (head_of_game format game Adversary (length (map of_adversary list))) (map of_adversary list)
 unfolding EachAdversary EachMeetsRules
 each_adversary format game list each k node e =
     let head : Head = head_of_game format game Adversary (length (map of_adversary list)) in
@@ -62,7 +63,8 @@ each_adversary format game list each k node e =
     (subst (λ (ps : List Position). MeetsRules head ps (k + 1 == length (map of_adversary list)) (of_adversary m.0)) front
     (subst (λ (c : ℕ). MeetsRules head (map adversary_nodes.position_of (take k list)) (k + 1 == c) (of_adversary m.0)) (sym (length-map list of_adversary)) (each k m.0 m.1)))
 
-each_algorithm : (format : Format) (game : GameNumbers) (list : List AlgNode) → EachAlgorithm game (sizes_of game) (length list) list → EachMeetsRules (head_of_game format game Algorithm (length (map of_algorithm list))) (map of_algorithm list)
+each_algorithm : (format : Format) (game : GameNumbers) (list : List AlgNode) → EachAlgorithm game (sizes_of game) (length list) list
+    → EachMeetsRules (head_of_game format game Algorithm (length (map of_algorithm list))) (map of_algorithm list)
 unfolding EachAlgorithm EachMeetsRules
 each_algorithm format game list each k node e =
     let head : Head = head_of_game format game Algorithm (length (map of_algorithm list)) in
@@ -81,7 +83,8 @@ record LegalNodes (head : Head) (list : List AnyNode) : Type 0 where
   sides : All (λ node. side_of_node node ≡ head.side) list
   each : EachMeetsRules head list
 
-legal_nodes : (format : Format) (game : GameNumbers) (list : Nodes) → AreLegalNodes format game (sizes_of game) list → LegalNodes (head_of_game format game (side_of list) (length (nodes_of list))) (nodes_of list)
+legal_nodes : (format : Format) (game : GameNumbers) (list : Nodes) → AreLegalNodes format game (sizes_of game) list
+    → LegalNodes (head_of_game format game (side_of list) (length (nodes_of list))) (nodes_of list)
 legal_nodes format game (nodes.Adversary list) h = record {
   of_game = h.of_game;
   low = omega (arith, h.low, length-map list of_adversary);
@@ -108,23 +111,27 @@ nodes_are_legal strategy h = legal_nodes strategy.format strategy.game strategy.
 
 -- ---- each node of a legal strategy
 
-meets_at : (head : Head) (list : List AnyNode) → EachMeetsRules head list → (k : ℕ) (node : AnyNode) → slice_get list k ≡ Some node → MeetsRules head (map position_of (take k list)) (k + 1 == head.count) node
+meets_at : (head : Head) (list : List AnyNode) → EachMeetsRules head list → (k : ℕ) (node : AnyNode) → slice_get list k ≡ Some node
+    → MeetsRules head (map position_of (take k list)) (k + 1 == head.count) node
 unfolding EachMeetsRules
 meets_at head list each k node e = each k node e
 
 few_earlier : (list : List AnyNode) (k : ℕ) (node : AnyNode) → length list ≤ most_nodes → slice_get list k ≡ Some node → length (map position_of (take k list)) ≤ most_nodes
 few_earlier list k node high e = omega (arith, length-map (take k list) position_of, length-take k list, slice_get_within list k node e)
 
-spellable_at : (head : Head) (list : List AnyNode) → head.sizes ≡ sizes_of head.game → LegalNodes head list → (k : ℕ) (node : AnyNode) → slice_get list k ≡ Some node → IsFormed head.format node → IsSpellableNode head.format node
+spellable_at : (head : Head) (list : List AnyNode) → head.sizes ≡ sizes_of head.game → LegalNodes head list → (k : ℕ) (node : AnyNode)
+    → slice_get list k ≡ Some node → IsFormed head.format node → IsSpellableNode head.format node
 spellable_at head list sizes h k node e formed =
     node_spellable head (map position_of (take k list)) (k + 1 == head.count) node h.of_game sizes (few_earlier list k node h.high e) formed (meets_at head list h.each k node e)
 
 each_spellable : (head : Head) (list : List AnyNode) → head.sizes ≡ sizes_of head.game → LegalNodes head list → All (IsSpellableNode head.format) list
 each_spellable head list sizes h k d within = spellable_at head list sizes h k (get_or list k d) (slice_get-get_or list k d within) (h.formed k d within)
 
-short_at : (head : Head) (list : List AnyNode) → head.sizes ≡ sizes_of head.game → LegalNodes head list → (k : ℕ) (node : AnyNode) → slice_get list k ≡ Some node → length (node_line k node) ≤ 16384
+short_at : (head : Head) (list : List AnyNode) → head.sizes ≡ sizes_of head.game → LegalNodes head list → (k : ℕ) (node : AnyNode)
+    → slice_get list k ≡ Some node → length (node_line k node) ≤ 16384
 short_at head list sizes h k node e =
-    node_short k node (omega (arith, slice_get_within list k node e, h.high)) (node_small head (map position_of (take k list)) (k + 1 == head.count) node h.of_game sizes (few_earlier list k node h.high e) (meets_at head list h.each k node e))
+    node_short k node (omega (arith, slice_get_within list k node e, h.high))
+    (node_small head (map position_of (take k list)) (k + 1 == head.count) node h.of_game sizes (few_earlier list k node h.high e) (meets_at head list h.each k node e))
 
 -- a legal strategy has a text
 pub legal_is_spellable : LegalIsSpellable
@@ -164,12 +171,14 @@ count_short : (count : ℕ) → count ≤ most_nodes → IsShortLine (count_line
 unfolding count_line
 count_short count h = omega (arith, length-joined (codes "nodes" ∷ decimal count ∷ []), long_number count (omega arith))
 
-nodes_short : (number : ℕ) (list : List AnyNode) → ((k : ℕ) (node : AnyNode) → slice_get list k ≡ Some node → IsShortLine (node_line (number + k) node)) → All IsShortLine (node_lines number list)
+nodes_short : (number : ℕ) (list : List AnyNode)
+    → ((k : ℕ) (node : AnyNode) → slice_get list k ≡ Some node → IsShortLine (node_line (number + k) node)) → All IsShortLine (node_lines number list)
 nodes_short number [] h = All-nil IsShortLine
 nodes_short number (n ∷ ns) h =
     let here : number + 0 ≡ number = omega arith in
     All-cons IsShortLine (node_line number n) (node_lines (number + 1) ns) (subst (λ (i : ℕ). IsShortLine (node_line i n)) here (h 0 n refl))
-    (nodes_short (number + 1) ns (λ k node e. (let next : number + suc k ≡ (number + 1) + k = omega arith in subst (λ (i : ℕ). IsShortLine (node_line i node)) next (h (suc k) node e))))
+    (nodes_short (number + 1) ns (λ k node e.
+    (let next : number + suc k ≡ (number + 1) + k = omega arith in subst (λ (i : ℕ). IsShortLine (node_line i node)) next (h (suc k) node e))))
 
 lines_short : (strategy : Strategy) → IsLegal strategy → All IsShortLine (strategy_lines strategy)
 lines_short strategy legal =
@@ -238,10 +247,14 @@ legal_has_no_fault wanted strategy legal of_side line fault f =
     let has = head_from wanted head (node_lines 0 list ++ more) bytes [] is stood in
     let stand = HasNodes-from head list more bytes [] refl judged stood in
     let number : length (node_lines 0 list) ≡ length list = length-node_lines 0 list in
-    let get : slice_get lines (4 + (length (node_lines 0 list) + 0)) ≡ Some end_line = after_get (lines_of_head head) (node_lines 0 list ++ more) (length (node_lines 0 list) + 0) end_line (after_get (node_lines 0 list) more 0 end_line refl) in
-    let end : HasForm bytes (head.start + head.count) (λ text. text ≡ end_line) = (end_line, line_at lines bytes [] (4 + (length (node_lines 0 list) + 0)) (head.start + head.count) end_line stood get (omega (arith, number)), refl) in
-    let all : length lines ≡ 4 + (length (node_lines 0 list) + 1) = omega (arith, length-append (lines_of_head head) (node_lines 0 list ++ more), length_push (node_lines 0 list) end_line) in
-    let past : HasBytesPast bytes (head.start + head.count) → ⊥ = λ p. p.2 (same_rest p.1.lines lines p.0 [] p.1.each (no_lf lines stood.whole) (omega (arith, p.1.place, all, number)) (sym p.1.split ∙ stood.split)) in
+    let get : slice_get lines (4 + (length (node_lines 0 list) + 0)) ≡ Some end_line =
+    after_get (lines_of_head head) (node_lines 0 list ++ more) (length (node_lines 0 list) + 0) end_line (after_get (node_lines 0 list) more 0 end_line refl) in
+    let end : HasForm bytes (head.start + head.count) (λ text. text ≡ end_line) =
+    (end_line, line_at lines bytes [] (4 + (length (node_lines 0 list) + 0)) (head.start + head.count) end_line stood get (omega (arith, number)), refl) in
+    let all : length lines ≡ 4 + (length (node_lines 0 list) + 1) =
+    omega (arith, length-append (lines_of_head head) (node_lines 0 list ++ more), length_push (node_lines 0 list) end_line) in
+    let past : HasBytesPast bytes (head.start + head.count) → ⊥ =
+    λ p. p.2 (same_rest p.1.lines lines p.0 [] p.1.each (no_lf lines stood.whole) (omega (arith, p.1.place, all, number)) (sym p.1.split ∙ stood.split)) in
     none_below wanted bytes (line + 1) (Faultless-body wanted bytes (line + 1) head list has stand h.each (λ k few far. few) (λ far. end) (λ far. past)) line fault (omega arith) f
 
 pub legal_text_has_no_fault : LegalTextHasNoFault

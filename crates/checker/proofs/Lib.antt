@@ -10,3 +10,5 @@ pub mod LegalText
 pub mod PrefixLemmas
 pub mod TextLemmas
 pub mod DecideLemmas
+pub mod DecideRules
+pub mod DecideText

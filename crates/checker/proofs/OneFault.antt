@@ -1,6 +1,5 @@
 -- A text has at most one first fault.
-use Rattle.std.proofs.Common.{◌≡◌, ◌==◌, inl, inr, ℕ, ◌+◌, ◌<◌, ◌≤◌, List, [], ◌∷◌, length, Some, sym, ap, ◌∙◌, subst, refl, arith, ⊎_elim}
-use Rattle.std.specs.List.{slice_get}
+use Rattle.std.proofs.Common.{◌≡◌, ◌==◌, ℕ, ◌+◌, ◌<◌, ◌≤◌, List, length, sym, ap, ◌∙◌, subst, refl, arith, ⊎_elim}
 use Rattle.std.proofs.lemmas.Bool.{cases_lt}
 use Rattle.std.proofs.lemmas.Option.{slice_get_within}
 use Rattle.items.specs.Game.{GameNumbers}
@@ -14,7 +13,8 @@ use Rattle.checker.specs.declared.fault.Wanted.{Wanted}
 use Rattle.checker.specs.declared.fault.Why.{Why}
 use Rattle.checker.specs.declared.fault.Why.TheVariants as why
 use Rattle.checker.specs.Head.{Head, position_of, Breaks, IsNodeLine, IsNodeLineAt, IsBrokenNodeLine}
-use Rattle.checker.specs.FirstFault.{HasForm, HasPositions, HasHead, HeadFault, first_syntax, game_syntax, game_rule, side_syntax, side_rule, count_syntax, BodyFault, node_syntax, node_rule, end_syntax, past_syntax, LineFault, in_head, in_body, FirstFault, OneFirstFault}
+use Rattle.checker.specs.FirstFault.{HasForm, HasPositions, HeadFault, first_syntax, game_syntax, game_rule, side_syntax, side_rule, count_syntax, BodyFault, node_syntax}
+use Rattle.checker.specs.FirstFault.{node_rule, end_syntax, past_syntax, LineFault, in_head, in_body, FirstFault, OneFirstFault}
 use Rattle.checker.proofs.LineLemmas.{HasForm-both}
 use Rattle.checker.proofs.HeadLemmas.{head_same}
 use Rattle.checker.proofs.NodeLemmas.{broken_same, lists_same}
@@ -53,7 +53,8 @@ head_faults_same wanted bytes n m (why.Rule r) (why.Rule s) e f g = ap why.Rule 
 -- ---- lines after the head
 
 -- two positions that one line tells
-position_told : (bytes : List ℕ) (head : Head) (n k : ℕ) (p q : Position) → k ≤ most_child → HasForm bytes n (IsNodeLineAt head k p) → HasForm bytes n (IsNodeLineAt head k q) → p ≡ q
+position_told : (bytes : List ℕ) (head : Head) (n k : ℕ) (p q : Position) → k ≤ most_child → HasForm bytes n (IsNodeLineAt head k p)
+    → HasForm bytes n (IsNodeLineAt head k q) → p ≡ q
 position_told bytes head n k p q le x y =
     let both = HasForm-both bytes n (IsNodeLineAt head k p) (IsNodeLineAt head k q) x y in
     let same : both.1.0 ≡ both.2.0 = line_tells head.format k both.0 both.1.0 both.2.0 le both.1.1.spells both.2.1.spells in
@@ -62,24 +63,31 @@ position_told bytes head n k p q le x y =
 positions_same : (bytes : List ℕ) (head : Head) (a b : List Position) → length a ≡ length b → length a ≤ most_child → HasPositions bytes head a → HasPositions bytes head b → a ≡ b
 positions_same bytes head a b e le x y =
     lists_same a b e (λ k p q f g.
-        let low : k < length a = slice_get_within a k p f in
-        position_told bytes head (head.start + k) k p q (omega arith) (x k p f) (y k q g))
+    let low : k < length a = slice_get_within a k p f in
+    position_told bytes head (head.start + k) k p q (omega arith) (x k p f) (y k q g))
 
 -- two rules that one line's node breaks first
-rules_told : (bytes : List ℕ) (head : Head) (n : ℕ) (earlier : List Position) (r s : Rule) → length earlier ≤ most_child → HasForm bytes n (IsBrokenNodeLine head earlier r) → HasForm bytes n (IsBrokenNodeLine head earlier s) → r ≡ s
+rules_told : (bytes : List ℕ) (head : Head) (n : ℕ) (earlier : List Position) (r s : Rule) → length earlier ≤ most_child
+    → HasForm bytes n (IsBrokenNodeLine head earlier r) → HasForm bytes n (IsBrokenNodeLine head earlier s) → r ≡ s
 rules_told bytes head n earlier r s le x y =
     let both = HasForm-both bytes n (IsBrokenNodeLine head earlier r) (IsBrokenNodeLine head earlier s) x y in
     let same : both.1.0 ≡ both.2.0 = line_tells head.format (length earlier) both.0 both.1.0 both.2.0 le both.1.1.spells both.2.1.spells in
-    let moved : Breaks head earlier (length earlier + 1 == head.count) both.2.0 r = subst (λ (node : AnyNode). Breaks head earlier (length earlier + 1 == head.count) node r) same both.1.2 in
+    let moved : Breaks head earlier (length earlier + 1 == head.count) both.2.0 r =
+    subst (λ (node : AnyNode). Breaks head earlier (length earlier + 1 == head.count) node r) same both.1.2 in
     broken_same head earlier (length earlier + 1 == head.count) both.2.0 r s moved both.2.2
 
-node_rules_same : (bytes : List ℕ) (head : Head) (earlier others : List Position) (r s : Rule) → head.count ≤ most_nodes → length earlier ≡ length others → length earlier < head.count → HasPositions bytes head earlier → HasPositions bytes head others → HasForm bytes (head.start + length earlier) (IsBrokenNodeLine head earlier r) → HasForm bytes (head.start + length others) (IsBrokenNodeLine head others s) → r ≡ s
+node_rules_same : (bytes : List ℕ) (head : Head) (earlier others : List Position) (r s : Rule) → head.count ≤ most_nodes
+    → length earlier ≡ length others → length earlier < head.count → HasPositions bytes head earlier → HasPositions bytes head others
+    → HasForm bytes (head.start + length earlier) (IsBrokenNodeLine head earlier r)
+    → HasForm bytes (head.start + length others) (IsBrokenNodeLine head others s) → r ≡ s
 node_rules_same bytes head earlier others r s high e few x y form form' =
     let lists : others ≡ earlier = sym (positions_same bytes head earlier others e (omega arith) x y) in
-    rules_told bytes head (head.start + length earlier) earlier r s (omega arith) form (subst (λ (ps : List Position). HasForm bytes (head.start + length ps) (IsBrokenNodeLine head ps s)) lists form')
+    rules_told bytes head (head.start + length earlier) earlier r s (omega arith) form
+    (subst (λ (ps : List Position). HasForm bytes (head.start + length ps) (IsBrokenNodeLine head ps s)) lists form')
 
 -- a line that spells a node has no syntax fault
-clash_node : (bytes : List ℕ) (head : Head) (n number : ℕ) → n ≡ head.start + number → number < head.count → HasForm bytes (head.start + number) (IsNodeLine head number) → BodyFault bytes head n why.Syntax → ⊥
+clash_node : (bytes : List ℕ) (head : Head) (n number : ℕ) → n ≡ head.start + number → number < head.count
+    → HasForm bytes (head.start + number) (IsNodeLine head number) → BodyFault bytes head n why.Syntax → ⊥
 clash_node bytes head n number e few form (node_syntax k low never) =
     let at : number ≡ k = omega arith in
     never (subst (λ (i : ℕ). HasForm bytes (head.start + i) (IsNodeLine head i)) at form)
@@ -87,9 +95,11 @@ clash_node bytes head n number e few form (end_syntax never) = absurd (omega ari
 clash_node bytes head n number e few form (past_syntax past) = absurd (omega arith)
 
 clash_body : (bytes : List ℕ) (head : Head) (n m : ℕ) (rule : Rule) → n ≡ m → BodyFault bytes head n why.Syntax → BodyFault bytes head m (why.Rule rule) → ⊥
-clash_body bytes head n m rule e f (node_rule earlier r few told form) = let broken = form.2 in clash_node bytes head n (length earlier) e few (form.0, form.1, (broken.0, broken.1)) f
+clash_body bytes head n m rule e f (node_rule earlier r few told form) =
+    let broken = form.2 in clash_node bytes head n (length earlier) e few (form.0, form.1, (broken.0, broken.1)) f
 
-body_rules_same : (bytes : List ℕ) (head : Head) (n m : ℕ) (r s : Rule) → head.count ≤ most_nodes → n ≡ m → BodyFault bytes head n (why.Rule r) → BodyFault bytes head m (why.Rule s) → r ≡ s
+body_rules_same : (bytes : List ℕ) (head : Head) (n m : ℕ) (r s : Rule) → head.count ≤ most_nodes → n ≡ m → BodyFault bytes head n (why.Rule r)
+    → BodyFault bytes head m (why.Rule s) → r ≡ s
 body_rules_same bytes head n m r s high e (node_rule p r1 l w f) (node_rule q s1 l' w' f') = node_rules_same bytes head p q r1 s1 high (omega arith) l w w' f f'
 
 body_faults_same : (bytes : List ℕ) (head : Head) (n m : ℕ) (a b : Why) → head.count ≤ most_nodes → n ≡ m → BodyFault bytes head n a → BodyFault bytes head m b → a ≡ b

@@ -1,6 +1,5 @@
 -- The fault of a line depends on the bytes up to its line feed alone.
-use Rattle.std.proofs.Common.{◌≡◌, ◌≢◌, ℕ, zero, suc, ◌+◌, ◌<◌, ◌≤◌, List, [], ◌∷◌, ◌++◌, length, All, Some, sym, ap, ◌∙◌, subst, refl, arith, append_assoc, length-append}
-use Rattle.std.specs.List.{slice_get}
+use Rattle.std.proofs.Common.{◌≡◌, ◌≢◌, ℕ, zero, suc, ◌+◌, ◌<◌, ◌≤◌, List, [], ◌∷◌, ◌++◌, length, All, sym, ap, ◌∙◌, subst, refl, arith, append_assoc, length-append}
 use Rattle.std.proofs.lemmas.List.{nil_from_length}
 use Rattle.std.proofs.lemmas.List.Elements.{All-head, All-tail, All-cons, All-nil}
 use Rattle.std.proofs.lemmas.Option.{slice_get_within}
@@ -12,9 +11,10 @@ use Rattle.strategy_text.specs.Spelling.{SpellsGame, SpellsCount}
 use Rattle.checker.specs.declared.fault.Wanted.{Wanted}
 use Rattle.checker.specs.declared.fault.Why.{Why}
 use Rattle.checker.specs.Head.{Head, IsNodeLineAt}
-use Rattle.checker.specs.FirstFault.{HasLine, HasForm, HasWhole, HasBytesPast, HasPositions, HasHead, HeadFault, first_syntax, game_syntax, game_rule, side_syntax, side_rule, count_syntax, BodyFault, node_syntax, node_rule, end_syntax, past_syntax, LineFault, in_head, in_body, FaultDependsOnLinesBefore}
+use Rattle.checker.specs.FirstFault.{HasLine, HasForm, HasWhole, HasBytesPast, HasPositions, HasHead, HeadFault, first_syntax, game_syntax, game_rule, side_syntax, side_rule}
+use Rattle.checker.specs.FirstFault.{count_syntax, BodyFault, node_syntax, node_rule, end_syntax, past_syntax, LineFault, in_head, in_body, FaultDependsOnLinesBefore}
 use Rattle.checker.proofs.LineLemmas.{same_rest}
-use Rattle.checker.proofs.OneFault.{head_low, body_high}
+use Rattle.checker.proofs.OneFault.{body_high}
 
 -- ---- bytes cut before a line
 
@@ -48,7 +48,8 @@ cut_lines (l ∷ ls) rest bytes (suc k) within each e =
       place = ap suc c.place;
       lines = All-cons HasNoLf l c.before (All-head HasNoLf l ls each) c.lines;
       no_lf = c.no_lf;
-      split = e ∙ append_assoc (with_lf l) (text_of_lines ls) rest ∙ ap (λ (x : List ℕ). with_lf l ++ x) c.split ∙ sym (append_assoc (with_lf l) (text_of_lines c.before) (with_lf c.line ++ c.after));
+      split = e ∙ append_assoc (with_lf l) (text_of_lines ls) rest ∙ ap (λ (x : List ℕ). with_lf l ++ x) c.split
+          ∙ sym (append_assoc (with_lf l) (text_of_lines c.before) (with_lf c.line ++ c.after));
     }
 
 -- ---- lines of bytes, and of these bytes with more
@@ -60,15 +61,19 @@ HasLine-more bytes more m line h = record {
   place = h.place;
   lines = h.lines;
   whole = h.whole;
-  split = ap (λ (x : List ℕ). x ++ more) h.split ∙ append_assoc (text_of_lines h.before) (with_lf line ++ h.rest) more ∙ ap (λ (x : List ℕ). text_of_lines h.before ++ x) (append_assoc (with_lf line) h.rest more);
+  split = ap (λ (x : List ℕ). x ++ more) h.split ∙ append_assoc (text_of_lines h.before) (with_lf line ++ h.rest) more
+      ∙ ap (λ (x : List ℕ). text_of_lines h.before ++ x) (append_assoc (with_lf line) h.rest more);
 }
 
 HasLine-less : (bytes more rest : List ℕ) (n m : ℕ) (line : List ℕ) → HasWhole bytes n rest → m ≤ n → HasLine (bytes ++ more) m line → HasLine bytes m line
 HasLine-less bytes more rest n m line w le h =
     let place : length h.before + 1 ≡ m = h.place in
     let c = cut_lines w.lines rest bytes (length h.before) (omega (arith, w.place)) w.each w.split in
-    let all : bytes ++ more ≡ text_of_lines c.before ++ (with_lf c.line ++ (c.after ++ more)) = ap (λ (x : List ℕ). x ++ more) c.split ∙ append_assoc (text_of_lines c.before) (with_lf c.line ++ c.after) more ∙ ap (λ (x : List ℕ). text_of_lines c.before ++ x) (append_assoc (with_lf c.line) c.after more) in
-    let left : with_lf line ++ h.rest ≡ with_lf c.line ++ (c.after ++ more) = same_rest h.before c.before (with_lf line ++ h.rest) (with_lf c.line ++ (c.after ++ more)) h.lines c.lines (sym c.place) (sym h.split ∙ all) in
+    let all : bytes ++ more ≡ text_of_lines c.before ++ (with_lf c.line ++ (c.after ++ more)) =
+    ap (λ (x : List ℕ). x ++ more) c.split ∙ append_assoc (text_of_lines c.before) (with_lf c.line ++ c.after) more
+    ∙ ap (λ (x : List ℕ). text_of_lines c.before ++ x) (append_assoc (with_lf c.line) c.after more) in
+    let left : with_lf line ++ h.rest ≡ with_lf c.line ++ (c.after ++ more) =
+    same_rest h.before c.before (with_lf line ++ h.rest) (with_lf c.line ++ (c.after ++ more)) h.lines c.lines (sym c.place) (sym h.split ∙ all) in
     let same : line ≡ c.line = (with_lf-only line c.line h.rest (c.after ++ more) h.whole.no_lf c.no_lf left).0 in
     record {
       before = c.before;
@@ -122,7 +127,8 @@ tells_less bytes more rest n w = record {
   past = λ m le p. past-less bytes rest n m w le;
 }
 
-head_moves : (wanted : Wanted) (a b : List ℕ) (n : ℕ) → Tells a b n → Tells b a n → (line : ℕ) (fault : Why) → line ≤ n → HeadFault wanted a line fault → HeadFault wanted b line fault
+head_moves : (wanted : Wanted) (a b : List ℕ) (n : ℕ) → Tells a b n → Tells b a n → (line : ℕ) (fault : Why) → line ≤ n
+    → HeadFault wanted a line fault → HeadFault wanted b line fault
 head_moves wanted a b n to from line fault le (first_syntax never) = first_syntax (λ f. never (form_moves b a n from 1 _ le f))
 head_moves wanted a b n to from line fault le (game_syntax never) = game_syntax (λ f. never (form_moves b a n from 2 _ le f))
 head_moves wanted a b n to from line fault le (game_rule game form never) = game_rule game (form_moves a b n to 2 (λ l. SpellsGame l game) le form) never
@@ -142,14 +148,16 @@ has_moves wanted a b n head to le h = record {
   start = h.start;
 }
 
-positions_move : (a b : List ℕ) (n : ℕ) (head : Head) (earlier : List Position) → Tells a b n → head.start + length earlier ≤ n → HasPositions a head earlier → HasPositions b head earlier
+positions_move : (a b : List ℕ) (n : ℕ) (head : Head) (earlier : List Position) → Tells a b n → head.start + length earlier ≤ n
+    → HasPositions a head earlier → HasPositions b head earlier
 positions_move a b n head earlier to le h k p e =
     let within : k < length earlier = slice_get_within earlier k p e in
     form_moves a b n to (head.start + k) (IsNodeLineAt head k p) (omega arith) (h k p e)
 
 body_moves : (a b : List ℕ) (n : ℕ) (head : Head) → Tells a b n → Tells b a n → (line : ℕ) (fault : Why) → line ≤ n → BodyFault a head line fault → BodyFault b head line fault
 body_moves a b n head to from line fault le (node_syntax k few never) = node_syntax k few (λ f. never (form_moves b a n from (head.start + k) _ le f))
-body_moves a b n head to from line fault le (node_rule earlier rule few told form) = node_rule earlier rule few (positions_move a b n head earlier to le told) (form_moves a b n to (head.start + length earlier) _ le form)
+body_moves a b n head to from line fault le (node_rule earlier rule few told form) =
+    node_rule earlier rule few (positions_move a b n head earlier to le told) (form_moves a b n to (head.start + length earlier) _ le form)
 body_moves a b n head to from line fault le (end_syntax never) = end_syntax (λ f. never (form_moves b a n from (head.start + head.count) _ le f))
 body_moves a b n head to from line fault le (past_syntax past) = past_syntax (to.past (head.start + head.count) le past)
 

@@ -3,11 +3,10 @@ use Rattle.std.proofs.Common.{◌≡◌, ℕ, ◌+◌, ◌*◌, ◌<◌, ◌≤�
 use Rattle.std.specs.List.{AllByRecursion, flat_map, join_with_byte, concat}
 use Rattle.std.proofs.lemmas.Fmt.{length-decimal-le}
 use Rattle.strategy_text.specs.Spelling.{IsThen, most_child}
-use Rattle.strategy_text.specs.Text.{AnyNode, of_adversary, of_algorithm, list_words, pack_words, packing_words, then_words, placement_words, step_words, entry_words, entries_words, act_words, position_words, adversary_line, algorithm_line, node_line}
+use Rattle.strategy_text.specs.Text.{AnyNode, of_adversary, of_algorithm, list_words, pack_words, packing_words, then_words, placement_words, step_words, entry_words}
+use Rattle.strategy_text.specs.Text.{entries_words, act_words, position_words, adversary_line, algorithm_line, node_line}
 use Rattle.strategy_text.specs.declared.node.Act.{Act}
 use Rattle.strategy_text.specs.declared.node.Act.TheVariants.{Finish, Big, Reply}
-use Rattle.strategy_text.specs.declared.node.AdvNode.{AdvNode}
-use Rattle.strategy_text.specs.declared.node.AlgNode.{AlgNode}
 use Rattle.strategy_text.specs.declared.node.Entry.{Entry}
 use Rattle.strategy_text.specs.declared.node.Placement.{Placement}
 use Rattle.strategy_text.specs.declared.node.Step.{Step}
@@ -46,7 +45,8 @@ list_cost (x ∷ xs) h = omega (arith, decimals_cost (x ∷ xs) h)
 pack_cost : (bins : List (List ℕ)) → AllByRecursion (AllByRecursion (λ x. x < 1000)) bins → cost (pack_words bins) ≤ 4 * length (concat bins) + 4 * length bins
 pack_cost [] h = omega arith
 pack_cost (bin ∷ []) h = omega (arith, list_cost bin h.0, length-append bin [])
-pack_cost (bin ∷ next ∷ bins) h = omega (arith, list_cost bin h.0, pack_cost (next ∷ bins) h.1, cost-append (list_words bin) (codes "/" ∷ pack_words (next ∷ bins)), length-append bin (concat (next ∷ bins)))
+pack_cost (bin ∷ next ∷ bins) h =
+    omega (arith, list_cost bin h.0, pack_cost (next ∷ bins) h.1, cost-append (list_words bin) (codes "/" ∷ pack_words (next ∷ bins)), length-append bin (concat (next ∷ bins)))
 
 -- ---- what the adversary sends
 
@@ -89,11 +89,20 @@ then_cost (To child) h = omega (arith, long_number child h)
 
 placements_cost : (ps : List Placement) → AllByRecursion IsShort ps → cost (flat_map placement_words ps) ≤ 21 * length ps
 placements_cost [] h = omega arith
-placements_cost (p ∷ ps) h = omega (arith, short_number p.load h.0.load, then_cost p.next h.0.next, placements_cost ps h.1, cost-append (placement_words p) (flat_map placement_words ps))
+placements_cost (p ∷ ps) h =
+    omega (arith, short_number p.load h.0.load, then_cost p.next h.0.next, placements_cost ps h.1, cost-append (placement_words p) (flat_map placement_words ps))
 
 step_cost : (step : Step) → IsSmallStep step → cost (step_words step) ≤ 4100
 step_cost (Send size pack placements) h =
-    omega (arith, short_number size h.sent, packing_cost pack h.packed, placements_cost placements h.each, h.few, cost-append (packing_words pack) (flat_map placement_words placements))
+    omega (
+      arith,
+      short_number size h.sent,
+      packing_cost pack h.packed,
+      placements_cost placements h.each,
+      h.few,
+      cost-append (packing_words pack)
+          (flat_map placement_words placements),
+    )
 step_cost (Burst count size pack) h = omega (arith, short_number count h.times, short_number size h.sent, small_pack_cost pack h.packed)
 
 -- ---- what the algorithm does
@@ -144,12 +153,23 @@ IsSmallNode (of_algorithm node) = IsSmallPosition node.loads node.items × IsSma
 
 position_cost : (number : ℕ) (loads items : List ℕ) → number ≤ most_child → IsSmallPosition loads items → cost (decimal number ∷ position_words loads items) ≤ 7707
 position_cost number loads items le h =
-    omega (arith, long_number number le, list_cost loads h.each_load, h.few_loads, list_cost items h.each_item, h.few_items, cost-append (list_words loads) (codes "items" ∷ list_words items))
+    omega (
+      arith,
+      long_number number le,
+      list_cost loads h.each_load,
+      h.few_loads,
+      list_cost items h.each_item,
+      h.few_items,
+      cost-append (list_words loads)
+          (codes "items" ∷ list_words items),
+    )
 
 words_short : (front back : List (List ℕ)) → cost front ≤ 7707 → cost back ≤ 4100 → length (join_with_byte 32 (front ++ back)) ≤ 16384
 words_short front back f b = omega (arith, length-joined (front ++ back), cost-append front back)
 
 pub node_short : (number : ℕ) (node : AnyNode) → number ≤ most_child → IsSmallNode node → length (node_line number node) ≤ 16384
 unfolding adversary_line algorithm_line
-node_short number (of_adversary node) le h = words_short (decimal number ∷ position_words node.loads node.items) (step_words node.step) (position_cost number node.loads node.items le h.0) (step_cost node.step h.1)
-node_short number (of_algorithm node) le h = words_short (decimal number ∷ position_words node.loads node.items) (act_words node.act) (position_cost number node.loads node.items le h.0) (act_cost node.act h.1)
+node_short number (of_adversary node) le h =
+    words_short (decimal number ∷ position_words node.loads node.items) (step_words node.step) (position_cost number node.loads node.items le h.0) (step_cost node.step h.1)
+node_short number (of_algorithm node) le h =
+    words_short (decimal number ∷ position_words node.loads node.items) (act_words node.act) (position_cost number node.loads node.items le h.0) (act_cost node.act h.1)

@@ -19,11 +19,14 @@ LegalLinesAreLines = (strategy : Strategy) → IsLegal strategy → All IsLine (
 
 -- two legal strategies never have the same text
 abbrev pub LegalTextTellsStrategy : Type 0
-LegalTextTellsStrategy = (one other : Strategy) → IsLegal one → IsLegal other → text_of one ≡ text_of other → one ≡ other
+LegalTextTellsStrategy =
+    (one other : Strategy) → IsLegal one → IsLegal other → text_of one ≡ text_of other → one ≡ other
 
 -- no legal strategy's text is a proper prefix of another's
 abbrev pub NoLegalTextBeginsAnother : Type 0
-NoLegalTextBeginsAnother = (one other : Strategy) (more : List ℕ) → IsLegal one → IsLegal other → text_of one ++ more ≡ text_of other → more ≡ []
+NoLegalTextBeginsAnother =
+    (one other : Strategy) (more : List ℕ) → IsLegal one → IsLegal other
+    → text_of one ++ more ≡ text_of other → more ≡ []
 
 -- a text has a first fault
 abbrev pub HasFirstFault : Wanted → List ℕ → Type 0
@@ -31,8 +34,10 @@ HasFirstFault wanted bytes = (line : ℕ) × (fault : Why) × FirstFault wanted 
 
 -- each text has a first fault, or no line of it has a fault
 abbrev pub EveryTextHasAFirstFaultOrNone : Type 0
-EveryTextHasAFirstFaultOrNone = (wanted : Wanted) (bytes : List ℕ) → HasFirstFault wanted bytes ⊎ HasNoFault wanted bytes
+EveryTextHasAFirstFaultOrNone =
+    (wanted : Wanted) (bytes : List ℕ) → HasFirstFault wanted bytes ⊎ HasNoFault wanted bytes
 
 -- the texts without a fault are exactly those of legal strategies of a wanted side
 abbrev pub OnlyLegalTextsHaveNoFault : Type 0
-OnlyLegalTextsHaveNoFault = (wanted : Wanted) (bytes : List ℕ) → HasNoFault wanted bytes ↔ IsLegalText wanted bytes
+OnlyLegalTextsHaveNoFault =
+    (wanted : Wanted) (bytes : List ℕ) → HasNoFault wanted bytes ↔ IsLegalText wanted bytes

@@ -1,7 +1,8 @@
 //! Laws of the definitions, each as the contract of a function that does nothing.
 
 ghost use Rattle.checker.specs.FirstFault.{OneFirstFault, LegalTextHasNoFault, FaultDependsOnLinesBefore};
-ghost use Rattle.checker.specs.Laws.{LegalIsSpellable, LegalLinesAreLines, LegalTextTellsStrategy, NoLegalTextBeginsAnother};
+ghost use Rattle.checker.specs.Laws.{LegalIsSpellable, LegalLinesAreLines};
+ghost use Rattle.checker.specs.Laws.{LegalTextTellsStrategy, NoLegalTextBeginsAnother};
 ghost use Rattle.checker.specs.Laws.{EveryTextHasAFirstFaultOrNone, OnlyLegalTextsHaveNoFault};
 
 /// A text has at most one first fault: one line, and one thing that is wrong with it.

@@ -1,13 +1,7 @@
-use Rattle.std.specs.Prelude.{◌==◌, ℕ, ◌+◌, ◌-◌, ◌≤◌, List, [], ◌∷◌, if◌then◌else◌, map, take, slice_index, slice_set}
+use Rattle.std.specs.Prelude.{ℕ, ◌+◌, ◌-◌, ◌≤◌, List, map, take, slice_index, slice_set}
 use Rattle.std.specs.List.{range_with_len}
 use Rattle.items.specs.Game.{GameNumbers}
 use Rattle.reachable_loads.specs.Reached.{ItemsSent, sent, HasTotals}
-
--- the items whose place in the list of bins names this bin
-abbrev pub items_in : ℕ → List ℕ → List ℕ → List ℕ
-items_in bin [] bins = []
-items_in bin (item ∷ items) [] = []
-items_in bin (item ∷ items) (b ∷ bins) = if bin == b then item ∷ items_in bin items bins else items_in bin items bins
 
 -- the prefixes of a list up to a length, from the empty one on
 abbrev pub prefixes_of : GameNumbers → List ℕ → ℕ → List ItemsSent

@@ -1,19 +1,23 @@
-//! A packing of items, found by walking back through the sets of the prefixes of their list.
+//! A packing of items, and the walk back through the loads that the prefixes of their list reach.
 
 ghost use Rattle.std.specs.Prelude.{◌≡◌, ℕ, ◌+◌, ◌-◌, ◌<◌, ◌≤◌, [], ◌∷◌, ◌++◌, length, slice_index, slice_set, All, IfOk, MatchOption};
 ghost use Rattle.std.specs.Bool.{OnTrue, OnFalse};
 ghost use Rattle.items.specs.Multiset.{IsSize};
 ghost use Rattle.items.specs.Packable.{IsAssignment, IsPacking, Packable};
 ghost use Rattle.reachable_loads.specs.Reached.{HasTotals};
-ghost use Rattle.reachable_loads.specs.Pack.{CanTakeOut, items_in, prefixes_of};
+ghost use Rattle.reachable_loads.specs.Pack.{CanTakeOut, prefixes_of};
+ghost use Rattle.packing_witness.specs.Contents.{items_in};
 
+use crate::best_fit::{best_fit, descending};
+use crate::placing::place_all;
 use crate::reach::Reach;
 use items::{Game, Items, Nums};
 use packing_witness::Packing;
 use std::alloc::{AllocError, Global};
 
-/// A packing of the items; None exactly where they do not fit offline. Which packing it is, is free.
-/// Keeps the sorted loads of all prefixes of the items, in time near linear in their number. Fails only
+/// A packing of the items; None exactly where they do not fit offline. Which packing it is, is free: that of
+/// best fit where it places them, else in games of up to four bins one found by walking back through the
+/// loads of all prefixes of the items, which are kept, and in the others one found by placing. Fails only
 /// for want of memory.
 pub fn pack(alloc: Global, game: &Game, items: &Items) -> Result<Option<Packing>, AllocError>
     ensures exact { IfOk result (λ found. MatchOption found (¬ Packable game.now items.now) (λ packing. IsPacking game.now packing items.now)) }
@@ -21,7 +25,7 @@ pub fn pack(alloc: Global, game: &Game, items: &Items) -> Result<Option<Packing>
     if items.largest() > game.g() {
         return Ok(None);
     }
-    let list = items.list(alloc)?;
+    let list = descending(alloc, items)?;
     match assign(alloc, game, list.as_slice())? {
         Some(bins) => {
             let packing = packing_of(alloc, game, list.as_slice(), bins.as_slice())?;
@@ -33,6 +37,37 @@ pub fn pack(alloc: Global, game: &Game, items: &Items) -> Result<Option<Packing>
 
 // A bin for each item; None exactly where the items do not fit.
 fn assign(alloc: Global, game: &Game, items: &[u16]) -> Result<Option<Vec<usize>>, AllocError>
+    requires { All (IsSize game.now.capacity) items.now }
+    ensures { IfOk result (λ found. MatchOption found (¬ Packable game.now items.now) (λ bins. IsAssignment game.now items.now bins.items)) }
+{
+    match best_fit(alloc, game, items)? {
+        Some(bins) => Ok(Some(bins)),
+        None => assign_exactly(alloc, game, items),
+    }
+}
+
+// The same without best fit.
+fn assign_exactly(
+    alloc: Global,
+    game: &Game,
+    items: &[u16],
+) -> Result<Option<Vec<usize>>, AllocError>
+    requires { All (IsSize game.now.capacity) items.now }
+    ensures { IfOk result (λ found. MatchOption found (¬ Packable game.now items.now) (λ bins. IsAssignment game.now items.now bins.items)) }
+{
+    if game.m() < 5 {
+        assign_by_loads(alloc, game, items)
+    } else {
+        place_all(alloc, game, items)
+    }
+}
+
+// The same from the loads that the prefixes of the items reach.
+fn assign_by_loads(
+    alloc: Global,
+    game: &Game,
+    items: &[u16],
+) -> Result<Option<Vec<usize>>, AllocError>
     requires { All (IsSize game.now.capacity) items.now }
     ensures { IfOk result (λ found. MatchOption found (¬ Packable game.now items.now) (λ bins. IsAssignment game.now items.now bins.items)) }
 {

@@ -17,3 +17,4 @@ pub mod Texts
 pub mod Written
 pub mod Spaced
 pub mod TextPieces
+pub mod Spellable

@@ -1,6 +1,7 @@
 //! Whole files are read node by node and written back byte for byte.
 
-ghost use Rattle.std.specs.Prelude.{◌≡◌, ◌≤◌, ◌×◌, All, IfOk, length};
+ghost use Rattle.std.specs.Prelude.{◌≡◌, ◌≤◌, All, IfOk, length};
+ghost use Rattle.items.specs.Game.{IsGame};
 ghost use Rattle.strategy_text.specs.Spelling.{IsSpellableAdversary, IsSpellableAlgorithm, IsSpellable};
 
 use super::tests::long_line;
@@ -68,9 +69,10 @@ fn adversary(alloc: Global, format: Format, lines: &[&[u8]]) -> Result<AdvNodes,
     ensures { IfOk result (λ nodes. (length nodes ≡ length lines.now) × All (IsSpellableAdversary format) nodes) }
 {
     let mut nodes = AdvNodes::new(alloc);
-    for (i, line) in lines.iter().enumerate() {
-        let node = parse_adversary(alloc, format, line, i as u32)?;
-        nodes.push(node.ok_or("a node")?)?;
+    for line in lines {
+        let read = parse_adversary(alloc, format, line, nodes.len() as u32)?;
+        let node = read.ok_or("a node")?;
+        nodes.push(node)?;
     }
     Ok(nodes)
 }
@@ -80,11 +82,50 @@ fn algorithm(alloc: Global, format: Format, lines: &[&[u8]]) -> Result<AlgNodes,
     ensures { IfOk result (λ nodes. (length nodes ≡ length lines.now) × All (IsSpellableAlgorithm format) nodes) }
 {
     let mut nodes = AlgNodes::new(alloc);
-    for (i, line) in lines.iter().enumerate() {
-        let node = parse_algorithm(alloc, format, line, i as u32)?;
-        nodes.push(node.ok_or("a node")?)?;
+    for line in lines {
+        let read = parse_algorithm(alloc, format, line, nodes.len() as u32)?;
+        let node = read.ok_or("a node")?;
+        nodes.push(node)?;
     }
     Ok(nodes)
+}
+
+fn adversary_strategy(
+    alloc: Global,
+    format: Format,
+    game: Game,
+    lines: &[&[u8]],
+) -> Result<Strategy, Fail>
+    requires legal { IsGame game }
+    requires low { 1 ≤ length lines.now }
+    requires high { length lines.now ≤ 20 }
+    ensures { IfOk result IsSpellable }
+{
+    let list = adversary(alloc, format, lines)?;
+    Ok(Strategy {
+        format,
+        game,
+        nodes: Nodes::Adversary(list),
+    })
+}
+
+fn algorithm_strategy(
+    alloc: Global,
+    format: Format,
+    game: Game,
+    lines: &[&[u8]],
+) -> Result<Strategy, Fail>
+    requires legal { IsGame game }
+    requires low { 1 ≤ length lines.now }
+    requires high { length lines.now ≤ 20 }
+    ensures { IfOk result IsSpellable }
+{
+    let list = algorithm(alloc, format, lines)?;
+    Ok(Strategy {
+        format,
+        game,
+        nodes: Nodes::Algorithm(list),
+    })
 }
 
 /// The strategy of all lines of a file.
@@ -95,26 +136,18 @@ fn read(rt: &(impl AllocGlobal + Abort), lines: &[&[u8]]) -> Result<Strategy, Fa
 {
     let format = parse_first(lines[0]).ok_or("a format")?;
     let (m, g, t) = parse_game(lines[1]).ok_or("numbers")?;
-    let game = Game::new(m, g, t).ok().ok_or("a game")?;
+    let Ok(game) = Game::new(m, g, t) else {
+        return Err("a game".into());
+    };
     let side = parse_side(lines[2]).ok_or("a side")?;
     let count = lines.len() - 5;
     assert_eq!(rt; parse_nodes(lines[3]), Some(count as u32));
     assert!(rt; parse_end(lines[count + 4]));
     let nodes = &lines[4..count + 4];
-    if side == Side::Adversary {
-        let nodes = Nodes::Adversary(adversary(rt.alloc(), format, nodes)?);
-        return Ok(Strategy {
-            format,
-            game,
-            nodes,
-        });
+    match side {
+        Side::Adversary => adversary_strategy(rt.alloc(), format, game, nodes),
+        Side::Algorithm => algorithm_strategy(rt.alloc(), format, game, nodes),
     }
-    let nodes = Nodes::Algorithm(algorithm(rt.alloc(), format, nodes)?);
-    Ok(Strategy {
-        format,
-        game,
-        nodes,
-    })
 }
 
 fn joined(alloc: Global, lines: &[&[u8]]) -> Result<Text, AllocError> {

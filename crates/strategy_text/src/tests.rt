@@ -198,31 +198,51 @@ fn same_bins(rt: &impl Abort, read: &[Nums], bins: &[&[u16]]) {
     }
 }
 
+fn same_placements(rt: &impl Abort, read: &[Placement]) {
+    let to = Placement {
+        load: 1,
+        next: Then::To(1),
+    };
+    let over = Placement {
+        load: 0,
+        next: Then::Over,
+    };
+    assert_eq!(rt; read, [to, over].as_slice());
+}
+
+fn same_entries(rt: &impl Abort, read: &[Entry]) {
+    let first = Entry {
+        size: 1,
+        load: 1,
+        to: 4,
+    };
+    let second = Entry {
+        size: 2,
+        load: 3,
+        to: 6,
+    };
+    assert_eq!(rt; read, [first, second].as_slice());
+}
+
 #[test]
 fn a_sending_node_has_the_parts_of_its_line(rt: HostRuntime) -> Result<(), Fail> {
     let line = b"3 loads 1 0 items 1 send 12 pack 10 1 / - / 7 on 1 to 1 on 0 over";
     let node = parse_adversary(rt.alloc(), Format::One, line, 3)?.ok_or("a node")?;
-    assert_eq!(rt; node.loads.as_slice(), [1, 0].as_slice());
-    assert_eq!(rt; node.items.as_slice(), [1].as_slice());
-    let Step::Send {
-        size,
-        pack: Some(pack),
-        placements,
-    } = node.step
-    else {
-        return Err("an item with a packing".into());
-    };
-    assert_eq!(rt; size, 12);
-    same_bins(&rt, pack.bins(), &[&[10, 1], &[], &[7]]);
-    let next = Then::To(1);
-    let want = [
-        Placement { load: 1, next },
-        Placement {
-            load: 0,
-            next: Then::Over,
-        },
-    ];
-    assert_eq!(rt; placements.as_slice(), want.as_slice());
+    let AdvNode { loads, items, step } = node;
+    assert_eq!(rt; loads.as_slice(), [1, 0].as_slice());
+    assert_eq!(rt; items.as_slice(), [1].as_slice());
+    match step {
+        Step::Send {
+            size,
+            pack,
+            placements,
+        } => {
+            assert_eq!(rt; size, 12);
+            same_bins(&rt, pack.ok_or("a packing")?.bins(), &[&[10, 1], &[], &[7]]);
+            same_placements(&rt, placements.as_slice());
+        }
+        Step::Burst { .. } => return Err("a burst".into()),
+    }
     Ok(())
 }
 
@@ -230,11 +250,14 @@ fn a_sending_node_has_the_parts_of_its_line(rt: HostRuntime) -> Result<(), Fail>
 fn a_burst_has_the_parts_of_its_line(rt: HostRuntime) -> Result<(), Fail> {
     let line = b"0 loads 2 0 items 1 1 burst 20 3 pack 3 3 / 1 1";
     let node = parse_adversary(rt.alloc(), Format::Two, line, 0)?.ok_or("a node")?;
-    let Step::Burst { count, size, pack } = node.step else {
-        return Err("a burst".into());
-    };
-    assert_eq!(rt; (count, size), (20, 3));
-    same_bins(&rt, pack.bins(), &[&[3, 3], &[1, 1]]);
+    let AdvNode { step, .. } = node;
+    match step {
+        Step::Burst { count, size, pack } => {
+            assert_eq!(rt; (count, size), (20, 3));
+            same_bins(&rt, pack.bins(), &[&[3, 3], &[1, 1]]);
+        }
+        Step::Send { .. } => return Err("one item".into()),
+    }
     Ok(())
 }
 
@@ -242,29 +265,25 @@ fn a_burst_has_the_parts_of_its_line(rt: HostRuntime) -> Result<(), Fail> {
 fn a_node_of_the_algorithm_has_the_parts_of_its_line(rt: HostRuntime) -> Result<(), Fail> {
     let line = b"7 loads 3 1 items 1 1 2 reply 1 on 1 to 4 2 on 3 to 6";
     let node = parse_algorithm(rt.alloc(), Format::One, line, 7)?.ok_or("a node")?;
-    assert_eq!(rt; node.loads.as_slice(), [3, 1].as_slice());
-    assert_eq!(rt; node.items.as_slice(), [1, 1, 2].as_slice());
-    let Act::Reply(entries) = node.act else {
-        return Err("replies".into());
-    };
-    let want = [
-        Entry {
-            size: 1,
-            load: 1,
-            to: 4,
-        },
-        Entry {
-            size: 2,
-            load: 3,
-            to: 6,
-        },
-    ];
-    assert_eq!(rt; entries.as_slice(), want.as_slice());
-    let node = parse_algorithm(rt.alloc(), Format::Two, b"0 loads 2 2 items 2 2 big 1", 0)?;
-    let Act::Big(kept) = node.ok_or("a node")?.act else {
-        return Err("bins for big items".into());
-    };
-    assert_eq!(rt; kept, 1);
+    let AlgNode { loads, items, act } = node;
+    assert_eq!(rt; loads.as_slice(), [3, 1].as_slice());
+    assert_eq!(rt; items.as_slice(), [1, 1, 2].as_slice());
+    match act {
+        Act::Reply(entries) => same_entries(&rt, entries.as_slice()),
+        _ => return Err("no replies".into()),
+    }
+    Ok(())
+}
+
+#[test]
+fn a_node_that_keeps_bins_has_their_number(rt: HostRuntime) -> Result<(), Fail> {
+    let line = b"0 loads 2 2 items 2 2 big 1";
+    let node = parse_algorithm(rt.alloc(), Format::Two, line, 0)?.ok_or("a node")?;
+    let AlgNode { act, .. } = node;
+    match act {
+        Act::Big(kept) => assert_eq!(rt; kept, 1),
+        _ => return Err("no big finish".into()),
+    }
     Ok(())
 }
 

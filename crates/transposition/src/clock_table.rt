@@ -1,6 +1,6 @@
 //! A table of bounded size in which a hand goes round and drops an entry that was not used of late.
 
-ghost use Rattle.std.specs.Prelude.{◌≡◌, ◌<◌, ◌≤◌, ◌+◌, [], IsSome, IsOk, OnOk, OnErr, None, length};
+ghost use Rattle.std.specs.Prelude.{◌≡◌, ◌<◌, ◌≤◌, ◌+◌, [], IsSome, IsOk, IfOk, OnOk, OnErr, None, length};
 ghost use Rattle.transposition.specs.Clock.{Drops};
 ghost use Rattle.indexmap.specs.IndexMap.{spare};
 ghost use Rattle.transposition.specs.Bounded.{bounded, found, IsBoundedMap, SameEntries, Puts, PutsForOther};
@@ -10,6 +10,9 @@ use indexmap::IndexMap;
 use std::alloc::{AllocError, Global};
 use std::hash::Hash;
 use std::marker::Model;
+
+// For how many entries a new table has room.
+const FIRST_ROOM: usize = 8;
 
 /// A map of at most so many entries. Each entry has a mark, which a look-up sets. At capacity a hand goes round the
 /// entries, clears marks and drops the first entry without one for a new key. Memory is taken as entries come.
@@ -34,16 +37,16 @@ impl<K: Eq + Hash, V> Model for ClockTable<K, V> {
 }
 
 impl<K: Eq + Hash + Drop, V: Copy + Drop> ClockTable<K, V> {
-    /// A table without entries. Takes no memory.
-    pub fn new(alloc: Global, capacity: usize) -> Self
+    /// A table without entries, with room for the first few.
+    pub fn new(alloc: Global, capacity: usize) -> Result<Self, AllocError>
         requires { 1 ≤ capacity }
-        ensures empty { result ≡ bounded [] capacity }
+        ensures empty { IfOk result (λ table. table ≡ bounded [] capacity) }
     {
-        ClockTable {
-            map: IndexMap::new(alloc),
+        Ok(ClockTable {
+            map: IndexMap::with_capacity(alloc, capacity.min(FIRST_ROOM))?,
             clock: Clock::new(alloc),
             capacity,
-        }
+        })
     }
 
     /// How many entries there may be.

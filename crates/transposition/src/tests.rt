@@ -46,7 +46,7 @@ fn a_memo_of_one_entry_keeps_the_last(rt: HostRuntime) -> Result<(), Fail> {
     let mut lru = LruMemo::new(rt.alloc(), 1)?;
     assert_eq!(rt; told(rt.alloc(), &game, &mut lru)?, due);
     assert_eq!(rt; (Memo::len(&lru), Memo::capacity(&lru)), (1, 1));
-    let mut clock = ClockMemo::new(rt.alloc(), 1);
+    let mut clock = ClockMemo::new(rt.alloc(), 1)?;
     assert_eq!(rt; told(rt.alloc(), &game, &mut clock)?, due);
     assert_eq!(rt; (Memo::len(&clock), Memo::capacity(&clock)), (1, 1));
     Ok(())
@@ -54,7 +54,7 @@ fn a_memo_of_one_entry_keeps_the_last(rt: HostRuntime) -> Result<(), Fail> {
 
 #[test]
 fn the_hand_passes_entries_that_were_used(rt: HostRuntime) -> Result<(), Fail> {
-    let mut table: ClockTable<u32, u16> = ClockTable::new(rt.alloc(), 3);
+    let mut table: ClockTable<u32, u16> = ClockTable::new(rt.alloc(), 3)?;
     for key in [1, 2, 3] {
         table.put(key, 10)?;
     }

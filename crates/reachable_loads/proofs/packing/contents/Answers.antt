@@ -1,5 +1,5 @@
 use Rattle.std.proofs.Common.{◌<◌, ◌+◌, ◌++◌, ◌∙◌, drop, length, ap, arith}
-use Rattle.reachable_loads.specs.Pack.{items_in}
+use Rattle.packing_witness.specs.Contents.{items_in}
 use Rattle.reachable_loads.proofs.ContentsLemmas.{contents-more, contents-past}
 use Rattle.reachable_loads.proofs.packing.contents.Goals as goal
 use Rattle.reachable_loads.proofs.packing.contents.Goals.{then-bins-i+in_ok-push, else-bins-i}

@@ -1,5 +1,5 @@
 use Rattle.std.proofs.Common.{◌≡◌, ◌++◌, drop}
-use Rattle.reachable_loads.specs.Pack.{items_in}
+use Rattle.packing_witness.specs.Contents.{items_in}
 use Rattle.reachable_loads.proofs.packing.contents.Given as goal
 
 abbrev pub invariant-loop-i : goal.invariant-loop-i

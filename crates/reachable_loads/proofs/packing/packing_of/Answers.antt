@@ -1,8 +1,9 @@
 use Rattle.std.proofs.Common.{◌≡◌, ◌++◌, ◌∷◌, [], ◌∙◌, List, ℕ, sym, ap, subst, arith}
 use Rattle.std.proofs.lemmas.List.FromFn.{map-range_with_len_more}
 use Rattle.items.specs.Packable.{IsPacking}
-use Rattle.reachable_loads.specs.Pack.{items_in}
-use Rattle.reachable_loads.proofs.ContentsLemmas.{contents_of, IsPacking-contents}
+use Rattle.packing_witness.specs.Contents.{items_in}
+use Rattle.packing_witness.specs.Contents.{contents_of}
+use Rattle.packing_witness.proofs.ContentsLemmas.{IsPacking-contents}
 use Rattle.reachable_loads.proofs.packing.packing_of.Goals as goal
 
 pub loop-bin-preserved : goal.loop-bin-preserved

@@ -1,5 +1,5 @@
 use Rattle.std.proofs.Common.{◌≡◌}
-use Rattle.reachable_loads.proofs.ContentsLemmas.{contents_of}
+use Rattle.packing_witness.specs.Contents.{contents_of}
 use Rattle.reachable_loads.proofs.packing.packing_of.Given as goal
 
 abbrev pub invariant-loop-bin : goal.invariant-loop-bin

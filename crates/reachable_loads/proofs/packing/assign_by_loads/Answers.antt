@@ -3,8 +3,8 @@ use Rattle.std.specs.Prelude.{MatchOption}
 use Rattle.items.specs.Packable.{Packable}
 use Rattle.reachable_loads.specs.Reached.{ItemsSent, sent, HasTotals}
 use Rattle.reachable_loads.proofs.PackLemmas.{at_prefix, whole_prefix, length-prefixes_of}
-use Rattle.reachable_loads.proofs.packing.assign.Goals as goal
-use Rattle.reachable_loads.proofs.packing.assign.Goals.{After-index}
+use Rattle.reachable_loads.proofs.packing.assign_by_loads.Goals as goal
+use Rattle.reachable_loads.proofs.packing.assign_by_loads.Goals.{After-index}
 
 pub index-requires : goal.index-requires
 index-requires c = omega (arith, ap length c.in_ok-sets.ensures, length-prefixes_of c.args.game.now c.args.items.now (length c.args.items.now))

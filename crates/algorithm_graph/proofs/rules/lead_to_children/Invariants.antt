@@ -1,0 +1,7 @@
+use Rattle.std.proofs.Common.{take}
+use Rattle.std.specs.List.{All}
+use Rattle.algorithm_graph.specs.Judging.{LeadsOn}
+use Rattle.algorithm_graph.proofs.rules.lead_to_children.Given as goal
+
+abbrev pub invariant-loop-entry : goal.invariant-loop-entry
+invariant-loop-entry g l = All (LeadsOn (g.E.EarlierPositions.positions l.earlier) l.position) (take l.entry-index l.entries)

@@ -1,0 +1,14 @@
+//! Laws of the algorithm's strategies, as contracts of functions that do nothing.
+
+ghost use Rattle.algorithm_graph.specs.Laws.{RepliesAreAnAlgorithm, RunsAreReplays, LegalRepliesKeepBelow};
+
+/// The replies of nodes to a game are an online algorithm of it, and its run is their replay.
+pub fn replies_are_an_algorithm()
+    ensures algorithm { RepliesAreAnAlgorithm }
+    ensures run { RunsAreReplays }
+{}
+
+/// The replies of a legal strategy keep every load below the target, on every packable list of items.
+pub fn legal_replies_keep_every_load_below()
+    ensures below { LegalRepliesKeepBelow }
+{}

@@ -1,0 +1,6 @@
+use Rattle.std.proofs.Common.{◌≡◌, ◌≤◌, ◌++◌, ◌∷◌, [], ℕ}
+use Rattle.items.specs.Packable.{Packable}
+use Rattle.reachable_loads.proofs.rooms.room_by_placing.Given as goal
+
+abbrev pub invariant-loop-size : goal.invariant-loop-size
+invariant-loop-size l = (size : ℕ) → Packable l.game (l.items ++ size ∷ []) → size ≤ l.size
