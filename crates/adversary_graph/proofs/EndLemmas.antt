@@ -3,7 +3,7 @@ use Rattle.std.proofs.Common.{◌≡◌, ℕ, zero, suc, ◌+◌, ◌-◌, ◌/�
 use Rattle.std.specs.Prelude.{Any}
 use Rattle.std.specs.List.{All, slice_get, concat, flat_map, range_with_len}
 use Rattle.std.proofs.lemmas.List.{append-nil, replicate-append-replicate}
-use Rattle.std.specs.Prelude.{IfSome}
+use Rattle.std.specs.Prelude.{IfSome, option_map}
 use Rattle.std.proofs.lemmas.Grind.{flat_map-append}
 use Rattle.std.specs.Option.{option_and_then, option_or, unwrap_or}
 use Rattle.std.proofs.lemmas.Bool.{cases_lt, cases_eq, cond-true, cond-false, eq-eqb, ne_eqb}
@@ -34,20 +34,20 @@ use Rattle.strategy_text.specs.declared.node.Then.TheVariants.{Over, To}
 use Rattle.adversary_graph.specs.Judging.{node_at}
 use Rattle.adversary_graph.specs.Legal.{EachFollows}
 use Rattle.adversary_graph.specs.Nodes.{position_of, sent_items, sent_size, packing_of, placements_of}
-use Rattle.adversary_graph.specs.Play.{End, end_at, end_by_step, end_of, end_packing, first_child, child_of, goes_on, load_hit, next_at, beyond, without_all}
-use Rattle.adversary_graph.specs.Playing.{StandsReady}
-use Rattle.adversary_graph.specs.Pools.{Pool, IsPool}
+use Rattle.adversary_graph.specs.Play.{End, IsLost, Play, play, play_to, play_with, end_at, end_by_step, end_of, end_packing, first_child, child_of, goes_on, load_hit, next_at, beyond, without_all}
+use Rattle.adversary_graph.specs.Playing.{GoesOn, IsStep, StandsReady}
+use Rattle.adversary_graph.specs.Pools.{Pool, IsPool, IsRoot}
 use Rattle.adversary_graph.specs.Rules.{IsLongEnough, IsOver, LeadsTo, most_below_target}
 use Rattle.adversary_graph.proofs.RuleLemmas.{sizes_are_sizes, game_volume}
 use Rattle.adversary_graph.proofs.WonLemmas.{Met, met, earlier_node, sent_sizes, not_all_over}
-use Rattle.adversary_graph.proofs.PlayLemmas.{Hits, hits_at, ready_packable, rules_at, reaches, stays_reached, run_placed, bin_in_run, times_packable}
+use Rattle.adversary_graph.proofs.PlayLemmas.{root_ready, send_step, burst_step, Hits, hits_at, ready_packable, rules_at, reaches, stays_reached, run_placed, bin_in_run, times_packable}
 
 -- ---- a burst takes a load to the target
 
 first_of_burst : (game : GameNumbers) (history : List ℕ) (n size : ℕ) → Packable game (history ++ replicate (suc n) size) → Packable game (history ++ size ∷ [])
 first_of_burst game history n size packable =
     Packable-part game (history ++ size ∷ []) (history ++ replicate (suc n) size)
-      (λ x. omega (arith, count-append x history (size ∷ []), count-append x history (size ∷ replicate n size))) packable
+    (λ x. omega (arith, count-append x history (size ∷ []), count-append x history (size ∷ replicate n size))) packable
 
 module _ (game : GameNumbers) (answer : List ℕ → ℕ) (algorithm : IsAlgorithm game answer) (size : ℕ) where
   -- the burst with its first item sent
@@ -60,7 +60,7 @@ module _ (game : GameNumbers) (answer : List ℕ → ℕ) (algorithm : IsAlgorit
   still_reached (suc n) history packable any =
       let once = first_of_burst game history n size packable in
       subst (λ (xs : List ℕ). Any (λ load. game.target ≤ load) (run game answer xs)) (next_of_burst history n)
-        (still_reached n (history ++ size ∷ []) (subst (Packable game) (sym (next_of_burst history n)) packable) (stays_reached game answer algorithm history size once any))
+      (still_reached n (history ++ size ∷ []) (subst (Packable game) (sym (next_of_burst history n)) packable) (stays_reached game answer algorithm history size once any))
 
   pub burst_reaches : 1 ≤ size → (n : ℕ) (history : List ℕ) → most_below_target game size (run game answer history) < n → Packable game (history ++ replicate n size)
       → Any (λ load. game.target ≤ load) (run game answer (history ++ replicate n size))
@@ -70,17 +70,17 @@ module _ (game : GameNumbers) (answer : List ℕ → ℕ) (algorithm : IsAlgorit
       let hit = load_hit game answer history size in
       let rest = subst (Packable game) (sym (next_of_burst history n)) packable in
       subst (λ (xs : List ℕ). Any (λ load. game.target ≤ load) (run game answer xs)) (next_of_burst history n) (⊎_elim
-        (λ below.
-          let room : (ℕ → ℕ) = λ x. (game.target - 1 - x) / size in
-          let first : (game.target - 1 - hit) / size ≡ (game.target - 1 - hit - size) / size + 1 = div-eq-sub-div (omega arith) (omega arith) in
-          let same : game.target - 1 - hit - size ≡ game.target - 1 - (hit + size) = omega arith in
-          let second : (game.target - 1 - hit - size) / size ≡ (game.target - 1 - (hit + size)) / size = ap (λ x. x / size) same in
-          let moved = sum_by-set room (run game answer history) (answer (history ++ size ∷ [])) (hit + size) 0 (bin_in_run game answer algorithm history size once) in
-          let after : most_below_target game size (run game answer (history ++ size ∷ [])) ≡ most_below_target game size (placed (run game answer history) (answer (history ++ size ∷ [])) size) =
-            ap (most_below_target game size) (run_placed game answer algorithm history size once) in
-          burst_reaches low n (history ++ size ∷ []) (omega (arith, most, moved, after, first, second)) rest)
-        (λ reached. still_reached n (history ++ size ∷ []) rest (reaches game answer algorithm history size once reached))
-        (cases_lt (hit + size) game.target))
+      (λ below.
+      let room : (ℕ → ℕ) = λ x. (game.target - 1 - x) / size in
+      let first : (game.target - 1 - hit) / size ≡ (game.target - 1 - hit - size) / size + 1 = div-eq-sub-div (omega arith) (omega arith) in
+      let same : game.target - 1 - hit - size ≡ game.target - 1 - (hit + size) = omega arith in
+      let second : (game.target - 1 - hit - size) / size ≡ (game.target - 1 - (hit + size)) / size = ap (λ x. x / size) same in
+      let moved = sum_by-set room (run game answer history) (answer (history ++ size ∷ [])) (hit + size) 0 (bin_in_run game answer algorithm history size once) in
+      let after : most_below_target game size (run game answer (history ++ size ∷ [])) ≡ most_below_target game size (placed (run game answer history) (answer (history ++ size ∷ [])) size) =
+      ap (most_below_target game size) (run_placed game answer algorithm history size once) in
+      burst_reaches low n (history ++ size ∷ []) (omega (arith, most, moved, after, first, second)) rest)
+      (λ reached. still_reached n (history ++ size ∷ []) rest (reaches game answer algorithm history size once reached))
+      (cases_lt (hit + size) game.target))
 
 -- ---- the end of a play
 
@@ -122,11 +122,11 @@ module _ (pool : Pool) (is_pool : IsPool pool) (answer : List ℕ → ℕ) (algo
       let h = hits_at pool is_pool answer algorithm number history node size pack placements e is at in
       let packable = subst (λ (step : Step). Packable pool.game (history ++ sent_items step)) is (ready_packable pool is_pool answer algorithm number history node e at) in
       after_one number history size placements h.next go end h refl
-        (λ reached. subst (λ (step : Step). EndFacts pool.game answer pool.nodes (end_at (history ++ sent_items step) number)) is
-          (end_facts number history node e at (subst (λ (step : Step). Any (λ load. pool.game.target ≤ load) (run pool.game answer (history ++ sent_items step))) (sym is)
-            (reaches pool.game answer algorithm history size packable reached))))
-        (λ child. on child (history ++ size ∷ []))
-        (subst (λ (next : Option Then). goes_on go number (history ++ size ∷ []) next ≡ Some end) h.is ends)
+      (λ reached. subst (λ (step : Step). EndFacts pool.game answer pool.nodes (end_at (history ++ sent_items step) number)) is
+      (end_facts number history node e at (subst (λ (step : Step). Any (λ load. pool.game.target ≤ load) (run pool.game answer (history ++ sent_items step))) (sym is)
+      (reaches pool.game answer algorithm history size packable reached))))
+      (λ child. on child (history ++ size ∷ []))
+      (subst (λ (next : Option Then). goes_on go number (history ++ size ∷ []) next ≡ Some end) h.is ends)
   end_at_step (Burst times size pack) number history node go end is e at on ends =
       let m = rules_at pool is_pool answer algorithm number node e in
       let send : Contains (sizes_of pool.game) size = subst (λ (step : Step). Contains (sizes_of pool.game) (sent_size step)) is m.send in
@@ -136,8 +136,8 @@ module _ (pool : Pool) (is_pool : IsPool pool) (answer : List ℕ → ℕ) (algo
       let packable = subst (λ (step : Step). Packable pool.game (history ++ sent_items step)) is (ready_packable pool is_pool answer algorithm number history node e at) in
       let reached = burst_reaches pool.game answer algorithm size low times history (omega (arith, long, same)) packable in
       subst (EndFacts pool.game answer pool.nodes) (same_Some (end_at (history ++ replicate times size) number) end ends)
-        (subst (λ (step : Step). EndFacts pool.game answer pool.nodes (end_at (history ++ sent_items step) number)) is
-          (end_facts number history node e at (subst (λ (step : Step). Any (λ load. pool.game.target ≤ load) (run pool.game answer (history ++ sent_items step))) (sym is) reached)))
+      (subst (λ (step : Step). EndFacts pool.game answer pool.nodes (end_at (history ++ sent_items step) number)) is
+      (end_facts number history node e at (subst (λ (step : Step). Any (λ load. pool.game.target ≤ load) (run pool.game answer (history ++ sent_items step))) (sym is) reached)))
 
   pub ends_lost : (n number : ℕ) (history : List ℕ) (end : End) → StandsReady pool.game answer pool.nodes number history → end_of pool.game answer pool.nodes n number history ≡ Some end
       → EndFacts pool.game answer pool.nodes end
@@ -147,8 +147,39 @@ module _ (pool : Pool) (is_pool : IsPool pool) (answer : List ℕ → ℕ) (algo
       let node = ready.0 in
       let step = λ (found : AdvNode). end_by_step pool.game answer (end_of pool.game answer pool.nodes n) number history found.step in
       end_at_step node.step number history node (end_of pool.game answer pool.nodes n) end refl ready.1 ready.2
-        (λ child items. ends_lost n child items end)
-        (sym (ap (option_and_then step) ready.1) ∙ e)
+      (λ child items. ends_lost n child items end)
+      (sym (ap (option_and_then step) ready.1) ∙ e)
+
+-- ---- a play has an end
+
+module _ (pool : Pool) (is_pool : IsPool pool) (answer : List ℕ → ℕ) (algorithm : IsAlgorithm pool.game answer) where
+  ended_by : (n number : ℕ) (next : Option ℕ) (items : List ℕ) (whole : Option End) → number < suc n
+      → ((child : ℕ) → child < n → StandsReady pool.game answer pool.nodes child items → (end : End) × (end_of pool.game answer pool.nodes n child items ≡ Some end))
+      → GoesOn pool.game answer pool.nodes number next items (end_of pool.game answer pool.nodes n) whole → (end : End) × (whole ≡ Some end)
+  ended_by n number None items whole l on goes = (end_at items number, goes)
+  ended_by n number (Some child) items whole l on goes =
+      let end = on child (omega (arith, l, goes.0)) goes.1 in
+      (end.0, goes.2 ∙ end.1)
+
+  step_at : (step : Step) (number : ℕ) (history : List ℕ) (node : AdvNode) → node.step ≡ step → slice_get pool.nodes number ≡ Some node
+      → ComesTo pool.game answer history (position_of node) → (next : Option ℕ) × (items : List ℕ) × IsStep pool.game answer pool.nodes number history next items
+  step_at (Send size pack placements) number history node is e at = (
+    option_and_then child_of (next_at (load_hit pool.game answer history size) placements),
+    history ++ size ∷ [],
+    send_step pool is_pool answer algorithm number history node size pack placements e is at,
+  )
+  step_at (Burst times size pack) number history node is e at =
+      (None, history ++ replicate times size, burst_step pool is_pool answer algorithm number history node times size pack e is)
+
+  pub has_end : (n number : ℕ) (history : List ℕ) → number < n → StandsReady pool.game answer pool.nodes number history → (end : End) × (end_of pool.game answer pool.nodes n number history ≡ Some end)
+  unfolding end_of
+  has_end zero number history l ready = absurd (omega arith)
+  has_end (suc n) number history l ready =
+      let step = step_at ready.0.step number history ready.0 refl ready.1 ready.2 in
+      let go = end_of pool.game answer pool.nodes n in
+      let by = λ (node : AdvNode). end_by_step pool.game answer go number history node.step in
+      let end = ended_by n number step.0 step.1 (by step.2.0) l (λ child below next. has_end n child step.1 below next) (step.2.2 go) in
+      (end.0, ap (option_and_then by) step.2.1 ∙ end.1)
 
 -- ---- the end packing
 
@@ -190,13 +221,16 @@ module _ (pool : Pool) (is_pool : IsPool pool) where
       let m = rules_of number (node_at (position loads items) step) e in
       let packs = λ (pack : Option (List (List ℕ))). IfSome pack (λ bins. IsPacking pool.game bins (items ++ sent_items step)) in
       let own = λ (node : AdvNode). option_or (packing_of node.step) (option_and_then (end_packing pool.nodes n) (first_child (placements_of node.step))) in
-      let later = option_and_then (end_packing pool.nodes n) (first_child (placements_of step)) in
-      (bins, ap (option_and_then own) e ∙ ap (λ (pack : Option (List (List ℕ))). option_or pack later) shown, record {
-        whole = items ++ sent_items step;
-        packed = subst packs shown m.pack.holds;
-        sizes = sent_sizes pool.game (sizes_of pool.game) loads items step (sizes_are_sizes pool.game) m.items m.send;
-        enough = λ x. omega arith;
-      })
+      let later = option_and_then (end_packing pool.nodes n) (first_child (placements_of step)) in (
+        bins,
+        ap (option_and_then own) e ∙ ap (λ (pack : Option (List (List ℕ))). option_or pack later) shown,
+        record {
+          whole = items ++ sent_items step;
+          packed = subst packs shown m.pack.holds;
+          sizes = sent_sizes pool.game (sizes_of pool.game) loads items step (sizes_are_sizes pool.game) m.items m.send;
+          enough = λ x. omega arith;
+        },
+      )
 
   end_packing_by : (loads items : List ℕ) (step : Step) (number n : ℕ) → slice_get pool.nodes number ≡ Some (node_at (position loads items) step)
       → ((child : ℕ) (node : AdvNode) → child < number → slice_get pool.nodes child ≡ Some node → HasEndPacking pool.game pool.nodes n child (node.items ++ sent_items node.step))
@@ -211,15 +245,18 @@ module _ (pool : Pool) (is_pool : IsPool pool) where
       let found = first_child_found (λ placement. LeadsTo earlier placement.next (after here placement.load size)) placements m.child (not_all_over pool.game pool.format loads items size placements m.pack) in
       let node = earlier_node pool.nodes number found.1 (after here found.0 size) found.3 in
       let ends = before found.1 node.0 node.2 node.1 in
-      let own = λ (node : AdvNode). option_or (packing_of node.step) (option_and_then (end_packing pool.nodes n) (first_child (placements_of node.step))) in
-      (ends.0, ap (option_and_then own) e ∙ ap (option_and_then (end_packing pool.nodes n)) found.2 ∙ ends.1, record {
-        whole = ends.2.whole;
-        packed = ends.2.packed;
-        sizes = ends.2.sizes;
-        enough = λ x.
-          let same : count x node.0.items ≡ count x (put_ascending size items) = ap (λ (p : Position). count x p.items) node.3 in
-          omega (arith, ends.2.enough x, same, count-put_ascending x size items, count-append x items (size ∷ []), count-append x node.0.items (sent_items node.0.step));
-      })
+      let own = λ (node : AdvNode). option_or (packing_of node.step) (option_and_then (end_packing pool.nodes n) (first_child (placements_of node.step))) in (
+        ends.0,
+        ap (option_and_then own) e ∙ ap (option_and_then (end_packing pool.nodes n)) found.2 ∙ ends.1,
+        record {
+          whole = ends.2.whole;
+          packed = ends.2.packed;
+          sizes = ends.2.sizes;
+          enough = λ x.
+              let same : count x node.0.items ≡ count x (put_ascending size items) = ap (λ (p : Position). count x p.items) node.3 in
+              omega (arith, ends.2.enough x, same, count-put_ascending x size items, count-append x items (size ∷ []), count-append x node.0.items (sent_items node.0.step));
+        },
+      )
 
   -- a node without a packing has a child
   pub no_packing : (loads items : List ℕ) (step : Step) (number : ℕ) → slice_get pool.nodes number ≡ Some (node_at (position loads items) step)
@@ -252,8 +289,12 @@ count_replicate_other x y (suc n) ne = omega (arith, count_replicate_other x y n
 count_several-below : (f : ℕ → ℕ) (x from len : ℕ) → x < from → count x (flat_map (λ size. replicate (f size) size) (range_with_len from len)) ≡ 0
 count_several-below f x from zero l = refl
 count_several-below f x from (suc len) l =
-    omega (arith, count-append x (replicate (f from) from) (flat_map (λ size. replicate (f size) size) (range_with_len (from + 1) len)),
-      count_replicate_other x from (f from) (λ e. omega (arith, e, l)), count_several-below f x (from + 1) len (omega (arith, l)))
+    omega (
+      arith,
+      count-append x (replicate (f from) from) (flat_map (λ size. replicate (f size) size) (range_with_len (from + 1) len)),
+      count_replicate_other x from (f from) (λ e. omega (arith, e, l)),
+      count_several-below f x (from + 1) len (omega (arith, l)),
+    )
 
 count_several : (f : ℕ → ℕ) (x from len : ℕ) → from ≤ x → x < from + len → count x (flat_map (λ size. replicate (f size) size) (range_with_len from len)) ≡ f x
 count_several f x from zero low high = absurd (omega arith)
@@ -267,8 +308,12 @@ count_several f x from (suc len) low high =
 count_several-above : (f : ℕ → ℕ) (x from len : ℕ) → from + len ≤ x → count x (flat_map (λ size. replicate (f size) size) (range_with_len from len)) ≡ 0
 count_several-above f x from zero l = refl
 count_several-above f x from (suc len) l =
-    omega (arith, count-append x (replicate (f from) from) (flat_map (λ size. replicate (f size) size) (range_with_len (from + 1) len)),
-      count_replicate_other x from (f from) (λ e. omega (arith, e, l)), count_several-above f x (from + 1) len (omega (arith, l)))
+    omega (
+      arith,
+      count-append x (replicate (f from) from) (flat_map (λ size. replicate (f size) size) (range_with_len (from + 1) len)),
+      count_replicate_other x from (f from) (λ e. omega (arith, e, l)),
+      count_several-above f x (from + 1) len (omega (arith, l)),
+    )
 
 -- the items with what an end packing has beyond them
 Same_beyond : (game : GameNumbers) (bins : List (List ℕ)) (whole items : List ℕ) → Same (concat bins) whole → All (IsSize game.capacity) whole
@@ -277,30 +322,30 @@ Same_beyond game bins whole items together sizes enough = λ x.
     let f : (ℕ → ℕ) = λ size. count size (concat bins) - count size items in
     let parts = count-append x items (beyond game (concat bins) items) in
     ⊎_elim
-      (λ low. let none = count_no_size game.capacity x whole sizes (inl low) in omega (arith, none, enough x, parts, count_several-below f x 1 game.capacity low))
-      (λ low. ⊎_elim
-        (λ high. omega (arith, together x, enough x, parts, count_several f x 1 game.capacity low (omega (arith, high))))
-        (λ high. let none = count_no_size game.capacity x whole sizes (inr (omega (arith, high))) in omega (arith, none, enough x, parts, count_several-above f x 1 game.capacity (omega (arith, high))))
-        (cases_lt x (1 + game.capacity)))
-      (cases_lt x 1)
+    (λ low. let none = count_no_size game.capacity x whole sizes (inl low) in omega (arith, none, enough x, parts, count_several-below f x 1 game.capacity low))
+    (λ low. ⊎_elim
+    (λ high. omega (arith, together x, enough x, parts, count_several f x 1 game.capacity low (omega (arith, high))))
+    (λ high. let none = count_no_size game.capacity x whole sizes (inr (omega (arith, high))) in omega (arith, none, enough x, parts, count_several-above f x 1 game.capacity (omega (arith, high))))
+    (cases_lt x (1 + game.capacity)))
+    (cases_lt x 1)
 
 -- what is taken out of a packing leaves a packing
 pub packing_without_all : (game : GameNumbers) (xs items whole : List ℕ) (bins : List (List ℕ)) → IsPacking game bins whole → Same whole (items ++ xs) → IsPacking game (without_all xs bins) items
 packing_without_all game [] items whole bins p same = IsPacking-Same game bins whole items (λ x. omega (arith, same x, count-append x items [])) p
 packing_without_all game (x ∷ xs) items whole bins p same =
     let last = IsPacking-Same game bins whole ((items ++ xs) ++ x ∷ [])
-      (λ y. omega (arith, same y, count-append y items (x ∷ xs), count-append y (items ++ xs) (x ∷ []), count-append y items xs)) p in
+    (λ y. omega (arith, same y, count-append y items (x ∷ xs), count-append y (items ++ xs) (x ∷ []), count-append y items xs)) p in
     let some : 0 < count x ((items ++ xs) ++ x ∷ []) = omega (arith, count-append x (items ++ xs) (x ∷ []), cond-true {A = ℕ} (eqb x x) 1 0 (eq-eqb x x refl)) in
     let out = without_some game ((items ++ xs) ++ x ∷ []) x bins last some in
     let rest = IsPacking-without_last game (items ++ xs) x bins out.0 last out.1 in
     subst (λ (o : Option (List (List ℕ))). IsPacking game (without_all xs (unwrap_or o bins)) items) (sym out.1)
-      (packing_without_all game xs items (items ++ xs) out.0 rest (λ y. refl))
+    (packing_without_all game xs items (items ++ xs) out.0 rest (λ y. refl))
 
 pub end_packing_holds : (game : GameNumbers) (items sent : List ℕ) (bins : List (List ℕ)) → PacksEnough game sent bins → Same items sent
     → IsPacking game (without_all (beyond game (concat bins) items) bins) items
 end_packing_holds game items sent bins enough same =
     packing_without_all game (beyond game (concat bins) items) items enough.whole bins enough.packed
-      (Same_beyond game bins enough.whole items enough.packed.together enough.sizes (λ x. omega (arith, same x, enough.enough x)))
+    (Same_beyond game bins enough.whole items enough.packed.together enough.sizes (λ x. omega (arith, same x, enough.enough x)))
 
 -- ---- the loops of the packing of a play
 
@@ -336,7 +381,7 @@ range_push a (suc n) = ap (λ (xs : List ℕ). a ∷ xs) (range_push (a + 1) n �
 
 pub beyond_more : (f : ℕ → ℕ) (i : ℕ) (bins : List (List ℕ))
     → without_all (flat_map (λ size. replicate (f size) size) (range_with_len 1 (i + 1))) bins
-      ≡ without_all (replicate (f (i + 1)) (i + 1)) (without_all (flat_map (λ size. replicate (f size) size) (range_with_len 1 i)) bins)
+    ≡ without_all (replicate (f (i + 1)) (i + 1)) (without_all (flat_map (λ size. replicate (f size) size) (range_with_len 1 i)) bins)
 beyond_more f i bins =
     let each : (ℕ → List ℕ) = λ size. replicate (f size) size in
     let next : 1 + i ≡ i + 1 = omega arith in
@@ -359,3 +404,22 @@ count-le-sum most x (y ∷ ys) all =
 pub few_of_each : (game : GameNumbers) (items : List ℕ) (bins : List (List ℕ)) → IsGame game → PacksEnough game items bins → (x : ℕ) → count x (concat bins) ≤ 960
 few_of_each game items bins g enough = λ x.
     omega (arith, enough.packed.together x, count-le-sum game.capacity x enough.whole enough.sizes, sum-packing-le game bins enough.whole enough.packed, game_volume game g)
+
+-- ---- the play of a pool
+
+pub plays_are_lost : (pool : Pool) (root : ℕ) (answer : List ℕ → ℕ) → IsPool pool → IsRoot pool.nodes root → IsAlgorithm pool.game answer
+    → (lost : Play) × (play pool.game pool.nodes root answer ≡ Some lost) × IsLost pool.game lost
+plays_are_lost pool root answer p r algorithm =
+    let ready = root_ready pool answer root p r in
+    let end = has_end pool p answer algorithm (root + 1) root [] (omega arith) ready in
+    let facts = ends_lost pool p answer algorithm (root + 1) root [] end.0 ready end.1 in
+    let has = has_end_packing pool p (end.0.number + 1) end.0.number facts.node (omega arith) facts.is in
+    let made = λ (bins : List (List ℕ)). play_with pool.game answer end.0.items bins in (
+      made has.0,
+      ap (option_and_then (play_to pool.game answer pool.nodes)) end.1 ∙ ap (option_map made) has.1,
+      record {
+        packable = facts.packable;
+        packed = end_packing_holds pool.game end.0.items (facts.node.items ++ sent_items facts.node.step) has.0 has.2 facts.same;
+        reached = facts.reached;
+      },
+    )

@@ -80,7 +80,7 @@ module _ (game : GameNumbers) (answer : List ℕ → ℕ) (algorithm : IsAlgorit
   pub hit_is_load : (position : Position) → ComesTo game answer history position → Contains position.loads (load_hit game answer history size)
   hit_is_load position at =
       Contains-Same (load_hit game answer history size) (run game answer history) position.loads at.loads
-        (Contains-get_or (run game answer history) (answer (history ++ size ∷ [])) 0 bin_in_run)
+      (Contains-get_or (run game answer history) (answer (history ++ size ∷ [])) 0 bin_in_run)
 
   -- an item that takes the load that it hits to the target
   pub reaches : game.target ≤ load_hit game answer history size + size → Any (λ load. game.target ≤ load) (run game answer (history ++ size ∷ []))
@@ -106,9 +106,11 @@ next_found : (P : Placement → Type 0) (load : ℕ) (placements : List Placemen
     → (next : Then) × (next_at load placements ≡ Some next) × P (record { load = load; next = next })
 next_found P load [] all c = absurd (omega (arith, c.1))
 next_found P load (placement ∷ placements) all c = elim (cases_eq load placement.load) [
-  | inl e ↦
-      (placement.next, cond-true (eqb load placement.load) (Some placement.next) (next_at load placements) (eq-eqb load placement.load e),
-        subst (λ l. P (record { load = l; next = placement.next })) (sym e) (All-head P placement placements all))
+  | inl e ↦ (
+    placement.next,
+    cond-true (eqb load placement.load) (Some placement.next) (next_at load placements) (eq-eqb load placement.load e),
+    subst (λ l. P (record { load = l; next = placement.next })) (sym e) (All-head P placement placements all),
+  )
   | inr n ↦
       let later = next_found P load placements (All-tail P placement placements all) (Contains-tail load placement.load (map (λ (placement : Placement). placement.load) placements) n c) in
       (later.0, cond-false (eqb load placement.load) (Some placement.next) (next_at load placements) (ne_eqb load placement.load n) ∙ later.1, later.2)
@@ -131,8 +133,8 @@ module _ (pool : Pool) (is_pool : IsPool pool) (answer : List ℕ → ℕ) (algo
       → Packable pool.game (history ++ sent_items node.step)
   ready_packable number history node e at =
       Packable-Same pool.game (node.items ++ sent_items node.step) (history ++ sent_items node.step)
-        (Same-append node.items history (sent_items node.step) (sent_items node.step) (Same-sym history node.items at.items) (λ z. refl))
-        (packable_node pool.format pool.game (sizes_of pool.game) pool.nodes (sizes_are_sizes pool.game) is_pool.follow (suc number) number node (omega arith) e)
+      (Same-append node.items history (sent_items node.step) (sent_items node.step) (Same-sym history node.items at.items) (λ z. refl))
+      (packable_node pool.format pool.game (sizes_of pool.game) pool.nodes (sizes_are_sizes pool.game) is_pool.follow (suc number) number node (omega arith) e)
 
   hits_by : (number : ℕ) (history loads items : List ℕ) (size : ℕ) (pack : Option (List (List ℕ))) (placements : List Placement)
       → Met pool.format pool.game (sizes_of pool.game) (map position_of (take number pool.nodes)) (record { loads = loads; items = items; step = Send size pack placements })
@@ -145,16 +147,16 @@ module _ (pool : Pool) (is_pool : IsPool pool) (answer : List ℕ → ℕ) (algo
       let earlier = map position_of (take number pool.nodes) in
       let P : (Placement → Type 0) = λ placement. IsOverAtTarget game size placement × LeadsOn earlier here size placement in
       let placed : Contains (map (λ (placement : Placement). placement.load) placements) load =
-        subst (λ (xs : List ℕ). Contains xs load) (sym m.placements) (Contains-distinct load loads (hit_is_load game answer algorithm history size packable here at)) in
+      subst (λ (xs : List ℕ). Contains xs load) (sym m.placements) (Contains-distinct load loads (hit_is_load game answer algorithm history size packable here at)) in
       let found = next_found P load placements (λ k d l. (m.over k d l, m.child k d l)) placed in
       record {
         next = found.0;
         is = found.1;
         over = found.2.0;
         ready = λ child is.
-          let stands : StandsAt earlier child (after here load size) = subst (λ (next : Then). LeadsTo earlier next (after here load size)) is found.2.1 in
-          let node = earlier_node pool.nodes number child (after here load size) stands in
-          (node.2, (node.0, node.1, subst (λ (p : Position). ComesTo game answer (history ++ size ∷ []) p) (sym node.3) (leads_after game answer algorithm history size packable here at)));
+            let stands : StandsAt earlier child (after here load size) = subst (λ (next : Then). LeadsTo earlier next (after here load size)) is found.2.1 in
+            let node = earlier_node pool.nodes number child (after here load size) stands in
+            (node.2, (node.0, node.1, subst (λ (p : Position). ComesTo game answer (history ++ size ∷ []) p) (sym node.3) (leads_after game answer algorithm history size packable here at)));
       }
 
   pub hits_at : (number : ℕ) (history : List ℕ) (node : AdvNode) (size : ℕ) (pack : Option (List (List ℕ))) (placements : List Placement)
@@ -162,9 +164,9 @@ module _ (pool : Pool) (is_pool : IsPool pool) (answer : List ℕ → ℕ) (algo
       → Hits pool.game answer pool.nodes number history size placements
   hits_at number history node size pack placements e is at =
       hits_by number history node.loads node.items size pack placements
-        (subst (λ (step : Step). Met pool.format pool.game (sizes_of pool.game) (map position_of (take number pool.nodes)) (record { loads = node.loads; items = node.items; step = step })) is (rules_at number node e))
-        (subst (λ (step : Step). Packable pool.game (history ++ sent_items step)) is (ready_packable number history node e at))
-        at
+      (subst (λ (step : Step). Met pool.format pool.game (sizes_of pool.game) (map position_of (take number pool.nodes)) (record { loads = node.loads; items = node.items; step = step })) is (rules_at number node e))
+      (subst (λ (step : Step). Packable pool.game (history ++ sent_items step)) is (ready_packable number history node e at))
+      at
 
   -- one step of a play at a node that sends one item
   goes_by : (number : ℕ) (history : List ℕ) (size : ℕ) (placements : List Placement) (next : Then) (end : ℕ → List ℕ → Option End)
@@ -177,10 +179,13 @@ module _ (pool : Pool) (is_pool : IsPool pool) (answer : List ℕ → ℕ) (algo
       → slice_get pool.nodes number ≡ Some node → node.step ≡ Send size pack placements → ComesTo pool.game answer history (position_of node)
       → IsStep pool.game answer pool.nodes number history (option_and_then child_of (next_at (load_hit pool.game answer history size) placements)) (history ++ size ∷ [])
   send_step number history node size pack placements e is at =
-      let h = hits_at number history node size pack placements e is at in
-      (node, e, λ end. subst (λ (step : Step). GoesOn pool.game answer pool.nodes number (option_and_then child_of (next_at (load_hit pool.game answer history size) placements)) (history ++ size ∷ []) end (end_by_step pool.game answer end number history step)) (sym is)
-        (subst (λ (next : Option Then). GoesOn pool.game answer pool.nodes number (option_and_then child_of next) (history ++ size ∷ []) end (goes_on end number (history ++ size ∷ []) next)) (sym h.is)
-          (goes_by number history size placements h.next end h.ready)))
+      let h = hits_at number history node size pack placements e is at in (
+        node,
+        e,
+        λ end. subst (λ (step : Step). GoesOn pool.game answer pool.nodes number (option_and_then child_of (next_at (load_hit pool.game answer history size) placements)) (history ++ size ∷ []) end (end_by_step pool.game answer end number history step)) (sym is)
+            (subst (λ (next : Option Then). GoesOn pool.game answer pool.nodes number (option_and_then child_of next) (history ++ size ∷ []) end (goes_on end number (history ++ size ∷ []) next)) (sym h.is)
+            (goes_by number history size placements h.next end h.ready)),
+      )
 
   -- one step of a play at a burst
   pub burst_step : (number : ℕ) (history : List ℕ) (node : AdvNode) (times size : ℕ) (pack : List (List ℕ))
@@ -222,8 +227,8 @@ replicate-le x size (suc i) (suc n) l = omega (arith, replicate-le x size i n (o
 pub times_packable : (game : GameNumbers) (history : List ℕ) (i times size : ℕ) → i < times → Packable game (history ++ replicate times size) → Packable game ((history ++ replicate i size) ++ size ∷ [])
 times_packable game history i times size l packable =
     Packable-part game ((history ++ replicate i size) ++ size ∷ []) (history ++ replicate times size)
-      (λ x. omega (arith, count-append x (history ++ replicate i size) (size ∷ []), count-append x history (replicate i size), count-append x history (replicate times size), replicate-le x size (suc i) times l))
-      packable
+    (λ x. omega (arith, count-append x (history ++ replicate i size) (size ∷ []), count-append x history (replicate i size), count-append x history (replicate times size), replicate-le x size (suc i) times l))
+    packable
 
 pub times_more : (history : List ℕ) (i size : ℕ) → (history ++ replicate i size) ++ size ∷ [] ≡ history ++ replicate (i + 1) size
 times_more history i size = append_assoc history (replicate i size) (size ∷ []) ∙ ap (λ (xs : List ℕ). history ++ xs) (replicate-append-replicate i 1 size)

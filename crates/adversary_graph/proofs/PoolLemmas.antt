@@ -1,25 +1,27 @@
 -- Pools: a node that comes next, the positions of the nodes, and legal strategies from pools and to pools.
-use Rattle.std.proofs.Common.{◌≡◌, ℕ, zero, suc, ◌+◌, ◌<◌, ◌≤◌, Bool, IsTrue, false, List, [], ◌∷◌, ◌++◌, Some, length, take, map, arith, refl, ap, sym, subst, true, ◌∙◌, inl, inr, ◌⊎◌, ⊎_elim, eqb}
+use Rattle.std.proofs.Common.{◌≡◌, ℕ, zero, suc, ◌+◌, ◌<◌, ◌≤◌, Bool, IsTrue, false, List, [], ◌∷◌, ◌++◌, Some, None, length, get_or, ◌-◌, take, map, arith, refl, ap, sym, subst, true, ◌∙◌, inl, inr, ◌⊎◌, ⊎_elim, eqb}
 use Rattle.std.specs.List.{All, slice_get}
-use Rattle.std.proofs.lemmas.Bool.{eqb-true}
+use Rattle.std.proofs.lemmas.Bool.{eqb-true, eq-eqb}
 use Rattle.std.proofs.lemmas.List.{take-append-le, length-take-le, map-append, length-append}
 use Rattle.std.proofs.lemmas.List.Elements.{All-push, All-nil, All-take}
-use Rattle.std.proofs.lemmas.Option.{same_Some, none-some, slice_get_within, slice_get-get_or}
+use Rattle.std.proofs.lemmas.Option.{same_Some, none-some, slice_get_within, slice_get-get_or, slice_get-map}
+use Rattle.std.specs.Option.{option_map}
 use Rattle.std.proofs.Math.Seq.{take-append_seam}
 use Rattle.items.specs.Game.{GameNumbers, IsGame}
 use Rattle.items.specs.Multiset.{sizes_of}
-use Rattle.loads.specs.Position.{IsEmptyPosition}
+use Rattle.loads.specs.Position.{IsEmptyPosition, position}
 use Rattle.loads.specs.declared.position.Position.{Position}
 use Rattle.strategy_text.specs.declared.node.AdvNode.{AdvNode}
 use Rattle.strategy_text.specs.declared.node.Format.{Format}
+use Rattle.strategy_text.specs.declared.node.Step.TheVariants.{Burst}
 use Rattle.strategy_text.specs.Spelling.{most_nodes}
-use Rattle.adversary_graph.specs.Judging.{HasPosition}
+use Rattle.adversary_graph.specs.Judging.{HasPosition, node_at}
 use Rattle.adversary_graph.specs.Legal.{EachFollows, EachMeetsRules, IsLegal}
 use Rattle.adversary_graph.specs.Nodes.{position_of, IsOfFormat}
 use Rattle.adversary_graph.specs.Pools.{Pool, IsPool, MayComeNext, IsRoot, nodes_up_to, pool_of}
 use Rattle.adversary_graph.specs.Rules.{MeetsRules}
 use Rattle.adversary_graph.proofs.RuleLemmas.{multiset_from_items, sizes_are_sizes}
-use Rattle.adversary_graph.proofs.WonLemmas.{EachFollows-from_legal, slice_get-take}
+use Rattle.adversary_graph.proofs.WonLemmas.{EachFollows-from_legal, slice_get-take, mapped}
 
 -- a node that meets its rules has loads and items of the game
 pub HasPosition-from_rules : (format : Format) (game : GameNumbers) (earlier : List Position) (last : Bool) (node : AdvNode)
@@ -65,11 +67,11 @@ IsPool-push pool node p next =
       few = omega (arith, length-append pool.nodes (node ∷ []), next.room);
       formed = All-push (λ (n : AdvNode). IsOfFormat pool.format n.step) pool.nodes node p.formed next.formed;
       follow = λ k other e. ⊎_elim
-        (λ here. subst (λ earlier. rules earlier other) (sym (take-append-le k pool.nodes (node ∷ []) (omega (arith, slice_get_within pool.nodes k other here)))) (p.follow k other here))
-        (λ last. subst (λ n. rules (take n (pool.nodes ++ node ∷ [])) other) (sym last.0)
+          (λ here. subst (λ earlier. rules earlier other) (sym (take-append-le k pool.nodes (node ∷ []) (omega (arith, slice_get_within pool.nodes k other here)))) (p.follow k other here))
+          (λ last. subst (λ n. rules (take n (pool.nodes ++ node ∷ [])) other) (sym last.0)
           (subst (λ earlier. rules earlier other) (sym (take-append_seam pool.nodes (node ∷ [])))
-            (subst (λ n. rules pool.nodes n) last.1 next.follows)))
-        (slice_get_push pool.nodes node k other e);
+          (subst (λ n. rules pool.nodes n) last.1 next.follows)))
+          (slice_get_push pool.nodes node k other e);
     }
 
 pub map-push : (nodes : List AdvNode) (node : AdvNode) → map position_of (nodes ++ node ∷ []) ≡ map position_of nodes ++ position_of node ∷ []
@@ -88,13 +90,13 @@ IsLegal-from_pool pool root p r =
       high = omega (arith, number, within, p.few);
       formed = All-take (λ (node : AdvNode). IsOfFormat pool.format node.step) (root + 1) pool.nodes p.formed;
       each = λ k node e.
-        let h = slice_get-take pool.nodes (root + 1) k node e in
-        let last = eqb (k + 1) (length (take (root + 1) pool.nodes)) in
-        let empty = λ (is_last : last ≡ true).
+          let h = slice_get-take pool.nodes (root + 1) k node e in
+          let last = eqb (k + 1) (length (take (root + 1) pool.nodes)) in
+          let empty = λ (is_last : last ≡ true).
           let k_is : k ≡ root = omega (arith, eqb-true (k + 1) (length (take (root + 1) pool.nodes)) is_last, number) in
           let same : node ≡ r.0 = same_Some node r.0 (sym h.0 ∙ ap (slice_get pool.nodes) k_is ∙ r.1) in
           subst (λ (n : AdvNode). IsEmptyPosition (position_of n)) (sym same) r.2 in
-        with_root pool.format pool.game sizes (map position_of (take k (take (root + 1) pool.nodes))) last node
+          with_root pool.format pool.game sizes (map position_of (take k (take (root + 1) pool.nodes))) last node
           (subst (λ earlier. MeetsRules pool.format pool.game sizes (map position_of earlier) false node) (sym (take-take pool.nodes k (root + 1) (omega (arith, h.1)))) (p.follow k node h.0))
           empty;
     }
@@ -112,3 +114,33 @@ pub each_has_position : (format : Format) (game : GameNumbers) (nodes : List Adv
 unfolding EachFollows
 each_has_position format game nodes p k d l =
     HasPosition-from_rules format game (map position_of (take k nodes)) false _ p.of_game (p.follow k _ (slice_get-get_or nodes k d l))
+
+-- the last node of a legal strategy is a root
+pub root_of_legal : (format : Format) (game : GameNumbers) (nodes : List AdvNode) → IsLegal format game (sizes_of game) nodes → IsRoot nodes (length nodes - 1)
+unfolding EachMeetsRules
+root_of_legal format game nodes legal =
+    let k = length nodes - 1 in
+    let last : k < length nodes = omega (arith, legal.low) in
+    let none : AdvNode = node_at (position [] []) (Burst 0 0 []) in
+    let here = slice_get-get_or nodes k none last in
+    let is_last : eqb (k + 1) (length nodes) ≡ true = eq-eqb (k + 1) (length nodes) (omega (arith, legal.low)) in
+    (get_or nodes k none, here, (legal.each k (get_or nodes k none) here).1.1.1.1.1.1.1.1.0 is_last)
+
+-- a root by its position
+node_with_position : (nodes : List AdvNode) (i : ℕ) (p : Position) → slice_get (map position_of nodes) i ≡ Some p → (node : AdvNode) × (slice_get nodes i ≡ Some node) × (position_of node ≡ p)
+node_with_position nodes i p e = mapped position_of (slice_get nodes i) p (sym (slice_get-map position_of nodes i) ∙ e)
+
+pub root_from_position : (nodes : List AdvNode) (i : ℕ) (p : Position) → slice_get (map position_of nodes) i ≡ Some p → IsEmptyPosition p → IsRoot nodes i
+root_from_position nodes i p e empty =
+    let node = node_with_position nodes i p e in
+    (node.0, node.1, subst IsEmptyPosition (sym node.2) empty)
+
+pub position_from_root : (nodes : List AdvNode) (i : ℕ) (p : Position) → slice_get (map position_of nodes) i ≡ Some p → IsRoot nodes i → IsEmptyPosition p
+position_from_root nodes i p e root =
+    let node = node_with_position nodes i p e in
+    let same : root.0 ≡ node.0 = same_Some root.0 node.0 (sym root.1 ∙ node.1) in
+    subst IsEmptyPosition (ap position_of same ∙ node.2) root.2
+
+pub no_root : (nodes : List AdvNode) (i : ℕ) → slice_get (map position_of nodes) i ≡ None → IsRoot nodes i → ⊥
+no_root nodes i e root =
+    none-some (position_of root.0) (sym e ∙ slice_get-map position_of nodes i ∙ ap (option_map position_of) root.1)

@@ -92,7 +92,7 @@ slice_get-take [] (suc k) i x e = absurd (none-some x e)
 slice_get-take (y ∷ ys) (suc k) zero x e = (e, omega arith)
 slice_get-take (y ∷ ys) (suc k) (suc i) x e = let h = slice_get-take ys k i x e in (h.0, omega (arith, h.1))
 
-mapped : {X Y : Type 0} (f : X → Y) (o : Option X) (y : Y) → option_map f o ≡ Some y → (x : X) × (o ≡ Some x) × (f x ≡ y)
+pub mapped : {X Y : Type 0} (f : X → Y) (o : Option X) (y : Y) → option_map f o ≡ Some y → (x : X) × (o ≡ Some x) × (f x ≡ y)
 mapped f None y e = absurd (none-some y e)
 mapped f (Some x) y e = (x, refl, same_Some (f x) y e)
 

@@ -1,13 +1,15 @@
-use Rattle.std.specs.Prelude.{ℕ, ◌==◌, Bool, List, All}
+use Rattle.std.specs.Prelude.{◌≡◌, ℕ, ◌==◌, Bool, List, Some, All}
 use Rattle.std.specs.List.{list_any}
 use Rattle.items.specs.Game.{GameNumbers}
 use Rattle.items.specs.Multiset.{IsSize, sizes_of}
 use Rattle.loads.specs.Wins.{IsWon}
-use Rattle.online_play.specs.Algorithm.{ForcesEvery}
+use Rattle.online_play.specs.Algorithm.{ForcesEvery, IsAlgorithm}
 use Rattle.strategy_text.specs.declared.node.AdvNode.{AdvNode}
 use Rattle.strategy_text.specs.declared.node.Format.{Format}
 use Rattle.adversary_graph.specs.Legal.{IsLegal}
 use Rattle.adversary_graph.specs.Nodes.{position_of}
+use Rattle.adversary_graph.specs.Play.{IsLost, Play, play}
+use Rattle.adversary_graph.specs.Pools.{IsPool, IsRoot, Pool}
 
 -- whether items may have a size that comes after these items: one of the sizes, whatever came
 abbrev pub is_one_of : List ℕ → List ℕ → ℕ → Bool
@@ -24,3 +26,10 @@ abbrev pub LegalStrategiesForceEvery : Type 0
 LegalStrategiesForceEvery =
     (format : Format) (game : GameNumbers) (nodes : List AdvNode)
     → IsLegal format game (sizes_of game) nodes → ForcesEvery game
+
+-- against each algorithm the play from a root of a pool has an end, and the algorithm loses it: the items can be packed,
+-- as the packing shows, and a load reaches the target
+abbrev pub PlaysAreLost : Type 0
+PlaysAreLost =
+    (pool : Pool) (root : ℕ) (answer : List ℕ → ℕ) → IsPool pool → IsRoot pool.nodes root
+    → IsAlgorithm pool.game answer → (lost : Play) × (play pool.game pool.nodes root answer ≡ Some lost) × IsLost pool.game lost

@@ -42,17 +42,19 @@ goes_on end_of number items (Some Over) = Some (end_at items number)
 goes_on end_of number items (Some (To child)) = end_of child items
 
 -- the end of a play that comes to a node's step after a history
-abbrev pub end_by_step : GameNumbers → (List ℕ → ℕ) → (ℕ → List ℕ → Option End) → ℕ → List ℕ → Step → Option End
+abbrev pub end_by_step : GameNumbers → (List ℕ → ℕ) → (ℕ → List ℕ → Option End)
+    → ℕ → List ℕ → Step → Option End
 end_by_step game answer end_of number history (Send size pack placements) =
     goes_on end_of number (history ++ size ∷ []) (next_at (load_hit game answer history size) placements)
-end_by_step game answer end_of number history (Burst times size pack) = Some (end_at (history ++ replicate times size) number)
+end_by_step game answer end_of number history (Burst times size pack) =
+    Some (end_at (history ++ replicate times size) number)
 
 -- the end of a play that comes to the node of this number after a history, and passes at most so many nodes from there
 unfoldable pub end_of : GameNumbers → (List ℕ → ℕ) → List AdvNode → ℕ → ℕ → List ℕ → Option End
 end_of game answer nodes zero number history = None
 end_of game answer nodes (suc n) number history =
     option_and_then (λ node. end_by_step game answer (end_of game answer nodes n) number history node.step)
-        (slice_get nodes number)
+    (slice_get nodes number)
 
 -- ---- its packing
 
@@ -71,10 +73,11 @@ unfoldable pub end_packing : List AdvNode → ℕ → ℕ → Option (List (List
 end_packing nodes zero number = None
 end_packing nodes (suc n) number =
     option_and_then
-        (λ node. option_or (packing_of node.step) (option_and_then (end_packing nodes n) (first_child (placements_of node.step))))
-        (slice_get nodes number)
+    (λ node. option_or (packing_of node.step)
+    (option_and_then (end_packing nodes n) (first_child (placements_of node.step))))
+    (slice_get nodes number)
 
--- the sizes of a game's items that stand more often in one list than in the other, each as often as it does so, ascending
+-- the sizes of a game that stand more often in one list than in the other, each as often as it does so, ascending
 abbrev pub beyond : GameNumbers → List ℕ → List ℕ → List ℕ
 beyond game more items = flat_map (λ size. replicate (count size more - count size items) size) (sizes_of game)
 
@@ -92,18 +95,19 @@ pub record Play : Type 0 where
   pub loads : List ℕ
   pub packing : List (List ℕ)
 
--- the play of an algorithm that has this end; its packing is the end packing of the last node without what that has
--- beyond the items
+-- the play of an algorithm with these items, and with what these bins are without what they have beyond the items
+abbrev pub play_with : GameNumbers → (List ℕ → ℕ) → List ℕ → List (List ℕ) → Play
+play_with game answer items bins = record {
+  items = items;
+  bins = bins_of answer items;
+  loads = run game answer items;
+  packing = without_all (beyond game (concat bins) items) bins;
+}
+
+-- the play of an algorithm that has this end; its packing is made from the end packing of the last node
 abbrev pub play_to : GameNumbers → (List ℕ → ℕ) → List AdvNode → End → Option Play
 play_to game answer nodes end =
-    option_map
-        (λ bins. record {
-            items = end.items;
-            bins = bins_of answer end.items;
-            loads = run game answer end.items;
-            packing = without_all (beyond game (concat bins) end.items) bins;
-        })
-        (end_packing nodes (end.number + 1) end.number)
+    option_map (λ bins. play_with game answer end.items bins) (end_packing nodes (end.number + 1) end.number)
 
 -- the play of nodes against an algorithm from the node of this number on; each child has a lower number than its node,
 -- so no play passes more nodes than there are up to this one

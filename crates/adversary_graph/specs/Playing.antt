@@ -31,7 +31,8 @@ StandsReady game answer nodes number items =
     (node : AdvNode) × (slice_get nodes number ≡ Some node) × ComesTo game answer items (position_of node)
 
 -- the play goes on at a child that has a lower number, or ends
-abbrev pub GoesOn : GameNumbers → (List ℕ → ℕ) → List AdvNode → ℕ → Option ℕ → List ℕ → (ℕ → List ℕ → Option End) → Option End → Type 0
+abbrev pub GoesOn : GameNumbers → (List ℕ → ℕ) → List AdvNode → ℕ → Option ℕ → List ℕ
+    → (ℕ → List ℕ → Option End) → Option End → Type 0
 GoesOn game answer nodes number (Some child) items end_of end =
     (child < number) × StandsReady game answer nodes child items × (end ≡ end_of child items)
 GoesOn game answer nodes number None items end_of end = end ≡ Some (end_at items number)
@@ -40,7 +41,8 @@ GoesOn game answer nodes number None items end_of end = end ≡ Some (end_at ite
 abbrev pub IsStep : GameNumbers → (List ℕ → ℕ) → List AdvNode → ℕ → List ℕ → Option ℕ → List ℕ → Type 0
 IsStep game answer nodes number history next items =
     (node : AdvNode) × (slice_get nodes number ≡ Some node)
-    × ((end_of : ℕ → List ℕ → Option End) → GoesOn game answer nodes number next items end_of (end_by_step game answer end_of number history node.step))
+    × ((end_of : ℕ → List ℕ → Option End)
+    → GoesOn game answer nodes number next items end_of (end_by_step game answer end_of number history node.step))
 
 -- the items are those of the node of this number with all that it sends
 abbrev pub IsEnd : Pool → ℕ → List ℕ → Type 0

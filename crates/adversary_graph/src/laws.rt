@@ -1,6 +1,6 @@
 //! Laws of the adversary's strategies, as contracts of functions that do nothing.
 
-ghost use Rattle.adversary_graph.specs.Laws.{LegalNodesAreWon, LegalStrategiesForceEvery};
+ghost use Rattle.adversary_graph.specs.Laws.{LegalNodesAreWon, LegalStrategiesForceEvery, PlaysAreLost};
 ghost use Rattle.adversary_graph.specs.Pools.{IsPool};
 
 use crate::pool::AdvPool;
@@ -19,4 +19,10 @@ pub fn pool_is_legal(pool: &AdvPool)
 pub fn legal_strategies_force_every_algorithm()
     ensures nodes { LegalNodesAreWon }
     ensures game { LegalStrategiesForceEvery }
+{}
+
+/// Every play from a root of a pool has an end, and its algorithm loses it. At each moment a placement says what
+/// follows, and the items are packable.
+pub fn plays_are_lost()
+    ensures lost { PlaysAreLost }
 {}

@@ -2,11 +2,14 @@
 #![tactic(auto)]
 
 pub mod laws;
-mod pool;
 mod plays;
+mod pool;
 mod rules;
 mod step;
 
-pub use pool::AdvPool;
 pub use plays::refute;
+pub use pool::AdvPool;
 pub use rules::{judge, node_fault};
+
+#[cfg(test)]
+mod tests;

@@ -25,7 +25,12 @@ use strategy_text::{Placement, Step, Then};
 /// The play of a pool's nodes against a player, from the root of this number on. The player loses: the items can be
 /// packed, as the packing shows, and one of the loads reaches the target. Asks the player once for each item; the
 /// cost besides is linear in the items times the bins.
-pub fn refute<O: Online>(alloc: Global, pool: &AdvPool, root: u32, player: &O) -> Result<Transcript, AllocError>
+pub fn refute<O: Online>(
+    alloc: Global,
+    pool: &AdvPool,
+    root: u32,
+    player: &O,
+) -> Result<Transcript, AllocError>
     requires root { IsRoot pool.now.nodes root }
     ensures played { IfOk result (λ transcript. play pool.now.game pool.now.nodes root (O.answer player.now pool.now.game) ≡ Some (play_of transcript)) }
     ensures lost { IfOk result (λ transcript. IsLost pool.now.game (play_of transcript)) }
@@ -81,7 +86,13 @@ impl Course {
     }
 
     // Sends an item several times.
-    fn send_times<O: Online>(&mut self, game: &Game, player: &O, size: u16, times: u16) -> Result<(), AllocError>
+    fn send_times<O: Online>(
+        &mut self,
+        game: &Game,
+        player: &O,
+        size: u16,
+        times: u16,
+    ) -> Result<(), AllocError>
         requires course { IsCourse game.now (O.answer player.now game.now) self.old }
         requires packable { Packable game.now (self.old.items ++ replicate times size) }
         ensures sent { OnOk result (self.new.items ≡ self.old.items ++ replicate times size) }
@@ -95,7 +106,12 @@ impl Course {
 }
 
 // Plays from the root to the end, and gives the number of the node that sent the last item.
-fn play_on<O: Online>(pool: &AdvPool, root: u32, player: &O, course: &mut Course) -> Result<u32, AllocError>
+fn play_on<O: Online>(
+    pool: &AdvPool,
+    root: u32,
+    player: &O,
+    course: &mut Course,
+) -> Result<u32, AllocError>
     requires root { IsRoot pool.now.nodes root }
     requires none { course.old.items ≡ [] }
     requires course { IsCourse pool.now.game (O.answer player.now pool.now.game) course.old }
@@ -114,7 +130,12 @@ fn play_on<O: Online>(pool: &AdvPool, root: u32, player: &O, course: &mut Course
 }
 
 // Sends what the node of this number sends, and gives the child at which the play goes on, if it does.
-fn play_step<O: Online>(pool: &AdvPool, number: u32, player: &O, course: &mut Course) -> Result<Option<u32>, AllocError>
+fn play_step<O: Online>(
+    pool: &AdvPool,
+    number: u32,
+    player: &O,
+    course: &mut Course,
+) -> Result<Option<u32>, AllocError>
     requires course { IsCourse pool.now.game (O.answer player.now pool.now.game) course.old }
     requires ready { StandsReady pool.now.game (O.answer player.now pool.now.game) pool.now.nodes number course.old.items }
     ensures course { OnOk result (IsCourse pool.now.game (O.answer player.now pool.now.game) course.new) }
@@ -123,7 +144,11 @@ fn play_step<O: Online>(pool: &AdvPool, number: u32, player: &O, course: &mut Co
     pool_is_legal(pool);
     let game = pool.game();
     match &pool.node(number).step {
-        Step::Send { size, placements, .. } => {
+        Step::Send {
+            size,
+            placements,
+            ..
+        } => {
             let load = course.send(&game, player, *size)?;
             Ok(child_at(load, placements.as_slice()))
         }

@@ -1,13 +1,14 @@
 //! Growing lists of nodes of the adversary that are legal but for a root.
 
-ghost use Rattle.std.specs.Prelude.{◌≡◌, ◌≤◌, ◌<◌, ◌++◌, ◌∷◌, [], length, map, slice_index, slice_get, Some, OnOk, OnErr, IfOk, All};
+ghost use Rattle.std.specs.Prelude.{◌≡◌, ◌↔◌, ◌<◌, ◌-◌, ◌++◌, ◌∷◌, [], All, IfOk, IsTrue, OnErr, OnOk, Some};
+ghost use Rattle.std.specs.Prelude.{length, map, slice_get};
 ghost use Rattle.adversary_graph.specs.Judging.{HasPosition};
-ghost use Rattle.items.specs.Multiset.{sizes_of};
-ghost use Rattle.strategy_text.specs.Spelling.{most_nodes};
 ghost use Rattle.adversary_graph.specs.Nodes.{position_of};
-ghost use Rattle.adversary_graph.specs.Legal.{IsLegal};
-ghost use Rattle.adversary_graph.specs.Pools.{IsPool, MayComeNext, IsRoot, IsLegalOfAdversary, nodes_up_to, pool_of, strategy_of};
+ghost use Rattle.adversary_graph.specs.Pools.{IsLegalOfAdversary, IsPool, IsRoot, MayComeNext};
+ghost use Rattle.adversary_graph.specs.Pools.{nodes_up_to, pool_of, strategy_of};
 
+use crate::rules::is_empty;
+use items::laws::game_is_legal;
 use items::{Game, Items};
 use loads::{Loads, PackedPositions, Position};
 use std::alloc::{AllocError, Global};
@@ -41,7 +42,7 @@ impl AdvPool {
     pub fn new(alloc: Global, game: &Game, format: Format) -> AdvPool
         ensures empty { result ≡ pool_of format game.now [] }
     {
-        let _capacity = game.g();
+        game_is_legal(game);
         AdvPool {
             format,
             game: *game,
@@ -107,6 +108,16 @@ impl AdvPool {
         self.format
     }
 
+    /// Whether the node of this number has empty bins and no items, and so ends a legal strategy. Takes no memory.
+    pub fn is_root(&self, i: u32) -> bool
+        ensures exact { IsTrue result ↔ IsRoot self.now.nodes i }
+    {
+        match self.positions.get(i as usize) {
+            Some(position) => is_empty(&position),
+            None => false,
+        }
+    }
+
     /// The strategy whose root is the node of this number: the nodes up to it. Takes no memory.
     pub fn into_strategy(self, root: u32) -> Strategy
         requires root { IsRoot self.nodes root }
@@ -126,6 +137,7 @@ impl AdvPool {
     pub fn from_strategy(alloc: Global, strategy: Strategy) -> Result<AdvPool, AllocError>
         requires legal { IsLegalOfAdversary strategy }
         ensures same { IfOk result (λ pool. strategy ≡ strategy_of pool) }
+        ensures root { IfOk result (λ pool. IsRoot pool.nodes (length pool.nodes - 1)) }
     {
         let Strategy {
             format,

@@ -15,6 +15,7 @@ ghost use Rattle.adversary_graph.specs.Rules.{IsLongEnough, IsPacked, PlacesEach
 ghost use Rattle.adversary_graph.specs.Judging.{node_at, AreItems, BreaksPastItems, LeadsOn};
 
 use crate::step::{is_packing_asked, packing_of, sent_number, sent_size};
+use items::laws::game_is_legal;
 use items::{Game, Items, MOST_SIZE, MOST_VOLUME, Sizes};
 use loads::{EarlierPositions, Loads, Position};
 use packing_witness::Packing;
@@ -81,7 +82,7 @@ fn items_of(game: &Game, sizes: &Sizes, loads: &Loads, items: &[u16]) -> Option<
         (¬ AreItemsOf sizes.now loads.now items.now)
         (λ made. (made ≡ items.now) × AreItemsOf sizes.now loads.now items.now) }
 {
-    let _capacity = game.g();
+    game_is_legal(game);
     let Some(made) = Items::from_slice(game, items) else {
         return None;
     };
@@ -127,7 +128,7 @@ fn fault_past_items<E: EarlierPositions>(
         (AllMet (Meets format game.now sizes.now (E.positions earlier.now) last node) rules_past_items)
         (BreaksPastItems format game.now sizes.now (E.positions earlier.now) last node) }
 {
-    let _capacity = game.g();
+    game_is_legal(game);
     if !sizes.contains(sent_size(step)) {
         return Some(Rule::Send);
     }
@@ -224,7 +225,7 @@ fn packs(game: &Game, pack: &Packing, position: &Position, step: &Step, all: &Op
     requires { AreItems position.now.items (sent_items step.now) all.now }
     ensures { IsTrue result ↔ IsPacking game.now pack.now (position.now.items ++ sent_items step.now) }
 {
-    let _capacity = game.g();
+    game_is_legal(game);
     match all {
         Some(all) => pack.holds(game, all),
         None => false,
@@ -353,7 +354,7 @@ fn leads_to_child<E: EarlierPositions>(
     let Then::To(child) = placement.next else {
         return true;
     };
-    let _capacity = game.g();
+    game_is_legal(game);
     let Some(loads) = position.loads.place(game, placement.load, size) else {
         return false;
     };
@@ -363,7 +364,8 @@ fn leads_to_child<E: EarlierPositions>(
     earlier.is_at(child as usize, &loads, items)
 }
 
-fn is_empty(position: &Position) -> bool
+// Whether all bins are empty and there are no items.
+pub fn is_empty(position: &Position) -> bool
     ensures exact { IsTrue result ↔ IsEmptyPosition position.now }
 {
     position.items.volume() == 0 && position.loads.as_slice().iter().all(|load| *load == 0)

@@ -1,5 +1,6 @@
 -- Tests in the logic that decide what is packable and which paths are legal.
-use Rattle.std.proofs.Common.{◌≡◌, ◌↔◌, ℕ, zero, suc, ◌+◌, ◌<◌, ◌≤◌, ◌⊎◌, Bool, true, false, ◌&&◌, ◌||◌, eqb, leb, List, [], ◌∷◌, ◌++◌, map, length, refl, sym, subst, ⊎_elim, inl, inr, arith}
+use Rattle.std.proofs.Common.{◌≡◌, ◌↔◌, ℕ, zero, suc, ◌+◌, ◌<◌, ◌≤◌, ◌⊎◌, Bool, true, false, ◌&&◌, ◌||◌, eqb, leb, List, [], ◌∷◌, ◌++◌, map, length, refl, sym, subst}
+use Rattle.std.proofs.Common.{⊎_elim, inl, inr, arith}
 use Rattle.std.specs.Prelude.{All, Contains, IsTrue}
 use Rattle.std.specs.List.{flat_map, range_with_len, list_any, list_all}
 use Rattle.std.proofs.lemmas.Bool.{le-leb, leb-true, eqb-true, eq-eqb}
@@ -49,11 +50,13 @@ module _ {X : Type 0} (test : X → Bool) (P : X → Type 0) (told : (x : X) →
 
   pub any_found : (xs : List X) → IsTrue (list_any test xs) → (x : X) × Contains xs x × P x
   any_found [] h = cc
-  any_found (x ∷ xs) h = ⊎_elim (λ e. (x, Contains-first x xs, (told x).0 e)) (λ e. let r = any_found xs e in (r.0, Contains-later x xs r.0 r.1, r.2)) (either_true (test x) (list_any test xs) h)
+  any_found (x ∷ xs) h = ⊎_elim (λ e. (x, Contains-first x xs, (told x).0 e)) (λ e. let r = any_found xs e in (r.0, Contains-later x xs r.0 r.1, r.2))
+      (either_true (test x) (list_any test xs) h)
 
   pub any_told : (xs : List X) (x : X) → Contains xs x → P x → IsTrue (list_any test xs)
   any_told [] x c h = absurd (Contains-nothing x c)
-  any_told (y ∷ xs) x c h = ⊎_elim (λ e. left_true (test y) (list_any test xs) ((told y).1 (subst P (sym e) h))) (λ later. right_true (test y) (list_any test xs) (any_told xs x later h)) (Contains-split y xs x c)
+  any_told (y ∷ xs) x c h = ⊎_elim (λ e. left_true (test y) (list_any test xs) ((told y).1 (subst P (sym e) h))) (λ later. right_true (test y) (list_any test xs)
+      (any_told xs x later h)) (Contains-split y xs x c)
 
 -- all lists of so many numbers below a bound
 unfoldable pub all_lists : ℕ → ℕ → List (List ℕ)
@@ -81,7 +84,8 @@ size_told most size =
 -- whether these bins are an assignment of the items
 unfoldable pub is_assignment : GameNumbers → List ℕ → List ℕ → Bool
 is_assignment game items bins =
-    (list_all (is_size game.capacity) items && eqb (length bins) (length items)) && (list_all (λ bin. leb (suc bin) game.bins) bins && list_all (λ bin. leb (bin_total bin items bins) game.capacity) (range_with_len 0 game.bins))
+    (list_all (is_size game.capacity) items && eqb (length bins)
+    (length items)) && (list_all (λ bin. leb (suc bin) game.bins) bins && list_all (λ bin. leb (bin_total bin items bins) game.capacity) (range_with_len 0 game.bins))
 
 assignment_told : (game : GameNumbers) (items bins : List ℕ) → IsTrue (is_assignment game items bins) ↔ IsAssignment game items bins
 unfolding is_assignment
@@ -89,7 +93,8 @@ assignment_told game items bins =
     let sizes = all_told (is_size game.capacity) (IsSize game.capacity) (size_told game.capacity) items in
     let lengths = eq_told (length bins) (length items) in
     let below = all_told (λ bin. leb (suc bin) game.bins) (λ bin. bin < game.bins) (λ bin. le_told (suc bin) game.bins) bins in
-    let fits = all_told (λ bin. leb (bin_total bin items bins) game.capacity) (λ bin. bin_total bin items bins ≤ game.capacity) (λ bin. le_told (bin_total bin items bins) game.capacity) (range_with_len 0 game.bins) in
+    let fits = all_told (λ bin. leb (bin_total bin items bins) game.capacity) (λ bin. bin_total bin items bins ≤ game.capacity)
+    (λ bin. le_told (bin_total bin items bins) game.capacity) (range_with_len 0 game.bins) in
     let one = both _ _ _ _ sizes lengths in
     let other = both _ _ _ _ below fits in
     let t = both _ _ _ _ one other in (
@@ -110,7 +115,8 @@ pub packable_told : (game : GameNumbers) (items : List ℕ) → IsTrue (is_packa
 unfolding is_packable
 packable_told game items = (
   λ h. let r = any_found (is_assignment game items) (IsAssignment game items) (assignment_told game items) (all_lists game.bins (length items)) h in (r.0, r.2),
-  λ p. any_told (is_assignment game items) (IsAssignment game items) (assignment_told game items) (all_lists game.bins (length items)) p.0 (in_all_lists game.bins (length items) p.0 p.1.one_each p.1.of_game) p.1,
+  λ p. any_told (is_assignment game items) (IsAssignment game items) (assignment_told game items)
+      (all_lists game.bins (length items)) p.0 (in_all_lists game.bins (length items) p.0 p.1.one_each p.1.of_game) p.1,
 )
 
 -- whether a move is legal
@@ -118,10 +124,12 @@ unfoldable pub is_legal_move : GameNumbers → (List ℕ → ℕ → Bool) → P
 is_legal_move game allowed position step =
     (allowed position.items step.item && is_packable game (position.items ++ step.item ∷ [])) && (list_any (λ load. eqb step.load load) position.loads && leb (suc (step.load + step.item)) game.target)
 
-move_told : (game : GameNumbers) (allowed : List ℕ → ℕ → Bool) (position : Position) (step : PathMove) → IsTrue (is_legal_move game allowed position step) ↔ IsLegalMove game allowed position step
+move_told : (game : GameNumbers) (allowed : List ℕ → ℕ → Bool) (position : Position) (step : PathMove)
+    → IsTrue (is_legal_move game allowed position step) ↔ IsLegalMove game allowed position step
 unfolding is_legal_move
 move_told game allowed position step =
-    let one = both (allowed position.items step.item) (is_packable game (position.items ++ step.item ∷ [])) (IsTrue (allowed position.items step.item)) (Packable game (position.items ++ step.item ∷ [])) (λ h. h, λ h. h) (packable_told game (position.items ++ step.item ∷ [])) in
+    let one = both (allowed position.items step.item) (is_packable game (position.items ++ step.item ∷ [])) (IsTrue (allowed position.items step.item))
+    (Packable game (position.items ++ step.item ∷ [])) (λ h. h, λ h. h) (packable_told game (position.items ++ step.item ∷ [])) in
     let load : IsTrue (list_any (λ load. eqb step.load load) position.loads) ↔ Contains position.loads step.load = (listed-Contains step.load position.loads, Contains-listed step.load position.loads) in
     let other = both _ _ _ _ load (le_told (suc (step.load + step.item)) game.target) in
     let t = both _ _ _ _ one other in (
@@ -135,7 +143,8 @@ is_legal_from game allowed position [] = true
 is_legal_from game allowed position (step ∷ path) =
     is_legal_move game allowed position step && is_legal_from game allowed (after position step.load step.item) path
 
-pub path_told : (game : GameNumbers) (allowed : List ℕ → ℕ → Bool) (position : Position) (path : List PathMove) → IsTrue (is_legal_from game allowed position path) ↔ IsLegalFrom game allowed position path
+pub path_told : (game : GameNumbers) (allowed : List ℕ → ℕ → Bool) (position : Position) (path : List PathMove)
+    → IsTrue (is_legal_from game allowed position path) ↔ IsLegalFrom game allowed position path
 unfolding is_legal_from
 path_told game allowed position [] = (λ h. tt, λ h. refl)
 path_told game allowed position (step ∷ path) =

@@ -1,5 +1,6 @@
 -- The positions at which legal paths end, and their number.
-use Rattle.std.proofs.Common.{◌≡◌, ◌≢◌, ◌↔◌, ℕ, ◌-◌, ◌<◌, ◌≤◌, ◌⊎◌, Bool, true, false, cond, ◌&&◌, eqb, List, [], ◌∷◌, map, length, get_or, refl, sym, ap, ◌∙◌, subst, ⊎_elim, inl, inr, arith}
+use Rattle.std.proofs.Common.{◌≡◌, ◌≢◌, ◌↔◌, ℕ, ◌-◌, ◌<◌, ◌≤◌, ◌⊎◌, Bool, true, false, cond, ◌&&◌, eqb, List, [], ◌∷◌, map, length, get_or, refl, sym, ap, ◌∙◌, subst}
+use Rattle.std.proofs.Common.{⊎_elim, inl, inr, arith}
 use Rattle.std.specs.Prelude.{All, AllPairs, Contains, IsTrue}
 use Rattle.std.specs.List.{filter, list_any}
 use Rattle.std.proofs.lemmas.Bool.{eqb-true, eq-eqb}
@@ -62,7 +63,8 @@ record IsOnceOf (ps qs : List Position) : Type 0 where
   keeps : KeepsAll ps qs
   once : AllPairs ◌≢◌ qs
 
-once_with : (p : Position) (ps : List Position) → IsOnceOf ps (each_once ps) → (b : Bool) → IsTrue b ↔ Contains ps p → IsOnceOf (p ∷ ps) (cond b (each_once ps) (p ∷ each_once ps))
+once_with : (p : Position) (ps : List Position) → IsOnceOf ps (each_once ps) → (b : Bool) → IsTrue b ↔ Contains ps p → IsOnceOf (p ∷ ps) (cond b (each_once ps)
+    (p ∷ each_once ps))
 once_with p ps h true told = record {
   keeps = λ q. (
     λ c. Contains-later p ps q ((h.keeps q).0 c),
@@ -73,9 +75,11 @@ once_with p ps h true told = record {
 once_with p ps h false told = record {
   keeps = λ q. (
     λ c. ⊎_elim (λ e. subst (Contains (p ∷ ps)) e (Contains-first p ps)) (λ later. Contains-later p ps q ((h.keeps q).0 later)) (Contains-split p (each_once ps) q c),
-    λ c. ⊎_elim (λ e. subst (Contains (p ∷ each_once ps)) e (Contains-first p (each_once ps))) (λ later. Contains-later p (each_once ps) q ((h.keeps q).1 later)) (Contains-split p ps q c),
+    λ c. ⊎_elim (λ e. subst (Contains (p ∷ each_once ps)) e (Contains-first p (each_once ps))) (λ later. Contains-later p (each_once ps) q ((h.keeps q).1 later))
+        (Contains-split p ps q c),
   );
-  once = AllPairs-cons ◌≢◌ p (each_once ps) (λ k d l e. let found : Contains ps p = (h.keeps p).0 (subst (Contains (each_once ps)) (sym e) (Contains-get_or (each_once ps) k d l)) in let no : false ≡ true = told.1 found in cc) h.once;
+  once = AllPairs-cons ◌≢◌ p (each_once ps) (λ k d l e. let found : Contains ps p = (h.keeps p).0 (subst (Contains (each_once ps)) (sym e)
+      (Contains-get_or (each_once ps) k d l)) in let no : false ≡ true = told.1 found in cc) h.once;
 }
 
 IsOnceOf-each_once : (ps : List Position) → IsOnceOf ps (each_once ps)
@@ -103,7 +107,8 @@ module _ (test : List PathMove → Bool) where
 
   kept : (xs : List (List PathMove)) (y : List PathMove) → Contains xs y → IsTrue (test y) → Contains (filter test xs) y
   kept [] y c h = absurd (Contains-nothing y c)
-  kept (x ∷ xs) y c h = ⊎_elim (λ e. subst (Contains (filter test (x ∷ xs))) e (filter_here (test x) x (filter test xs) (subst (λ z. IsTrue (test z)) (sym e) h))) (λ later. filter_later (test x) x (filter test xs) y (kept xs y later h)) (Contains-split x xs y c)
+  kept (x ∷ xs) y c h = ⊎_elim (λ e. subst (Contains (filter test (x ∷ xs))) e (filter_here (test x) x (filter test xs) (subst (λ z. IsTrue (test z)) (sym e) h)))
+      (λ later. filter_later (test x) x (filter test xs) y (kept xs y later h)) (Contains-split x xs y c)
 
 -- the positions at which legal paths end, written out
 module _ (game : GameNumbers) (allowed : List ℕ → ℕ → Bool) where
@@ -113,7 +118,8 @@ module _ (game : GameNumbers) (allowed : List ℕ → ℕ → Bool) where
   legal_path_there : (path : List PathMove) → IsLegalPath game allowed path → Contains legal_paths path
   unfolding legal_paths
   legal_path_there path h =
-      kept (is_legal_from game allowed (empty_position game)) (paths_of game) path (legal_in_paths_of game allowed path h) ((path_told game allowed (empty_position game) path).1 h)
+      kept (is_legal_from game allowed (empty_position game)) (paths_of game) path (legal_in_paths_of game allowed path h)
+      ((path_told game allowed (empty_position game) path).1 h)
 
   legal_if_there : (path : List PathMove) → Contains legal_paths path → IsLegalPath game allowed path
   unfolding legal_paths
@@ -139,7 +145,8 @@ module _ (game : GameNumbers) (allowed : List ℕ → ℕ → Bool) where
   pub ends_are_counted : (number : ℕ) × CountsEnds game allowed number
   ends_are_counted = (length ends, (ends, AreEnds-ends, refl))
 
-  pub ends_are_no_more : (number : ℕ) (positions : List Position) → CountsEnds game allowed number → All (IsEnd game allowed) positions → AllPairs ◌≢◌ positions → length positions ≤ number
+  pub ends_are_no_more : (number : ℕ) (positions : List Position) → CountsEnds game allowed number → All (IsEnd game allowed) positions → AllPairs ◌≢◌ positions
+      → length positions ≤ number
   ends_are_no_more number positions (all, h, e) are once =
       let few = length-le-members positions all once (λ k d l. (h.exact (get_or positions k d)).1 (are k d l)) in
       omega (arith, few, e)
@@ -153,7 +160,8 @@ module _ (game : GameNumbers) (allowed : List ℕ → ℕ → Bool) where
   one_number_of_ends one other h k = omega (arith, number_le one other h k, number_le other one k h)
 
 -- what more sizes are allowed in, more paths are legal in
-legal_in_more : (game : GameNumbers) (allowed more : List ℕ → ℕ → Bool) → ((items : List ℕ) (size : ℕ) → IsTrue (allowed items size) → IsTrue (more items size)) → (start : Position) (path : List PathMove) → IsLegalFrom game allowed start path → IsLegalFrom game more start path
+legal_in_more : (game : GameNumbers) (allowed more : List ℕ → ℕ → Bool) → ((items : List ℕ) (size : ℕ) → IsTrue (allowed items size) → IsTrue (more items size))
+    → (start : Position) (path : List PathMove) → IsLegalFrom game allowed start path → IsLegalFrom game more start path
 legal_in_more game allowed more h start [] l = tt
 legal_in_more game allowed more h start (step ∷ path) l = (
   record { allowed_size = h start.items step.item l.0.allowed_size; packable = l.0.packable; has_load = l.0.has_load; below_target = l.0.below_target },
@@ -164,7 +172,8 @@ pub last_pass_has_most : (game : GameNumbers) (pass number all : ℕ) → pass <
 last_pass_has_most game pass number all below (ends, h, e) most =
     let sizes = sizes_of game in
     let last = game.capacity - 1 in
-    let more = legal_in_more game (allowed_in sizes pass) (allowed_in sizes last) (λ items size. allowed_later sizes items pass last size (omega (arith, below))) (empty_position game) in
+    let more = legal_in_more game (allowed_in sizes pass) (allowed_in sizes last) (λ items size. allowed_later sizes items pass last size (omega (arith, below)))
+    (empty_position game) in
     let each : All (IsEnd game (allowed_in sizes last)) ends = λ k d l.
     let is = (h.exact (get_or ends k d)).0 (Contains-get_or ends k d l) in
     (is.0, more is.0 is.1, is.2) in

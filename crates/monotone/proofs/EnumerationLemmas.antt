@@ -34,16 +34,19 @@ length-paths_within (suc left) grown loads =
     let n = (length loads + 1) ^ left in
     let to = λ (load : ℕ). map (λ path. moved (suc grown) load ∷ path) (paths_within left 0 (loads_after loads load (suc grown))) in
     let each : (load : ℕ) → Contains loads load → length (to load) ≡ n = λ load member.
-    length-map (paths_within left 0 (loads_after loads load (suc grown))) (λ path. moved (suc grown) load ∷ path) ∙ length-paths_within left 0 (loads_after loads load (suc grown)) ∙ ap (λ k. (k + 1) ^ left) (length-loads_after loads load (suc grown) member) in
+    length-map (paths_within left 0 (loads_after loads load (suc grown))) (λ path. moved (suc grown) load ∷ path)
+    ∙ length-paths_within left 0 (loads_after loads load (suc grown)) ∙ ap (λ k. (k + 1) ^ left) (length-loads_after loads load (suc grown) member) in
     let joined : length (flat_map to loads) ≡ length loads * n = length-flat_map-same to n loads each in
-    length-append (paths_within left (suc grown) loads) (flat_map to loads) ∙ ap (λ k. k + length (flat_map to loads)) (length-paths_within left (suc grown) loads) ∙ ap (λ k. n + k) joined ∙ one_more_level n (length loads) ∙ sym (pow-succ' (length loads + 1) left)
+    length-append (paths_within left (suc grown) loads) (flat_map to loads) ∙ ap (λ k. k + length (flat_map to loads)) (length-paths_within left (suc grown) loads)
+    ∙ ap (λ k. n + k) joined ∙ one_more_level n (length loads) ∙ sym (pow-succ' (length loads + 1) left)
 
 -- each move's load is there at the move, and each item is at least 1
 abbrev pub HasItsLoads : List ℕ → List PathMove → Type 0
 HasItsLoads loads [] = Unit {0}
 HasItsLoads loads (step ∷ path) = (1 ≤ step.item) × Contains loads step.load × HasItsLoads (loads_after loads step.load step.item) path
 
-pub HasItsLoads-legal : (game : GameNumbers) (allowed : List ℕ → ℕ → Bool) (start : Position) (path : List PathMove) → IsLegalFrom game allowed start path → HasItsLoads start.loads path
+pub HasItsLoads-legal : (game : GameNumbers) (allowed : List ℕ → ℕ → Bool) (start : Position) (path : List PathMove) → IsLegalFrom game allowed start path
+    → HasItsLoads start.loads path
 HasItsLoads-legal game allowed start [] h = tt
 HasItsLoads-legal game allowed start (step ∷ path) h =
     (positive_item game allowed start step h.0, h.0.has_load, HasItsLoads-legal game allowed (after start step.load step.item) path h.1)
@@ -54,7 +57,8 @@ empty_within zero grown loads = Contains-first [] []
 empty_within (suc left) grown loads = Contains-append_left (paths_within left (suc grown) loads) _ [] (empty_within left (suc grown) loads)
 
 -- the path that begins with this move is among those that go to one of the loads
-goes_to : (left grown : ℕ) (loads : List ℕ) (step : PathMove) (path : List PathMove) → Contains loads step.load → step.item ≡ suc grown → Contains (paths_within left 0 (loads_after loads step.load (suc grown))) path → Contains (paths_within (suc left) grown loads) (step ∷ path)
+goes_to : (left grown : ℕ) (loads : List ℕ) (step : PathMove) (path : List PathMove) → Contains loads step.load → step.item ≡ suc grown
+    → Contains (paths_within left 0 (loads_after loads step.load (suc grown))) path → Contains (paths_within (suc left) grown loads) (step ∷ path)
 unfolding paths_within
 goes_to left grown loads step path member same h =
     let with = λ (load : ℕ) (rest : List PathMove). moved (suc grown) load ∷ rest in
@@ -67,7 +71,8 @@ grows : (left grown : ℕ) (loads : List ℕ) (path : List PathMove) → Contain
 unfolding paths_within
 grows left grown loads path h = Contains-append_left (paths_within left (suc grown) loads) _ path h
 
-within_grown : (left grown : ℕ) (loads : List ℕ) (step : PathMove) (path : List PathMove) → HasItsLoads loads (step ∷ path) → grown < step.item → step.item + volume_of path ≤ left + grown → Contains (paths_within left grown loads) (step ∷ path)
+within_grown : (left grown : ℕ) (loads : List ℕ) (step : PathMove) (path : List PathMove) → HasItsLoads loads (step ∷ path) → grown < step.item
+    → step.item + volume_of path ≤ left + grown → Contains (paths_within left grown loads) (step ∷ path)
 within_grown zero grown loads step path h l m = absurd (omega (arith, l, m))
 within_grown (suc left) grown loads step [] h l m = elim (cases_eq step.item (suc grown)) [
   | inl e ↦ goes_to left grown loads step [] h.1 e (empty_within left 0 (loads_after loads step.load (suc grown)))
@@ -75,7 +80,8 @@ within_grown (suc left) grown loads step [] h l m = elim (cases_eq step.item (su
 ]
 within_grown (suc left) grown loads step (next ∷ path) h l m = elim (cases_eq step.item (suc grown)) [
   | inl e ↦ let rest : HasItsLoads (loads_after loads step.load (suc grown)) (next ∷ path) = subst (λ item. HasItsLoads (loads_after loads step.load item) (next ∷ path)) e h.2 in
-      goes_to left grown loads step (next ∷ path) h.1 e (within_grown left 0 (loads_after loads step.load (suc grown)) next path rest (omega (arith, rest.0)) (omega (arith, m, e)))
+      goes_to left grown loads step (next ∷ path) h.1 e (within_grown left 0 (loads_after loads step.load (suc grown)) next path rest (omega (arith, rest.0))
+      (omega (arith, m, e)))
   | inr apart ↦ grows left grown loads (step ∷ next ∷ path) (within_grown left (suc grown) loads step (next ∷ path) h (omega (arith, l, apart)) (omega (arith, m)))
 ]
 

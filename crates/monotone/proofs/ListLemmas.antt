@@ -1,5 +1,6 @@
 -- Lists in which no element stands twice, and what stands in lists that are joined or mapped.
-use Rattle.std.proofs.Common.{◌≡◌, ◌≢◌, ℕ, zero, suc, ◌+◌, ◌-◌, ◌*◌, ◌<◌, ◌≤◌, ◌⊎◌, List, [], ◌∷◌, map, length, get_or, refl, sym, ap, ◌∙◌, subst, ⊎_elim, inl, inr, arith, length-append}
+use Rattle.std.proofs.Common.{◌≡◌, ◌≢◌, ℕ, zero, suc, ◌+◌, ◌-◌, ◌*◌, ◌<◌, ◌≤◌, ◌⊎◌, List, [], ◌∷◌, map, length, get_or, refl, sym, ap, ◌∙◌, subst, ⊎_elim, inl, inr}
+use Rattle.std.proofs.Common.{arith, length-append}
 use Rattle.std.specs.Prelude.{All, AllPairs, Contains}
 use Rattle.std.specs.List.{flat_map, range_with_len}
 use Rattle.std.proofs.lemmas.List.FromFn.{get_or-range_with_len, length-range_with_len}
@@ -37,7 +38,8 @@ module _ {X : Type 0} where
   still_there zero (z ∷ zs) x y e l apart c =
       ⊎_elim (λ same. absurd (apart (sym e ∙ same))) (λ later. later) (Contains-split z zs y c)
   still_there (suc k) (z ∷ zs) x y e l apart c =
-      ⊎_elim (λ same. subst (Contains (z ∷ without_place k zs)) same (Contains-first z (without_place k zs))) (λ later. Contains-later z (without_place k zs) y (still_there k zs x y e (omega (arith, l)) apart later)) (Contains-split z zs y c)
+      ⊎_elim (λ same. subst (Contains (z ∷ without_place k zs)) same (Contains-first z (without_place k zs)))
+      (λ later. Contains-later z (without_place k zs) y (still_there k zs x y e (omega (arith, l)) apart later)) (Contains-split z zs y c)
 
   pub AllPairs-tail : (R : X → X → Type 0) (x : X) (xs : List X) → AllPairs R (x ∷ xs) → AllPairs R xs
   AllPairs-tail R x xs h = λ i j d l m. h (suc i) (suc j) d (omega (arith, l)) (omega (arith, m))
@@ -64,7 +66,8 @@ module _ {X A : Type 0} (f : X → List A) where
   pub Contains-flat_map : (xs : List X) (x : X) (a : A) → Contains xs x → Contains (f x) a → Contains (flat_map f xs) a
   Contains-flat_map [] x a c h = absurd (Contains-nothing x c)
   Contains-flat_map (y ∷ xs) x a c h =
-      ⊎_elim (λ same. Contains-append_left (f y) (flat_map f xs) a (subst (λ z. Contains (f z) a) (sym same) h)) (λ later. Contains-append_right (f y) (flat_map f xs) a (Contains-flat_map xs x a later h)) (Contains-split y xs x c)
+      ⊎_elim (λ same. Contains-append_left (f y) (flat_map f xs) a (subst (λ z. Contains (f z) a) (sym same) h)) (λ later. Contains-append_right (f y)
+      (flat_map f xs) a (Contains-flat_map xs x a later h)) (Contains-split y xs x c)
 
   -- lists of one length joined
   pub length-flat_map-same : (n : ℕ) (xs : List X) → ((x : X) → Contains xs x → length (f x) ≡ n) → length (flat_map f xs) ≡ length xs * n
@@ -76,7 +79,8 @@ module _ {X A : Type 0} (f : X → A) where
   pub Contains-map : (xs : List X) (x : X) → Contains xs x → Contains (map f xs) (f x)
   Contains-map [] x c = absurd (Contains-nothing x c)
   Contains-map (y ∷ xs) x c =
-      ⊎_elim (λ same. subst (λ z. Contains (map f (y ∷ xs)) (f z)) same (Contains-first (f y) (map f xs))) (λ later. Contains-later (f y) (map f xs) (f x) (Contains-map xs x later)) (Contains-split y xs x c)
+      ⊎_elim (λ same. subst (λ z. Contains (map f (y ∷ xs)) (f z)) same (Contains-first (f y) (map f xs))) (λ later. Contains-later (f y) (map f xs) (f x)
+      (Contains-map xs x later)) (Contains-split y xs x c)
 
   pub from_map : (xs : List X) (a : A) → Contains (map f xs) a → (x : X) × Contains xs x × (f x ≡ a)
   from_map [] a c = absurd (Contains-nothing a c)

@@ -1,5 +1,6 @@
 -- The order of moves and of paths.
-use Rattle.std.proofs.Common.{◌≡◌, ◌↔◌, ℕ, suc, ◌+◌, ◌<◌, ◌≤◌, ◌⊎◌, Bool, true, false, not, ◌&&◌, eqb, List, [], ◌∷◌, length, get_or, drop, refl, sym, ap, ◌∙◌, subst, inl, inr, arith, drop-cons, add-one, length-drop}
+use Rattle.std.proofs.Common.{◌≡◌, ◌↔◌, ℕ, suc, ◌+◌, ◌<◌, ◌≤◌, ◌⊎◌, Bool, true, false, not, ◌&&◌, eqb, List, [], ◌∷◌, length, get_or, drop, refl, sym, ap, ◌∙◌, subst}
+use Rattle.std.proofs.Common.{inl, inr, arith, drop-cons, add-one, length-drop}
 use Rattle.std.proofs.lemmas.Bool.{cases_order}
 use Rattle.std.proofs.lemmas.Bool.Decides.{nat_tests}
 use Rattle.std.proofs.Math.ListN.{drop_of_length-le}
@@ -87,7 +88,8 @@ decided_by_end (b ∷ second) = (λ h. omega arith, λ l. tt)
 abbrev pub IsDecidedFrom : ℕ → List PathMove → List PathMove → Type 0
 IsDecidedFrom i first second = ComesBefore first second ↔ ComesBefore (drop i first) (drop i second)
 
-pub decided_at_end : (i : ℕ) (first second : List PathMove) → length first ≤ i → i ≤ length first → IsDecidedFrom i first second → ComesBefore first second ↔ (length first < length second)
+pub decided_at_end : (i : ℕ) (first second : List PathMove) → length first ≤ i → i ≤ length first → IsDecidedFrom i first second
+    → ComesBefore first second ↔ (length first < length second)
 decided_at_end i first second l m h =
     let gone : drop i first ≡ [] = drop_of_length-le first l in
     let e = decided_by_end (drop i second) in (
@@ -100,7 +102,8 @@ decided_past_end i first second e h k =
     let gone : drop i second ≡ [] = drop_of_length-le second (omega (arith, e)) in
     nothing_before_none (drop i first) (subst (ComesBefore (drop i first)) gone (h.0 k))
 
-pub decided_at_moves : (i : ℕ) (first second : List PathMove) (d : PathMove) → i < length first → i < length second → (get_or first i d ≡ get_or second i d → ⊥) → IsDecidedFrom i first second → ComesBefore first second ↔ IsEarlierMove (get_or first i d) (get_or second i d)
+pub decided_at_moves : (i : ℕ) (first second : List PathMove) (d : PathMove) → i < length first → i < length second → (get_or first i d ≡ get_or second i d → ⊥)
+    → IsDecidedFrom i first second → ComesBefore first second ↔ IsEarlierMove (get_or first i d) (get_or second i d)
 decided_at_moves i first second d l m apart h =
     let e = drop-cons first i d l in
     let f = drop-cons second i d m in
@@ -109,7 +112,8 @@ decided_at_moves i first second d l m apart h =
       λ k. h.1 (subst (λ xs. ComesBefore xs (drop i second)) (sym e) (subst (λ ys. ComesBefore (get_or first i d ∷ drop (suc i) first) ys) (sym f) (by_moves.1 k))),
     )
 
-pub decided_from_next : (i : ℕ) (first second : List PathMove) (d : PathMove) → i < length first → i < length second → get_or first i d ≡ get_or second i d → IsDecidedFrom i first second → IsDecidedFrom (i + 1) first second
+pub decided_from_next : (i : ℕ) (first second : List PathMove) (d : PathMove) → i < length first → i < length second → get_or first i d ≡ get_or second i d
+    → IsDecidedFrom i first second → IsDecidedFrom (i + 1) first second
 decided_from_next i first second d l m same h =
     let e : drop i first ≡ get_or first i d ∷ drop (i + 1) first = rw add-one (drop-cons first i d l) in
     let f : drop i second ≡ get_or second i d ∷ drop (i + 1) second = rw add-one (drop-cons second i d m) in

@@ -1,5 +1,5 @@
 -- Which sizes passes allow.
-use Rattle.std.proofs.Common.{◌↔◌, ℕ, suc, ◌+◌, ◌-◌, ◌≤◌, Bool, true, false, ◌&&◌, eqb, leb, List, [], ◌∷◌, refl, arith}
+use Rattle.std.proofs.Common.{◌↔◌, ℕ, ◌+◌, ◌-◌, ◌≤◌, Bool, true, false, ◌&&◌, eqb, leb, List, refl, arith}
 use Rattle.std.specs.Prelude.{All, Contains, IsTrue}
 use Rattle.std.specs.List.{list_any}
 use Rattle.std.specs.Cmp.{nat_eq_equiv}
@@ -7,6 +7,7 @@ use Rattle.std.proofs.lemmas.Bool.{le-leb, leb-true, eqb-true}
 use Rattle.std.proofs.lemmas.Map.Views.{Contains-from_any, list_any-from_Contains}
 use Rattle.items.specs.Game.{GameNumbers}
 use Rattle.items.specs.Multiset.{largest_of, IsSize}
+use Rattle.items.proofs.MultisetLemmas.{largest_of-le}
 use Rattle.monotone.specs.Passes.{allowed_in}
 
 pub both_true : (a b : Bool) → IsTrue (a && b) ↔ (IsTrue a × IsTrue b)
@@ -32,12 +33,8 @@ allowed_later sizes items pass later size l h =
     let a = (allowed_in-exact sizes items pass size).0 h in
     (allowed_in-exact sizes items later size).1 (a.0, omega (arith, a.1, l))
 
-largest-le : (most : ℕ) (items : List ℕ) → All (IsSize most) items → largest_of items ≤ most
-largest-le most [] h = omega arith
-largest-le most (x ∷ []) h = (h 0 0 (omega arith)).high
-largest-le most (x ∷ y ∷ items) h = largest-le most (y ∷ items) (λ k d l. h (suc k) d (omega (arith, l)))
-
-pub allowed_last : (game : GameNumbers) (sizes items : List ℕ) (size : ℕ) → All (IsSize game.capacity) items → 1 ≤ size → IsTrue (allowed_in sizes (game.capacity - 1) items size) ↔ Contains sizes size
+pub allowed_last : (game : GameNumbers) (sizes items : List ℕ) (size : ℕ) → All (IsSize game.capacity) items → 1 ≤ size
+    → IsTrue (allowed_in sizes (game.capacity - 1) items size) ↔ Contains sizes size
 allowed_last game sizes items size h l =
     let e = allowed_in-exact sizes items (game.capacity - 1) size in
-    (λ a. (e.0 a).0, λ c. e.1 (c, omega (arith, largest-le game.capacity items h, l)))
+    (λ a. (e.0 a).0, λ c. e.1 (c, omega (arith, largest_of-le game.capacity items h, l)))

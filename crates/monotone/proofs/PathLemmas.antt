@@ -13,23 +13,27 @@ use Rattle.monotone.specs.declared.path.PathMove.{PathMove}
 use Rattle.loads.specs.Wins.{empty_position}
 use Rattle.monotone.specs.Paths.{IsLegalMove, IsLegalFrom, IsLegalPath, position_after}
 
-pub position_after-push : (start : Position) (path : List PathMove) (step : PathMove) → position_after start (path ++ step ∷ []) ≡ after (position_after start path) step.load step.item
+pub position_after-push : (start : Position) (path : List PathMove) (step : PathMove)
+    → position_after start (path ++ step ∷ []) ≡ after (position_after start path) step.load step.item
 position_after-push start [] step = refl
 position_after-push start (s ∷ path) step = position_after-push (after start s.load s.item) path step
 
 module _ (game : GameNumbers) (allowed : List ℕ → ℕ → Bool) where
-  pub IsLegalFrom-push : (start : Position) (path : List PathMove) (step : PathMove) → IsLegalFrom game allowed start path → IsLegalMove game allowed (position_after start path) step → IsLegalFrom game allowed start (path ++ step ∷ [])
+  pub IsLegalFrom-push : (start : Position) (path : List PathMove) (step : PathMove) → IsLegalFrom game allowed start path
+      → IsLegalMove game allowed (position_after start path) step → IsLegalFrom game allowed start (path ++ step ∷ [])
   IsLegalFrom-push start [] step h m = (m, tt)
   IsLegalFrom-push start (s ∷ path) step h m = (h.0, IsLegalFrom-push (after start s.load s.item) path step h.1 m)
 
-  pub IsLegalFrom-parts : (start : Position) (path : List PathMove) (step : PathMove) → IsLegalFrom game allowed start (path ++ step ∷ []) → IsLegalFrom game allowed start path × IsLegalMove game allowed (position_after start path) step
+  pub IsLegalFrom-parts : (start : Position) (path : List PathMove) (step : PathMove) → IsLegalFrom game allowed start (path ++ step ∷ [])
+      → IsLegalFrom game allowed start path × IsLegalMove game allowed (position_after start path) step
   IsLegalFrom-parts start [] step h = (tt, h.0)
   IsLegalFrom-parts start (s ∷ path) step h =
       let rest = IsLegalFrom-parts (after start s.load s.item) path step h.1 in
       ((h.0, rest.0), rest.1)
 
   -- the items after a legal path are packable
-  pub Packable-legal : (start : Position) (path : List PathMove) → Packable game start.items → IsLegalFrom game allowed start path → Packable game (position_after start path).items
+  pub Packable-legal : (start : Position) (path : List PathMove) → Packable game start.items → IsLegalFrom game allowed start path
+      → Packable game (position_after start path).items
   Packable-legal start [] p h = p
   Packable-legal start (s ∷ path) p h =
       Packable-legal (after start s.load s.item) path (Packable-put_ascending game start.items s.item h.0.packable) h.1

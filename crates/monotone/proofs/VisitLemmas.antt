@@ -41,7 +41,8 @@ in_all_visits : (space : SearchSpace) (visited : Visit) → IsVisit space visite
 unfolding all_visits
 in_all_visits space visited h =
     let pass = in_range space.first_pass (passes_of space) visited.pass h.from_first (omega (arith, h.from_first, h.to_last)) in
-    Contains-flat_map (λ pass. map (visit pass) (paths_of space.game)) _ visited.pass visited pass (Contains-map (visit visited.pass) _ visited.path (legal_in_paths_of space.game (allowed_in space.sizes visited.pass) visited.path h.legal))
+    Contains-flat_map (λ pass. map (visit pass)
+    (paths_of space.game)) _ visited.pass visited pass (Contains-map (visit visited.pass) _ visited.path (legal_in_paths_of space.game (allowed_in space.sizes visited.pass) visited.path h.legal))
 
 pub visits_are_bounded : (space : SearchSpace) (visits : List Visit) → All (IsVisit space) visits → AllPairs ◌≢◌ visits → length visits ≤ most_visits space
 visits_are_bounded space visits h once =
@@ -58,16 +59,19 @@ last_pushed visits next =
     ap (slice_get (visits ++ next ∷ [])) e ∙ at_end visits next
 
 -- each visit comes before one that is later than the last
-all_before : (visits : List Visit) (next : Visit) → AllPairs IsEarlierVisit visits → IfSome (slice_get visits (length visits - 1)) (λ last. IsEarlierVisit last next) → All (λ visited. IsEarlierVisit visited next) visits
+all_before : (visits : List Visit) (next : Visit) → AllPairs IsEarlierVisit visits → IfSome (slice_get visits (length visits - 1)) (λ last. IsEarlierVisit last next)
+    → All (λ visited. IsEarlierVisit visited next) visits
 all_before visits next order later k d l =
     let end : length visits - 1 < length visits = omega (arith, l) in
-    let last : IsEarlierVisit (get_or visits (length visits - 1) d) next = subst (λ o. IfSome o (λ v. IsEarlierVisit v next)) (slice_get-get_or visits (length visits - 1) d end) later in
+    let last : IsEarlierVisit (get_or visits (length visits - 1) d) next = subst (λ o. IfSome o (λ v. IsEarlierVisit v next))
+    (slice_get-get_or visits (length visits - 1) d end) later in
     elim (cases_eq k (length visits - 1)) [
       | inl e ↦ subst (λ i. IsEarlierVisit (get_or visits i d) next) (sym e) last
       | inr apart ↦ IsEarlierVisit-trans _ _ _ (order k (length visits - 1) d (omega (arith, l, apart)) end) last
     ]
 
-all_before_next : (space : SearchSpace) (meter : Metered) (next : Visit) (visits : List Visit) → AreCounted space meter visits → IsLater meter next → All (λ visited. IsEarlierVisit visited next) visits
+all_before_next : (space : SearchSpace) (meter : Metered) (next : Visit) (visits : List Visit) → AreCounted space meter visits → IsLater meter next
+    → All (λ visited. IsEarlierVisit visited next) visits
 all_before_next space meter next visits h later =
     all_before visits next h.in_order (subst (λ o. IfSome o (λ last. IsEarlierVisit last next)) (sym h.last) later)
 
@@ -82,7 +86,8 @@ CountsVisits-unused space budget = (
   },
 )
 
-pub CountsVisits-counted : (space : SearchSpace) (meter : Metered) (next : Visit) → CountsVisits space meter → IsVisit space next → IsLater meter next → CountsVisits space (counted meter next)
+pub CountsVisits-counted : (space : SearchSpace) (meter : Metered) (next : Visit) → CountsVisits space meter → IsVisit space next → IsLater meter next
+    → CountsVisits space (counted meter next)
 CountsVisits-counted space meter next (visits, h) is later = (
   visits ++ next ∷ [],
   record {
@@ -110,11 +115,13 @@ once_in_order visits h = λ i j d l m e. no_visit_before_itself _ (subst (λ v. 
 
 pub count_below_bound : (space : SearchSpace) (number : ℕ) (next : Visit) → HasVisitsBefore space number next → IsVisit space next → number < most_visits space
 count_below_bound space number next (visits, h) is =
-    let more = visits_are_bounded space (visits ++ next ∷ []) (All-push (IsVisit space) visits next h.visits_of is) (once_in_order _ (all_pairs_push IsEarlierVisit visits next h.in_order h.before)) in
+    let more = visits_are_bounded space (visits ++ next ∷ []) (All-push (IsVisit space) visits next h.visits_of is)
+    (once_in_order _ (all_pairs_push IsEarlierVisit visits next h.in_order h.before)) in
     omega (arith, more, length_push visits next, h.length_is)
 
 -- each visit is the last or comes before it
-up_to_last : (visits : List Visit) (last : Visit) → AllPairs IsEarlierVisit visits → slice_get visits (length visits - 1) ≡ Some last → (k : ℕ) (d : Visit) → k < length visits → IsEarlierVisit (get_or visits k d) last ⊎ (get_or visits k d ≡ last)
+up_to_last : (visits : List Visit) (last : Visit) → AllPairs IsEarlierVisit visits → slice_get visits (length visits - 1) ≡ Some last → (k : ℕ) (d : Visit)
+    → k < length visits → IsEarlierVisit (get_or visits k d) last ⊎ (get_or visits k d ≡ last)
 up_to_last visits last order is k d l =
     let here : get_or visits (length visits - 1) d ≡ last = get_or_from_slice_get visits (length visits - 1) last d is in
     elim (cases_eq k (length visits - 1)) [
@@ -123,7 +130,8 @@ up_to_last visits last order is k d l =
     ]
 
 -- up to and with the last visit there are at least as many visits as were counted
-pub count-le-rank : (space : SearchSpace) (meter : Metered) (last : Visit) (ranked : List Visit) → CountsVisits space meter → meter.last ≡ Some last → ((visited : Visit) → IsVisit space visited → IsEarlierVisit visited last ⊎ (visited ≡ last) → Contains ranked visited) → meter.count ≤ length ranked
+pub count-le-rank : (space : SearchSpace) (meter : Metered) (last : Visit) (ranked : List Visit) → CountsVisits space meter → meter.last ≡ Some last
+    → ((visited : Visit) → IsVisit space visited → IsEarlierVisit visited last ⊎ (visited ≡ last) → Contains ranked visited) → meter.count ≤ length ranked
 count-le-rank space meter last ranked (visits, h) e all =
     let each : All (Contains ranked) visits = λ k d l. all (get_or visits k d) (h.visits_of k d l) (up_to_last visits last h.in_order (h.last ∙ e) k d l) in
     let few = length-le-members visits ranked (once_in_order visits h.in_order) each in

@@ -112,8 +112,8 @@ IsMoved-more game s k stride source before words after lk is_stride size m put =
       let i : ℕ = split.block * ((game.capacity + 1) * (game.capacity + 1) ^ k) + split.offset in
       let was = m.exact half bit digits a lh lb in (
         λ h. ⊎_elim (λ x. ⊎_elim (λ y. inl y) (λ y. inr (y.0, omega (arith, y.1), y.2)) (was.0 (subst (λ n. IsSet words n bit) split.is x))) (λ x.
-          let held = (split.digit s).0 x.0 in
-          inr (k, omega arith, (held, subst (λ n. IsSet source n bit) (ap (λ n. n - s * (game.capacity + 1) ^ k) split.is ∙ lowered_place game half k s digits l held) x.1))) (p.0 (subst (λ n. IsSet after n bit) (sym split.is) h)),
+            let held = (split.digit s).0 x.0 in
+            inr (k, omega arith, (held, subst (λ n. IsSet source n bit) (ap (λ n. n - s * (game.capacity + 1) ^ k) split.is ∙ lowered_place game half k s digits l held) x.1))) (p.0 (subst (λ n. IsSet after n bit) (sym split.is) h)),
         λ h. subst (λ n. IsSet after n bit) split.is (p.1 (⊎_elim (λ x. inl (subst (λ n. IsSet words n bit) (sym split.is) (was.1 (inl x)))) (came_by game s k half bit digits source before words i (i - s * (game.capacity + 1) ^ k) split.offset split.is (λ le. ap (λ n. n - s * (game.capacity + 1) ^ k) split.is ∙ lowered_place game half k s digits l le) (split.digit s).1 was.1) h)),
       );
 }
@@ -224,10 +224,12 @@ module _ (game : GameNumbers) (items sums source kept first after : List ℕ) (l
         let m = moved.exact half bit digits a lh lb in
         let p = put.exact half (row_of (game.capacity + 1) digits) bit (place half bit digits a lh lb) in (
           λ h.
-              let fit = high_bits half bit digits a lh lb h in
-              (fit, ⊎_elim (λ x. ⊎_elim (λ y. IsStart-last game items (load ∷ digits) s size ((stayed half bit digits a lh lb fit).0 y)) (λ y. IsStart-to game items (load ∷ digits) s 0 size fit (record { in_range = omega arith; held = y.0; before = (rose half bit digits a lh lb fit y.0).0 y.2 })) (p.0 x)) (λ x.
-                let l : x.0 < length digits = omega (arith, x.1, a.one_each) in
-                IsStart-to game items (load ∷ digits) s (suc x.0) size (All-get_or (λ n. n ≤ game.capacity) digits x.0 0 l a.fit) (record { in_range = omega (arith, l); held = x.2.0; before = (came half bit x.0 digits a lh lb fit l).0 x.2.1 })) (m.0 h)),
+              let fit = high_bits half bit digits a lh lb h in (
+                fit,
+                ⊎_elim (λ x. ⊎_elim (λ y. IsStart-last game items (load ∷ digits) s size ((stayed half bit digits a lh lb fit).0 y)) (λ y. IsStart-to game items (load ∷ digits) s 0 size fit (record { in_range = omega arith; held = y.0; before = (rose half bit digits a lh lb fit y.0).0 y.2 })) (p.0 x)) (λ x.
+                    let l : x.0 < length digits = omega (arith, x.1, a.one_each) in
+                    IsStart-to game items (load ∷ digits) s (suc x.0) size (All-get_or (λ n. n ≤ game.capacity) digits x.0 0 l a.fit) (record { in_range = omega (arith, l); held = x.2.0; before = (came half bit x.0 digits a lh lb fit l).0 x.2.1 })) (m.0 h),
+              ),
           λ (fit, start). ⊎_elim (λ w. m.1 (inl (p.1 (inl ((stayed half bit digits a lh lb fit).1 w))))) (λ (k, w). bin_that_had half bit digits a lh lb fit k w) (went_somewhere game items (load ∷ digits) s start),
         );
   }

@@ -51,7 +51,7 @@ pub record IsPlaneOf (game : GameNumbers) (items words : List ℕ) : Type 0 wher
   pub size : length words ≡ halves_of game * rows_of game
   pub exact : (half bit : ℕ) (digits : List ℕ) → AreDigits game digits → half < halves_of game → bit < 64
       → IsSet words (word_at (rows_of game) half (row_of (game.capacity + 1) digits)) bit
-        ↔ ((64 * half + bit ≤ game.capacity) × IsStart game items ((64 * half + bit) ∷ digits))
+      ↔ ((64 * half + bit ≤ game.capacity) × IsStart game items ((64 * half + bit) ∷ digits))
 
 -- the sums of the digits of the rows
 pub record AreDigitSums (game : GameNumbers) (sums : List ℕ) : Type 0 where
@@ -62,22 +62,22 @@ pub record AreDigitSums (game : GameNumbers) (sums : List ℕ) : Type 0 where
 pub record IsKept (halves lack : ℕ) (sums before after : List ℕ) : Type 0 where
   pub exact : (half row bit : ℕ) → IsPlace (length sums) halves half row bit
       → IsSet after (word_at (length sums) half row) bit
-        ↔ (IsSet before (word_at (length sums) half row) bit × (lack ≤ 64 * half + bit + slice_index sums row))
+      ↔ (IsSet before (word_at (length sums) half row) bit × (lack ≤ 64 * half + bit + slice_index sums row))
 
 -- the bits of the plane moved by the size within their rows are joined to those that were there
 pub record IsPutInFirst (rows capacity size : ℕ) (source before after : List ℕ) : Type 0 where
   pub exact : (half row bit : ℕ) → IsPlace rows (capacity / 64 + 1) half row bit
       → IsSet after (word_at rows half row) bit
-        ↔ (IsSet before (word_at rows half row) bit
-          ⊎ ((size ≤ 64 * half + bit) × (64 * half + bit ≤ capacity)
-            × IsSet source (word_at rows ((64 * half + bit - size) / 64) row) ((64 * half + bit - size) % 64)))
+      ↔ (IsSet before (word_at rows half row) bit
+      ⊎ ((size ≤ 64 * half + bit) × (64 * half + bit ≤ capacity)
+      × IsSet source (word_at rows ((64 * half + bit - size) / 64) row) ((64 * half + bit - size) % 64)))
 
 -- the rows of the plane moved by the size at one digit are joined to those that were there
 pub record IsPutInBin (stride base size : ℕ) (source before after : List ℕ) : Type 0 where
   pub exact : (block offset bit : ℕ) → offset < base * stride → block * (base * stride) + offset < length before → bit < 64
       → IsSet after (block * (base * stride) + offset) bit
-        ↔ (IsSet before (block * (base * stride) + offset) bit
-          ⊎ ((size * stride ≤ offset) × IsSet source (block * (base * stride) + offset - size * stride) bit))
+      ↔ (IsSet before (block * (base * stride) + offset) bit
+      ⊎ ((size * stride ≤ offset) × IsSet source (block * (base * stride) + offset - size * stride) bit))
 
 -- a total that stands still at 65,535
 abbrev pub held_total : List ℕ → ℕ

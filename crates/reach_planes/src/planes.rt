@@ -78,7 +78,14 @@ impl Planes {
         let sums = Vec::from_slice(alloc, self.sums.as_slice())?;
         let source = self.words.as_slice();
         let mut words = Vec::from_slice(alloc, source)?;
-        put_item(words.as_mut_slice(), source, sums.as_slice(), &self.game, lack, s);
+        put_item(
+            words.as_mut_slice(),
+            source,
+            sums.as_slice(),
+            &self.game,
+            lack,
+            s,
+        );
         Ok(Planes {
             game: self.game,
             items,
@@ -158,7 +165,12 @@ impl Planes {
     {
         let mut loads = Nums::new(self.items.allocator());
         loads.push(load)?;
-        push_digits(&mut loads, row, usize::from(self.game.g()) + 1, self.game.m() - 2)?;
+        push_digits(
+            &mut loads,
+            row,
+            usize::from(self.game.g()) + 1,
+            self.game.m() - 2,
+        )?;
         loads.push(self.total - load - self.sums[row])?;
         Ok(loads)
     }

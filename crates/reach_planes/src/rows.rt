@@ -142,7 +142,12 @@ fn keep(words: &mut [u64], sums: &[u16], halves: usize, lack: u16)
     ensures { IsKept halves lack sums.now words.old words.new }
 {
     for half in 0..halves {
-        keep_half(words, half * sums.len(), sums, lack.saturating_sub(64 * half as u16));
+        keep_half(
+            words,
+            half * sums.len(),
+            sums,
+            lack.saturating_sub(64 * half as u16),
+        );
     }
 }
 
@@ -181,8 +186,8 @@ fn put_in_half(words: &mut [u64], source: &[u64], rows: usize, capacity: u16, ha
     ensures put { (row bit : ℕ) → row < rows → bit < 64
         → IsSet words.new (word_at rows half row) bit
         ↔ (IsSet words.old (word_at rows half row) bit
-          ⊎ ((s ≤ 64 * half + bit) × (64 * half + bit ≤ capacity)
-            × IsSet source.now (word_at rows ((64 * half + bit - s) / 64) row) ((64 * half + bit - s) % 64))) }
+        ⊎ ((s ≤ 64 * half + bit) × (64 * half + bit ≤ capacity)
+        × IsSet source.now (word_at rows ((64 * half + bit - s) / 64) row) ((64 * half + bit - s) % 64))) }
     ensures others { (i : ℕ) → (i < half * rows) ⊎ (half * rows + rows ≤ i) → slice_index words.new i ≡ slice_index words.old i }
 {
     put_up(words, source, rows, capacity, half, s);
@@ -198,8 +203,8 @@ fn put_up(words: &mut [u64], source: &[u64], rows: usize, capacity: u16, half: u
     ensures put { (row bit : ℕ) → row < rows → bit < 64
         → IsSet words.new (word_at rows half row) bit
         ↔ (IsSet words.old (word_at rows half row) bit
-          ⊎ ((s / 64 ≤ half) × (s % 64 ≤ bit) × (64 * half + bit ≤ capacity)
-            × IsSet source.now (word_at rows (half - s / 64) row) (bit - s % 64))) }
+        ⊎ ((s / 64 ≤ half) × (s % 64 ≤ bit) × (64 * half + bit ≤ capacity)
+        × IsSet source.now (word_at rows (half - s / 64) row) (bit - s % 64))) }
     ensures others { (i : ℕ) → (i < half * rows) ⊎ (half * rows + rows ≤ i) → slice_index words.new i ≡ slice_index words.old i }
 {
     let whole = usize::from(s / 64);
@@ -207,7 +212,11 @@ fn put_up(words: &mut [u64], source: &[u64], rows: usize, capacity: u16, half: u
         return;
     }
     let mask = ones_up_to(capacity - 64 * half as u16);
-    let by = Move { up: u32::from(s % 64), down: 0, mask };
+    let by = Move {
+        up: u32::from(s % 64),
+        down: 0,
+        mask,
+    };
     join(words, half * rows, source, (half - whole) * rows, rows, by);
 }
 
@@ -220,17 +229,28 @@ fn put_down(words: &mut [u64], source: &[u64], rows: usize, capacity: u16, half:
     ensures put { (row bit : ℕ) → row < rows → bit < 64
         → IsSet words.new (word_at rows half row) bit
         ↔ (IsSet words.old (word_at rows half row) bit
-          ⊎ ((s / 64 < half) × (bit < s % 64) × (64 * half + bit ≤ capacity)
-            × IsSet source.now (word_at rows (half - s / 64 - 1) row) (bit + 64 - s % 64))) }
+        ⊎ ((s / 64 < half) × (bit < s % 64) × (64 * half + bit ≤ capacity)
+        × IsSet source.now (word_at rows (half - s / 64 - 1) row) (bit + 64 - s % 64))) }
     ensures others { (i : ℕ) → (i < half * rows) ⊎ (half * rows + rows ≤ i) → slice_index words.new i ≡ slice_index words.old i }
 {
     let whole = usize::from(s / 64);
     if half <= whole || s % 64 == 0 {
         return;
     }
-    let mask = ones_up_to(capacity - 64 * half as u16);
-    let by = Move { up: 0, down: 64 - u32::from(s % 64), mask };
-    join(words, half * rows, source, (half - whole - 1) * rows, rows, by);
+    let kept = ones_up_to(capacity - 64 * half as u16);
+    let by = Move {
+        up: 0,
+        down: 64 - u32::from(s % 64),
+        mask: kept,
+    };
+    join(
+        words,
+        half * rows,
+        source,
+        (half - whole - 1) * rows,
+        rows,
+        by,
+    );
 }
 
 // Joins the rows of the plane moved at one digit.
@@ -243,9 +263,20 @@ fn put_in_bin(words: &mut [u64], source: &[u64], stride: usize, base: usize, s: 
     ensures { IsPutInBin stride base s source.now words.old words.new }
 {
     let block = base * stride;
-    let by = Move { up: 0, down: 0, mask: u64::MAX };
+    let by = Move {
+        up: 0,
+        down: 0,
+        mask: u64::MAX,
+    };
     for i in 0..words.len() / block {
-        join(words, i * block + s * stride, source, i * block, block - s * stride, by);
+        join(
+            words,
+            i * block + s * stride,
+            source,
+            i * block,
+            block - s * stride,
+            by,
+        );
     }
 }
 
@@ -260,5 +291,9 @@ fn ones_from(bit: u16) -> u64
 fn ones_up_to(bit: u16) -> u64
     ensures { (i : ℕ) → i < 64 → (bit_at result i ≡ 1) ↔ (i ≤ bit) }
 {
-    if bit < 63 { (1 << (bit + 1)) - 1 } else { u64::MAX }
+    if bit < 63 {
+        (1 << (bit + 1)) - 1
+    } else {
+        u64::MAX
+    }
 }

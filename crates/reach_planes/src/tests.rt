@@ -39,17 +39,30 @@ fn told(
             planes = next;
         }
     }
-    let of_game = loads.len() == usize::from(game.m()) && loads.iter().all(|load| *load <= game.g());
+    let of_game = loads.len() == usize::from(game.m())
+        && loads.iter().all(|load| *load <= game.g());
     Ok((planes.least_load(), of_game && planes.contains(loads)))
 }
 
 #[test]
 fn loads_of_two_bins(rt: HostRuntime) -> Result<(), Fail> {
     let game = Game::new(2, 3, 4)?;
-    assert_eq!(rt; told(rt.alloc(), &game, &[1, 1, 2], &[3, 1])?, (Some(1), true));
-    assert_eq!(rt; told(rt.alloc(), &game, &[1, 1, 2], &[2, 2])?, (Some(1), true));
-    assert_eq!(rt; told(rt.alloc(), &game, &[1, 1, 2], &[3, 0])?, (Some(1), false));
-    assert_eq!(rt; told(rt.alloc(), &game, &[1, 1, 2, 2, 1], &[3, 3])?, (None, false));
+    assert_eq!(rt;
+        told(rt.alloc(), &game, &[1, 1, 2], &[3, 1])?,
+        (Some(1), true)
+    );
+    assert_eq!(rt;
+        told(rt.alloc(), &game, &[1, 1, 2], &[2, 2])?,
+        (Some(1), true)
+    );
+    assert_eq!(rt;
+        told(rt.alloc(), &game, &[1, 1, 2], &[3, 0])?,
+        (Some(1), false)
+    );
+    assert_eq!(rt;
+        told(rt.alloc(), &game, &[1, 1, 2, 2, 1], &[3, 3])?,
+        (None, false)
+    );
     Ok(())
 }
 
@@ -57,8 +70,17 @@ fn loads_of_two_bins(rt: HostRuntime) -> Result<(), Fail> {
 fn loads_above_sixty_four(rt: HostRuntime) -> Result<(), Fail> {
     let game = Game::new(3, 120, 121)?;
     let items = [70u16, 60, 60, 50, 90];
-    assert_eq!(rt; told(rt.alloc(), &game, &items, &[120, 120, 90])?, (Some(90), true));
-    assert_eq!(rt; told(rt.alloc(), &game, &items, &[90, 120, 120])?, (Some(90), true));
-    assert_eq!(rt; told(rt.alloc(), &game, &items, &[110, 110, 110])?, (Some(90), false));
+    assert_eq!(rt;
+        told(rt.alloc(), &game, &items, &[120, 120, 90])?,
+        (Some(90), true)
+    );
+    assert_eq!(rt;
+        told(rt.alloc(), &game, &items, &[90, 120, 120])?,
+        (Some(90), true)
+    );
+    assert_eq!(rt;
+        told(rt.alloc(), &game, &items, &[110, 110, 110])?,
+        (Some(90), false)
+    );
     Ok(())
 }

@@ -40,7 +40,8 @@ fn join_lanes(words: &mut [u64], to: usize, source: &[u64], from: usize, by: Mov
     requires down { by.down < 64 }
     ensures { AreJoined by.up by.down by.mask 4 to from source.now words.old words.new }
 {
-    let joined = u64x4::from_slice(&words[to..]) | moved_lanes(u64x4::from_slice(&source[from..]), by);
+    let joined = u64x4::from_slice(&words[to..])
+        | moved_lanes(u64x4::from_slice(&source[from..]), by);
     joined.copy_to_slice(&mut words[to..]);
 }
 

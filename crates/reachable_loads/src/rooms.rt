@@ -68,7 +68,9 @@ fn room_by_volume(game: &Game, items: &Items) -> u16
         return 0;
     }
     let bins = game.m();
-    (bins * capacity).saturating_sub(items.volume()).min(capacity)
+    (bins * capacity)
+        .saturating_sub(items.volume())
+        .min(capacity)
 }
 
 // Whether best fit places the items; false says nothing of whether they fit.
@@ -107,12 +109,7 @@ fn room_by_loads(alloc: Global, game: &Game, list: &[u16]) -> Result<u16, AllocE
 }
 
 // The room, from the greatest size on that the bound leaves, by placing the items with one more.
-fn room_by_placing(
-    alloc: Global,
-    game: &Game,
-    items: &Items,
-    most: u16,
-) -> Result<u16, AllocError>
+fn room_by_placing(alloc: Global, game: &Game, items: &Items, most: u16) -> Result<u16, AllocError>
     requires sizes { All (IsSize game.now.capacity) items.now }
     requires within { most ≤ game.now.capacity }
     requires small { most ≤ 120 }

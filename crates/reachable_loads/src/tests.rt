@@ -1,7 +1,9 @@
 ghost use Rattle.std.specs.Prelude.{◌≡◌, ◌<◌};
 
 use super::*;
+use crate::sets::Sets;
 use items::{Game, Items, Nums};
+use reach_planes::Planes;
 use std::alloc::{AllocError, Global};
 use std::test::Fail;
 
@@ -64,6 +66,22 @@ fn a_packing_that_is_answered_holds(rt: HostRuntime) -> Result<(), Fail> {
     Ok(())
 }
 
+// Whether this is the room, and whether they fit, that is told of a list as a multiset.
+fn tells_rightly(
+    alloc: Global,
+    game: &Game,
+    list: &[u16],
+    fit: bool,
+    room: u16,
+) -> Result<bool, AllocError> {
+    match Items::from_slice(game, list) {
+        Some(items) => {
+            Ok(room_of(alloc, game, &items)? == room && packable(alloc, game, &items)? == fit)
+        }
+        None => Ok(true),
+    }
+}
+
 // The definition's plain program: whether some bin for each item keeps each total within the capacity.
 fn fits(items: &[u16], totals: [u16; 3], capacity: u16) -> bool {
     match items {
@@ -105,8 +123,10 @@ fn agrees(
     requires { reach.now.game ≡ game.now }
 {
     let fit = fits(items.as_slice(), totals, game.g());
+    let room = plain_room(items, totals, game.g())?;
     if reach.packable() != fit
-        || reach.room() != plain_room(items, totals, game.g())?
+        || reach.room() != room
+        || !tells_rightly(alloc, game, items.as_slice(), fit, room)?
         || !packs_rightly(alloc, game, items.as_slice(), fit)?
     {
         return Ok(false);
@@ -148,6 +168,119 @@ fn every_item_list_of_small_games_agrees_with_all_assignments(rt: HostRuntime) -
     }
     for g in 1..=3 {
         assert!(rt; agrees_throughout(rt.alloc(), 3, g)?);
+    }
+    Ok(())
+}
+
+// Whether bits and lists tell the same of the items, and of all lists that go on from them.
+fn bits_agree(game: &Game, bits: &Planes, lists: &Sets, depth: u16) -> Result<bool, AllocError>
+    requires bits { bits.now.game ≡ game.now }
+    requires lists { lists.now.game ≡ game.now }
+{
+    let room = bits
+        .least_load()
+        .map_or(0, |load| game.g().saturating_sub(load));
+    if room != lists.room() || bits.least_load().is_some() != lists.packable() {
+        return Ok(false);
+    }
+    for first in 0..=game.g() {
+        for second in 0..=first {
+            let last = if game.m() == 2 { 0 } else { second };
+            for third in 0..=last {
+                if !loads_agree(game, bits, lists, [first, second, third, third]) {
+                    return Ok(false);
+                }
+            }
+        }
+    }
+    if depth == 0 || !lists.packable() {
+        return Ok(true);
+    }
+    for s in 1..=game.g() {
+        if !bits_agree(game, &bits.add(s)?, &lists.add(s)?, depth - 1)? {
+            return Ok(false);
+        }
+    }
+    Ok(true)
+}
+
+// Whether both tell the same of the first of these loads.
+fn loads_agree(game: &Game, bits: &Planes, lists: &Sets, loads: [u16; 4]) -> bool
+    requires bits { bits.now.game ≡ game.now }
+    requires lists { lists.now.game ≡ game.now }
+{
+    let m = usize::from(game.m());
+    if m > 4 {
+        return false;
+    }
+    let loads = &loads[..m];
+    !loads.iter().all(|load| *load <= game.g()) || bits.contains(loads) == lists.reaches(loads)
+}
+
+// Whether both agree from no items on.
+fn bits_agree_throughout(alloc: Global, m: u16, g: u16) -> Result<bool, Fail>
+    requires { g < 120 }
+{
+    let game = Game::new(m, g, g + 1)?;
+    if !Planes::fits(&game) {
+        return Ok(false);
+    }
+    let bits = Planes::start(alloc, &game)?;
+    let lists = Sets::start(alloc, &game)?;
+    Ok(bits_agree(&game, &bits, &lists, m * g + 1)?)
+}
+
+#[test]
+fn bits_and_lists_agree_in_small_games(rt: HostRuntime) -> Result<(), Fail> {
+    for (m, most) in [(2u16, 6u16), (3, 4), (4, 3)] {
+        for g in 1..=most {
+            assert!(rt; bits_agree_throughout(rt.alloc(), m, g)?, "{m} {g}");
+        }
+    }
+    Ok(())
+}
+
+// Whether the room, the packability and the packing of the items, and of all ascending lists that go on
+// from them, are those that the bits tell.
+fn multisets_agree(
+    alloc: Global,
+    game: &Game,
+    reach: &Reach,
+    items: &Items,
+    depth: u16,
+) -> Result<bool, AllocError>
+    requires { reach.now.game ≡ game.now }
+{
+    let fit = reach.packable();
+    let list = items.list(alloc)?;
+    if !tells_rightly(alloc, game, list.as_slice(), fit, reach.room())?
+        || !packs_rightly(alloc, game, list.as_slice(), fit)?
+    {
+        return Ok(false);
+    }
+    if depth == 0 {
+        return Ok(true);
+    }
+    for s in 1..=game.g() {
+        if items.largest() <= s && items.volume() + s <= 1912 {
+            let more = reach.add(s)?;
+            if !multisets_agree(alloc, game, &more, &items.add(s), depth - 1)? {
+                return Ok(false);
+            }
+        }
+    }
+    Ok(true)
+}
+
+#[test]
+fn every_multiset_of_five_bins_agrees_with_the_bits(rt: HostRuntime) -> Result<(), Fail> {
+    for g in 2..=4 {
+        let game = Game::new(5, g, g + 1)?;
+        let reach = Reach::start(rt.alloc(), &game)?;
+        assert!(rt;
+            multisets_agree(rt.alloc(), &game, &reach, &Items::empty(), 7)?,
+            "{g}"
+        );
     }
     Ok(())
 }

@@ -1,5 +1,5 @@
 -- The words of what the algorithm does are read as it.
-use Rattle.std.proofs.Common.{◌≡◌, ◌≢◌, ℕ, ◌≤◌, List, [], ◌∷◌, ◌++◌, length, decimal, codes, Option, Some, None, refl, sym, ap, ◌∙◌, arith, append_assoc, All}
+use Rattle.std.proofs.Common.{◌≡◌, ℕ, ◌≤◌, List, [], ◌∷◌, ◌++◌, length, decimal, codes, Some, None, refl, sym, ap, ◌∙◌, arith, All}
 use Rattle.std.specs.List.{flat_map}
 use Rattle.std.proofs.lemmas.List.{append-nil}
 use Rattle.std.proofs.lemmas.List.Elements.{recursion_from_All}
@@ -8,11 +8,10 @@ use Rattle.strategy_text.specs.declared.node.Act.TheVariants.{Finish, Big, Reply
 use Rattle.strategy_text.specs.declared.node.AlgNode.{AlgNode}
 use Rattle.strategy_text.specs.declared.node.Entry.{Entry}
 use Rattle.strategy_text.specs.declared.node.Format.{Format}
-use Rattle.strategy_text.specs.declared.node.Format.TheVariants.{Two}
 use Rattle.strategy_text.specs.Text.{entry_words, entries_words, act_words, position_words}
 use Rattle.strategy_text.specs.Spelling.{IsEntry, IsAct, IsSpellableAlgorithm}
 use Rattle.strategy_text.specs.Words.{number_of, after}
-use Rattle.strategy_text.specs.Reading.{choose, second, more_words, many_at, entry_at, entries_at, big_at, reply_at, act_at, position_at, algorithm_at}
+use Rattle.strategy_text.specs.Reading.{more_words, entry_at, entries_at, big_at, reply_at, act_at, algorithm_at}
 use Rattle.strategy_text.proofs.Steps.{after_again, number_at_again, some_again}
 use Rattle.strategy_text.proofs.Again.{Ends, ReadsAgain, after_none, not_dash, many_again, many_fit, position_again}
 
@@ -71,6 +70,6 @@ pub algorithm_again : (format : Format) (number : ℕ) (node : AlgNode) → numb
     → algorithm_at format number (decimal number ∷ position_words node.loads node.items ++ act_words node.act) ≡ Some node
 unfolding algorithm_at
 algorithm_again format number node le h =
-    let front = decimal number ∷ position_words node.loads node.items in
-    let parts : front ++ act_words node.act ≡ front ++ (act_words node.act ++ []) = ap (λ (t : List (List ℕ)). front ++ t) (sym (append-nil (act_words node.act))) in
+    let so_far = decimal number ∷ position_words node.loads node.items in
+    let parts : so_far ++ act_words node.act ≡ so_far ++ (act_words node.act ++ []) = ap (λ (t : List (List ℕ)). so_far ++ t) (sym (append-nil (act_words node.act))) in
     ap (algorithm_at format number) parts ∙ rw (position_again number le (node.loads, node.items) (act_words node.act ++ []) (h.loads, h.items) (act_ends node.act), act_again format node.act h.act) refl

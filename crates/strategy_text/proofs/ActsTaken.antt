@@ -1,6 +1,6 @@
 -- What is read of the words of what the algorithm does is spelled so.
-use Rattle.std.proofs.Common.{◌≡◌, ◌≢◌, ℕ, ◌<◌, ◌≤◌, List, [], ◌∷◌, ◌++◌, length, decimal, codes, Option, Some, None, refl, sym, ap, subst, ◌∙◌, arith, append_assoc, All}
-use Rattle.std.specs.List.{flat_map, AllByRecursion}
+use Rattle.std.proofs.Common.{◌≡◌, ◌≢◌, ℕ, ◌<◌, List, [], ◌∷◌, ◌++◌, length, decimal, codes, Some, refl, sym, ap, subst, ◌∙◌, arith, All}
+use Rattle.std.specs.List.{flat_map}
 use Rattle.std.proofs.lemmas.List.{append-nil}
 use Rattle.std.proofs.lemmas.List.Elements.{All-from_recursion}
 use Rattle.strategy_text.specs.declared.node.Act.{Act}
@@ -10,8 +10,8 @@ use Rattle.strategy_text.specs.declared.node.Entry.{Entry}
 use Rattle.strategy_text.specs.declared.node.Format.{Format}
 use Rattle.strategy_text.specs.declared.node.Format.TheVariants.{Two}
 use Rattle.strategy_text.specs.Text.{entry_words, entries_words, act_words, position_words}
-use Rattle.strategy_text.specs.Spelling.{IsEntry, IsBig, IsAct, IsSpellableAlgorithm}
-use Rattle.strategy_text.specs.Reading.{◌>>=◌, whole, some_at, choose, second, more_words, each_at, entry_at, entries_at, big_at, reply_at, act_at, position_at, algorithm_at}
+use Rattle.strategy_text.specs.Spelling.{IsEntry, IsAct, IsSpellableAlgorithm}
+use Rattle.strategy_text.specs.Reading.{some_at, more_words, each_at, entry_at, entries_at, big_at, reply_at, act_at, position_at, algorithm_at}
 use Rattle.strategy_text.proofs.Steps.{bind_some, some_is, after_then, some_takes, number_then, whole_takes, choose_then, second_takes}
 use Rattle.strategy_text.proofs.Taken.{Begins, Spells, BeginsWith, begins_then, many_takes, numbered_words, IsPositionOfNumbers, position_takes}
 

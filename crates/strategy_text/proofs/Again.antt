@@ -1,5 +1,5 @@
 -- The words that the nodes of both sides begin with are read as what they spell.
-use Rattle.std.proofs.Common.{◌≡◌, ◌≢◌, ℕ, zero, suc, ◌≤◌, Bool, true, false, ◌==◌, List, [], ◌∷◌, ◌++◌, length, map, decimal, codes, Option, Some, None, refl, sym, ap, ◌∙◌, arith, append_assoc, length-append, All}
+use Rattle.std.proofs.Common.{◌≡◌, ◌≢◌, ℕ, zero, suc, ◌≤◌, Bool, true, false, ◌==◌, List, [], ◌∷◌, ◌++◌, length, map, decimal, codes, Option, Some, None, refl, ap, ◌∙◌, arith, append_assoc, length-append}
 use Rattle.std.specs.List.{flat_map, AllByRecursion}
 use Rattle.std.specs.Str.{bytes_eq}
 use Rattle.std.proofs.lemmas.Slice.Eq.{bytes_eq-Decides}
@@ -8,7 +8,7 @@ use Rattle.std.proofs.lemmas.List.Elements.{recursion_from_All}
 use Rattle.strategy_text.specs.Text.{list_words}
 use Rattle.strategy_text.specs.Spelling.{IsNumber}
 use Rattle.strategy_text.specs.Words.{number_of, after}
-use Rattle.strategy_text.specs.Reading.{choose, numbers_at, list_at, many_at, numbered_at, labelled_at, position_at}
+use Rattle.strategy_text.specs.Reading.{numbers_at, list_at, many_at, numbered_at, labelled_at, position_at}
 use Rattle.strategy_text.proofs.Numerals.{number_again}
 use Rattle.strategy_text.proofs.Steps.{after_again, number_at_again, some_again}
 use Rattle.strategy_text.proofs.Loops.{Item, Beginning}

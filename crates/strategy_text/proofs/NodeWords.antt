@@ -1,5 +1,5 @@
 -- No word of a node has a space or a line feed.
-use Rattle.std.proofs.Common.{◌≡◌, ℕ, ◌≤◌, List, [], ◌∷◌, ◌++◌, map, decimal, codes, Option, Some, None, refl, arith, All}
+use Rattle.std.proofs.Common.{ℕ, ◌≤◌, List, [], ◌∷◌, ◌++◌, map, decimal, codes, Option, Some, None, refl, arith, All}
 use Rattle.std.specs.List.{flat_map, AllByRecursion}
 use Rattle.std.proofs.lemmas.List.Elements.{recursion_from_All}
 use Rattle.strategy_text.specs.declared.node.Act.{Act}

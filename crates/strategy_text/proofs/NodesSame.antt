@@ -1,8 +1,6 @@
 -- The line of a node tells the node, whichever its side.
-use Rattle.std.proofs.Common.{◌≡◌, ◌≢◌, ℕ, ◌≤◌, true, false, List, [], ◌∷◌, ◌++◌, decimal, codes, Option, Some, None, refl, sym, ap, ◌∙◌, arith, All}
-use Rattle.std.specs.List.{AllByRecursion}
+use Rattle.std.proofs.Common.{◌≡◌, ℕ, ◌≤◌, true, List, [], ◌∷◌, ◌++◌, decimal, codes, Some, refl, sym, ap, ◌∙◌}
 use Rattle.std.proofs.lemmas.List.{append-nil}
-use Rattle.std.proofs.lemmas.List.Elements.{All-from_recursion}
 use Rattle.strategy_text.specs.declared.node.Act.{Act}
 use Rattle.strategy_text.specs.declared.node.Act.TheVariants.{Finish, Big, Reply}
 use Rattle.strategy_text.specs.declared.node.AdvNode.{AdvNode}
@@ -10,11 +8,11 @@ use Rattle.strategy_text.specs.declared.node.AlgNode.{AlgNode}
 use Rattle.strategy_text.specs.declared.node.Format.{Format}
 use Rattle.strategy_text.specs.declared.node.Step.{Step}
 use Rattle.strategy_text.specs.declared.node.Step.TheVariants.{Send, Burst}
-use Rattle.strategy_text.specs.Text.{AnyNode, of_adversary, of_algorithm, position_words, step_words, act_words, adversary_line, algorithm_line, node_line, end_line}
-use Rattle.strategy_text.specs.Spelling.{most_child, IsSpellableAdversary, IsSpellableAlgorithm, IsSpellableNode, SpellsNode}
-use Rattle.strategy_text.specs.Laws.{LineTellsNode, NoNodeIsTheEnd, NodesAreLines, IsOneLine}
+use Rattle.strategy_text.specs.Text.{AnyNode, of_adversary, of_algorithm, position_words, step_words, act_words, adversary_line, algorithm_line, node_line}
+use Rattle.strategy_text.specs.Spelling.{most_child, IsSpellableAdversary, IsSpellableAlgorithm, IsSpellableNode}
+use Rattle.strategy_text.specs.Laws.{LineTellsNode, NoNodeIsTheEnd, NodesAreLines}
 use Rattle.strategy_text.specs.Words.{words_left}
-use Rattle.strategy_text.specs.Reading.{position_at, adversary_at, algorithm_at}
+use Rattle.strategy_text.specs.Reading.{position_at}
 use Rattle.strategy_text.proofs.Lines.{is_line, words_line, line_parts}
 use Rattle.strategy_text.proofs.Steps.{some_is, apart}
 use Rattle.strategy_text.proofs.Again.{position_again}
@@ -37,8 +35,8 @@ words_differ (Burst count size pack) Finish e = apart (codes "burst") (codes "fi
 words_differ (Burst count size pack) (Big bins) e = apart (codes "burst") (codes "big") refl (ap first e)
 words_differ (Burst count size pack) (Reply entries) e = apart (codes "burst") (codes "reply") refl (ap first e)
 
-ended : (front rest : List (List ℕ)) → front ++ rest ≡ front ++ (rest ++ [])
-ended front rest = ap (λ (t : List (List ℕ)). front ++ t) (sym (append-nil rest))
+ended : (so_far rest : List (List ℕ)) → so_far ++ rest ≡ so_far ++ (rest ++ [])
+ended so_far rest = ap (λ (t : List (List ℕ)). so_far ++ t) (sym (append-nil rest))
 
 sides_differ : (format : Format) (number : ℕ) (a : AdvNode) (b : AlgNode) → number ≤ most_child → IsSpellableAdversary format a → IsSpellableAlgorithm format b → adversary_line number a ≡ algorithm_line number b → ⊥
 sides_differ format number a b le g h e =

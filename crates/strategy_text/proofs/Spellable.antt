@@ -1,5 +1,5 @@
 -- Strategies of one side that have a text.
-use Rattle.std.proofs.Common.{◌≡◌, ℕ, ◌≤◌, List, [], ◌∷◌, length, map, refl, arith, All}
+use Rattle.std.proofs.Common.{◌≤◌, List, [], ◌∷◌, length, map, arith, All}
 use Rattle.std.specs.List.{AllByRecursion}
 use Rattle.std.proofs.lemmas.List.{length-map}
 use Rattle.std.proofs.lemmas.List.Elements.{recursion_from_All, All-from_recursion}
@@ -8,8 +8,7 @@ use Rattle.strategy_text.specs.declared.node.AdvNode.{AdvNode}
 use Rattle.strategy_text.specs.declared.node.AlgNode.{AlgNode}
 use Rattle.strategy_text.specs.declared.node.Format.{Format}
 use Rattle.strategy_text.specs.declared.node.Nodes.TheVariants.{Adversary, Algorithm}
-use Rattle.strategy_text.specs.declared.node.Strategy.{Strategy}
-use Rattle.strategy_text.specs.Text.{AnyNode, of_adversary, of_algorithm}
+use Rattle.strategy_text.specs.Text.{of_adversary, of_algorithm}
 use Rattle.strategy_text.specs.Spelling.{most_nodes, IsSpellableAdversary, IsSpellableAlgorithm, IsSpellableNode, IsSpellable}
 
 each_adversary : (format : Format) (list : List AdvNode) → AllByRecursion (IsSpellableAdversary format) list → AllByRecursion (IsSpellableNode format) (map of_adversary list)

@@ -1,20 +1,18 @@
 -- The words of what the adversary sends are read as it.
-use Rattle.std.proofs.Common.{◌≡◌, ◌≢◌, ℕ, ◌≤◌, List, [], ◌∷◌, ◌++◌, length, decimal, codes, Option, Some, None, refl, sym, ap, ◌∙◌, arith, append_assoc, All}
+use Rattle.std.proofs.Common.{◌≡◌, ◌≢◌, ℕ, ◌≤◌, List, [], ◌∷◌, ◌++◌, length, decimal, codes, Some, None, refl, sym, ap, ◌∙◌, arith, append_assoc, All}
 use Rattle.std.specs.List.{flat_map, AllByRecursion}
 use Rattle.std.proofs.lemmas.List.{append-nil}
 use Rattle.std.proofs.lemmas.List.Elements.{recursion_from_All}
 use Rattle.strategy_text.specs.declared.node.AdvNode.{AdvNode}
 use Rattle.strategy_text.specs.declared.node.Format.{Format}
-use Rattle.strategy_text.specs.declared.node.Format.TheVariants.{Two}
 use Rattle.strategy_text.specs.declared.node.Placement.{Placement}
 use Rattle.strategy_text.specs.declared.node.Step.{Step}
 use Rattle.strategy_text.specs.declared.node.Step.TheVariants.{Send, Burst}
-use Rattle.strategy_text.specs.declared.node.Then.{Then}
 use Rattle.strategy_text.specs.declared.node.Then.TheVariants.{Over, To}
 use Rattle.strategy_text.specs.Text.{list_words, pack_words, packing_words, then_words, placement_words, step_words, position_words}
 use Rattle.strategy_text.specs.Spelling.{IsNumber, IsThen, IsPlacement, IsPack, IsOptionalPack, IsStep, IsSpellableAdversary}
 use Rattle.strategy_text.specs.Words.{number_of, after}
-use Rattle.strategy_text.specs.Reading.{choose, second, list_at, many_at, pack_at, optional_pack_at, then_at, placement_at, placements_at, send_at, burst_at, step_at, position_at, adversary_at}
+use Rattle.strategy_text.specs.Reading.{list_at, pack_at, optional_pack_at, then_at, placement_at, placements_at, send_at, burst_at, step_at, adversary_at}
 use Rattle.strategy_text.proofs.Steps.{after_again, number_at_again, some_again}
 use Rattle.strategy_text.proofs.StepsTaken.{pack_bins, on_words}
 use Rattle.strategy_text.proofs.Again.{Ends, ReadsAgain, list_again, many_again, many_fit, position_again}
@@ -138,6 +136,6 @@ pub adversary_again : (format : Format) (number : ℕ) (node : AdvNode) → numb
     → adversary_at format number (decimal number ∷ position_words node.loads node.items ++ step_words node.step) ≡ Some node
 unfolding adversary_at
 adversary_again format number node le h =
-    let front = decimal number ∷ position_words node.loads node.items in
-    let parts : front ++ step_words node.step ≡ front ++ (step_words node.step ++ []) = ap (λ (t : List (List ℕ)). front ++ t) (sym (append-nil (step_words node.step))) in
+    let so_far = decimal number ∷ position_words node.loads node.items in
+    let parts : so_far ++ step_words node.step ≡ so_far ++ (step_words node.step ++ []) = ap (λ (t : List (List ℕ)). so_far ++ t) (sym (append-nil (step_words node.step))) in
     ap (adversary_at format number) parts ∙ rw (position_again number le (node.loads, node.items) (step_words node.step ++ []) (h.loads, h.items) (step_ends node.step), step_again format node.step h.step) refl

@@ -12,11 +12,11 @@ use Rattle.strategy_text.specs.declared.node.Step.TheVariants.{Send, Burst}
 use Rattle.strategy_text.specs.declared.node.Then.{Then}
 use Rattle.strategy_text.specs.declared.node.Then.TheVariants.{Over, To}
 use Rattle.strategy_text.specs.Text.{list_words, pack_words, packing_words, then_words, placement_words, step_words, position_words}
-use Rattle.strategy_text.specs.Spelling.{IsNumber, IsThen, IsPlacement, IsPack, IsOptionalPack, IsSend, IsBurst, IsStep, IsSpellableAdversary}
+use Rattle.strategy_text.specs.Spelling.{IsNumber, IsThen, IsPlacement, IsPack, IsOptionalPack, IsStep, IsSpellableAdversary}
 use Rattle.strategy_text.specs.Words.{after}
-use Rattle.strategy_text.specs.Reading.{◌>>=◌, whole, some_at, choose, second, list_at, each_at, bins_at, pack_at, optional_pack_at, child_at, then_at, placement_at, placements_at, send_at, burst_at, step_at, position_at, adversary_at}
+use Rattle.strategy_text.specs.Reading.{some_at, list_at, each_at, bins_at, pack_at, optional_pack_at, child_at, then_at, placement_at, placements_at, send_at, burst_at, step_at, position_at, adversary_at}
 use Rattle.strategy_text.proofs.Steps.{bind_some, some_is, after_takes, after_then, some_takes, number_then, whole_takes, choose_then, second_takes}
-use Rattle.strategy_text.proofs.Taken.{Begins, Spells, BeginsWith, Begins-shrinks, begins_then, many_takes, list_takes, numbered_words, IsPositionOfNumbers, position_takes}
+use Rattle.strategy_text.proofs.Taken.{Begins, Spells, Begins-shrinks, begins_then, many_takes, list_takes, numbered_words, IsPositionOfNumbers, position_takes}
 
 -- ---- packings
 

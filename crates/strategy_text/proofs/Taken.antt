@@ -5,8 +5,8 @@ use Rattle.std.proofs.lemmas.Bool.{eqb-true}
 use Rattle.std.proofs.lemmas.List.Elements.{All-from_recursion}
 use Rattle.strategy_text.specs.Text.{list_words, position_words}
 use Rattle.strategy_text.specs.Spelling.{IsNumber}
-use Rattle.strategy_text.specs.Words.{number_of, after}
-use Rattle.strategy_text.specs.Reading.{◌>>=◌, numbers_from, numbers_at, list_at, with_front, many_from, many_at, numbered_at, labelled_at, position_at}
+use Rattle.strategy_text.specs.Words.{number_of}
+use Rattle.strategy_text.specs.Reading.{◌>>=◌, numbers_from, numbers_at, list_at, prepended, many_from, many_at, numbered_at, labelled_at, position_at}
 use Rattle.strategy_text.proofs.Numerals.{number_takes}
 use Rattle.strategy_text.proofs.Steps.{bind_some, some_is, test_some, after_then, some_takes, number_then, choose_then}
 use Rattle.strategy_text.proofs.Loops.{Item, Beginning}
@@ -60,7 +60,7 @@ many_step {X} lead begin item spell Fits others starts one more words None e fou
     let is = some_is none found k in
     subst (λ (y : List X × List (List ℕ)). Begins words (flat_map (λ x. lead ++ spell x) y.0) y.1 (AllByRecursion Fits y.0)) is (record { parts = refl; fits = tt })
 many_step {X} lead begin item spell Fits others starts one more words (Some rest) e found k =
-    let a = bind_some (item rest) (λ x. with_front (x.0 ∷ []) (others x.1)) found k in
+    let a = bind_some (item rest) (λ x. prepended (x.0 ∷ []) (others x.1)) found k in
     let b = bind_some (others a.0.1) (λ xs. Some ((a.0.0 ∷ []) ++ xs.0, xs.1)) found a.2 in
     let ta = one rest a.0 a.1 in
     let tb = more a.0.1 b.0 b.1 in

@@ -1,5 +1,5 @@
 -- The text of a strategy tells the strategy, whatever follows it.
-use Rattle.std.proofs.Common.{◌≡◌, ℕ, suc, ◌+◌, ◌≤◌, true, List, [], ◌∷◌, ◌++◌, length, map, decimal, codes, Some, refl, sym, ap, subst, ◌∙◌, arith, All}
+use Rattle.std.proofs.Common.{◌≡◌, ℕ, ◌+◌, ◌≤◌, true, List, [], ◌∷◌, ◌++◌, length, map, decimal, codes, Some, refl, sym, ap, subst, ◌∙◌, arith}
 use Rattle.std.specs.List.{AllByRecursion}
 use Rattle.std.proofs.lemmas.List.{append-nil}
 use Rattle.std.proofs.lemmas.List.Elements.{recursion_from_All, All-from_recursion}
@@ -25,42 +25,42 @@ use Rattle.strategy_text.proofs.NodesSame.{line_same, node_is_line}
 
 -- ---- the lines of a head
 
-first_is_line : (format : Format) → is_line (first_line format) ≡ true
+pub first_is_line : (format : Format) → is_line (first_line format) ≡ true
 first_is_line One = refl
 first_is_line Two = refl
 
-game_is_line : (game : GameNumbers) → game.bins ≤ 65535 → game.capacity ≤ 65535 → game.target ≤ 65535 → is_line (game_line game) ≡ true
+pub game_is_line : (game : GameNumbers) → game.bins ≤ 65535 → game.capacity ≤ 65535 → game.target ≤ 65535 → is_line (game_line game) ≡ true
 unfolding game_line
 game_is_line game m g t = words_line (codes "game" ∷ decimal game.bins ∷ decimal game.capacity ∷ decimal game.target ∷ []) (refl, (decimal_word game.bins (omega arith), (decimal_word game.capacity (omega arith), (decimal_word game.target (omega arith), tt))))
 
-side_is_line : (side : Side) → is_line (side_line side) ≡ true
+pub side_is_line : (side : Side) → is_line (side_line side) ≡ true
 side_is_line sides.Adversary = refl
 side_is_line sides.Algorithm = refl
 
-count_is_line : (nodes : ℕ) → nodes ≤ 4000000000 → is_line (count_line nodes) ≡ true
+pub count_is_line : (nodes : ℕ) → nodes ≤ 4000000000 → is_line (count_line nodes) ≡ true
 unfolding count_line
 count_is_line nodes h = words_line (codes "nodes" ∷ decimal nodes ∷ []) (refl, (decimal_word nodes (omega arith), tt))
 
-first_tells : (one other : Format) → first_line one ≡ first_line other → one ≡ other
+pub first_tells : (one other : Format) → first_line one ≡ first_line other → one ≡ other
 first_tells One One e = refl
 first_tells One Two e = absurd (apart (codes "stretch 1") (codes "stretch 2") refl e)
 first_tells Two One e = absurd (apart (codes "stretch 2") (codes "stretch 1") refl e)
 first_tells Two Two e = refl
 
-side_tells : (one other : Side) → side_line one ≡ side_line other → one ≡ other
+pub side_tells : (one other : Side) → side_line one ≡ side_line other → one ≡ other
 side_tells sides.Adversary sides.Adversary e = refl
 side_tells sides.Adversary sides.Algorithm e = absurd (apart (side_line sides.Adversary) (side_line sides.Algorithm) refl e)
 side_tells sides.Algorithm sides.Adversary e = absurd (apart (side_line sides.Algorithm) (side_line sides.Adversary) refl e)
 side_tells sides.Algorithm sides.Algorithm e = refl
 
-game_tells : (game other : GameNumbers) → SpellsGame (game_line game) game → SpellsGame (game_line other) other → game_line game ≡ game_line other → game ≡ other
+pub game_tells : (game other : GameNumbers) → SpellsGame (game_line game) game → SpellsGame (game_line other) other → game_line game ≡ game_line other → game ≡ other
 game_tells game other g h e =
     let a = game_again (game_line game) game g in
     let b = game_again (game_line other) other h in
     let c = ap (λ (l : List ℕ). game_at (words_left (Some l))) e in
     cc
 
-count_tells : (n m : ℕ) → SpellsCount (count_line n) n → SpellsCount (count_line m) m → count_line n ≡ count_line m → n ≡ m
+pub count_tells : (n m : ℕ) → SpellsCount (count_line n) n → SpellsCount (count_line m) m → count_line n ≡ count_line m → n ≡ m
 count_tells n m g h e =
     let a = count_again (count_line n) n g in
     let b = count_again (count_line m) m h in

@@ -96,12 +96,12 @@ unfoldable pub list_at : List (List ℕ) → Option (List ℕ × List (List ℕ)
 list_at words = choose (after (codes "-") words) (λ rest. Some ([], rest)) (some_at (numbers_at words))
 
 -- values before the others
-abbrev pub with_front : {X : Type 0} → List X → Option (List X × List (List ℕ)) → Option (List X × List (List ℕ))
-with_front front read = read >>= λ x. Some (front ++ x.0, x.1)
+abbrev pub prepended : {X : Type 0} → List X → Option (List X × List (List ℕ)) → Option (List X × List (List ℕ))
+prepended so_far read = read >>= λ x. Some (so_far ++ x.0, x.1)
 
 abbrev pub many_from : {X : Type 0} → Option (List (List ℕ)) → List (List ℕ) → (List (List ℕ) → Option (X × List (List ℕ))) → (List (List ℕ) → Option (List X × List (List ℕ))) → Option (List X × List (List ℕ))
 many_from None words item others = Some ([], words)
-many_from (Some rest) words item others = item rest >>= λ x. with_front (x.0 ∷ []) (others x.1)
+many_from (Some rest) words item others = item rest >>= λ x. prepended (x.0 ∷ []) (others x.1)
 
 -- values of which each has its beginning, as many as there are but at most so many
 unfoldable pub many_at : {X : Type 0} → (List (List ℕ) → Option (List (List ℕ))) → (List (List ℕ) → Option (X × List (List ℕ))) → ℕ → List (List ℕ) → Option (List X × List (List ℕ))
@@ -136,7 +136,7 @@ position_at number words = do
 
 -- the lists of a packing after the first
 abbrev pub bins_at : List ℕ → List (List ℕ) → Option (List (List ℕ) × List (List ℕ))
-bins_at first words = with_front (first ∷ []) (each_at (after (codes "/")) list_at words)
+bins_at first words = prepended (first ∷ []) (each_at (after (codes "/")) list_at words)
 
 -- the lists of a packing
 unfoldable pub pack_at : List (List ℕ) → Option (List (List ℕ) × List (List ℕ))

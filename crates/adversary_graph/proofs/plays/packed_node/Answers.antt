@@ -25,7 +25,7 @@ loop-shown-preserved c =
     let child : c.unwrap-at.result ≡ no.0 = same_Some c.unwrap-at.result no.0 (sym c.unwrap-at.ensures ∙ c.first_child.ensures ∙ no.1) in
     let whole = c.loop-shown.invariant.1 in
     let later = packed_later nodes whole.0 c.loop-shown.at c.unwrap-at.result node whole.1 c.node.ensures.value none
-      (sym c.first_child.ensures ∙ c.unwrap-at.ensures) (omega (arith, child, no.2)) in
+    (sym c.first_child.ensures ∙ c.unwrap-at.ensures) (omega (arith, child, no.2)) in
     let within : c.unwrap-at.result < length nodes = omega (arith, child, no.2, c.loop-shown.invariant.0) in
     (within, (later.0, later.1, whole.2 ∙ later.2))
 
@@ -33,6 +33,10 @@ pub returns-in-loop-shown : goal.returns-in-loop-shown
 returns-in-loop-shown c =
     let node = c.node.result.now in
     let whole = c.loop-shown.invariant.1 in
-    let shown = sym c.in-Some.ensures in
-    (node, c.node.ensures.value, c.in-Some._shown.now, shown,
-      whole.2 ∙ packed_here c.args.pool.now.nodes whole.0 c.loop-shown.at node c.in-Some._shown.now whole.1 c.node.ensures.value shown)
+    let shown = sym c.in-Some.ensures in (
+      node,
+      c.node.ensures.value,
+      c.in-Some._shown.now,
+      shown,
+      whole.2 ∙ packed_here c.args.pool.now.nodes whole.0 c.loop-shown.at node c.in-Some._shown.now whole.1 c.node.ensures.value shown,
+    )

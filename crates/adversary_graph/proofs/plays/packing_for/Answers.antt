@@ -10,8 +10,10 @@ without_beyond-requires c =
     let end = c.requires.end in
     let has = has_end_packing pool c.pool_is_legal.ensures (c.args.number + 1) c.args.number end.0 (omega arith) end.1 in
     let same = same_Some has.0 c.end_packing.result.now (sym has.1 ∙ c.end_packing.ensures) in
-    record { few = few_of_each pool.game (end.0.items ++ sent_items end.0.step) c.end_packing.result.now c.pool_is_legal.ensures.of_game
-      (subst (λ (bins : List (List ℕ)). PacksEnough pool.game (end.0.items ++ sent_items end.0.step) bins) same has.2) }
+    record {
+      few = few_of_each pool.game (end.0.items ++ sent_items end.0.step) c.end_packing.result.now c.pool_is_legal.ensures.of_game
+          (subst (λ (bins : List (List ℕ)). PacksEnough pool.game (end.0.items ++ sent_items end.0.step) bins) same has.2);
+    }
 
 pub returns-clause-packed : goal.returns-clause-packed
 returns-clause-packed c =

@@ -33,5 +33,5 @@ returns-in_ok-load-in-Send-clause-step g c =
     let items = c.args.course.now.items in
     let at = ready_at pool.game answer pool.nodes c.args.number items c.node.result.now c.requires.ready c.node.ensures.value in
     let step = send_step pool c.pool_is_legal.ensures answer algorithm c.args.number items c.node.result.now c.in-Send.size c.in-Send.pack c.in-Send.placements
-      c.node.ensures.value c.in-Send.is at in
+    c.node.ensures.value c.in-Send.is at in
     rw (c.child_at.ensures, c.in_ok-load-in-Send.ensures.load, c.as_slice.ensures.value, c.in_ok-load-in-Send.ensures.sent, c.game-game.ensures.value) step

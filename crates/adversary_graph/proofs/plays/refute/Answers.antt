@@ -11,7 +11,7 @@ packing_for-requires g c =
     let answer = g.O.Online.answer c.args.player.now pool.game in
     let algorithm = g.O.Online.is_algorithm c.args.player.now pool.game p.of_game in
     let facts = ends_lost pool p answer algorithm (c.args.root + 1) c.args.root [] (end_at c.play_on.new.course.items c.in_ok-end.end)
-      (root_ready pool answer c.args.root p c.requires.root) c.in_ok-end.ensures.end in
+    (root_ready pool answer c.args.root p c.requires.root) c.in_ok-end.ensures.end in
     record { end = (facts.node, facts.is, facts.same) }
 
 pub returns-clause-lost : goal.returns-clause-lost
@@ -21,7 +21,7 @@ returns-clause-lost g c =
     let answer = g.O.Online.answer c.args.player.now pool.game in
     let algorithm = g.O.Online.is_algorithm c.args.player.now pool.game p.of_game in
     let facts = ends_lost pool p answer algorithm (c.args.root + 1) c.args.root [] (end_at c.play_on.new.course.items c.in_ok-end.end)
-      (root_ready pool answer c.args.root p c.requires.root) c.in_ok-end.ensures.end in
+    (root_ready pool answer c.args.root p c.requires.root) c.in_ok-end.ensures.end in
     record {
       packable = facts.packable;
       packed = c.in_ok-packing.ensures.packed;

@@ -10,7 +10,7 @@ overflow_add-total c =
     let bins = c.args.bins.now in
     let i = c.loop-bin.bin-index in
     let bin : c.times-total.result ≡ count c.args.size (get_or bins i []) =
-      c.times-total.ensures ∙ ap (count c.args.size) (c.as_slice.ensures.value ∙ c.bin-item.is ∙ get_or_default bins i c.bin-item.result [] c.loop-bin-test.true) in
+    c.times-total.ensures ∙ ap (count c.args.size) (c.as_slice.ensures.value ∙ c.bin-item.is ∙ get_or_default bins i c.bin-item.result [] c.loop-bin-test.true) in
     omega (arith, c.loop-bin.invariant, bin, count-concat-more c.args.size bins i [] c.loop-bin-test.true, count-concat-take-le c.args.size bins (i + 1), c.requires)
 
 pub loop-bin-preserved : goal.loop-bin-preserved
@@ -18,7 +18,7 @@ loop-bin-preserved c =
     let bins = c.args.bins.now in
     let i = c.loop-bin.bin-index in
     let bin : c.times-total.result ≡ count c.args.size (get_or bins i []) =
-      c.times-total.ensures ∙ ap (count c.args.size) (c.as_slice.ensures.value ∙ c.bin-item.is ∙ get_or_default bins i c.bin-item.result [] c.loop-bin-test.true) in
+    c.times-total.ensures ∙ ap (count c.args.size) (c.as_slice.ensures.value ∙ c.bin-item.is ∙ get_or_default bins i c.bin-item.result [] c.loop-bin-test.true) in
     let more : c.loop-bin.total + c.times-total.result ≡ count c.args.size (concat (take (i + 1) bins)) =
-      omega (arith, c.loop-bin.invariant, bin, count-concat-more c.args.size bins i [] c.loop-bin-test.true) in
+    omega (arith, c.loop-bin.invariant, bin, count-concat-more c.args.size bins i [] c.loop-bin-test.true) in
     more

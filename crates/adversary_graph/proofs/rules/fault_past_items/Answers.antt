@@ -18,7 +18,7 @@ pub all_items-all-requires : goal.all_items-all-requires
 all_items-all-requires g c =
     let send = rw c.sent_size.ensures at (c.if-not-contains.ensures.exact.0 refl) in
     let size = All-contains (IsSize c.args.game.now.capacity) c.args.sizes.now _ c.requires.sizes send in
-    record { low = size.low; high = omega (arith, size.high, c.g-capacity.ensures.legal.capacity.high) }
+    record { low = size.low; high = omega (arith, size.high, c.game_is_legal.ensures.capacity.high) }
 
 pub returns-then-not-is_packed : goal.returns-then-not-is_packed
 returns-then-not-is_packed g c =

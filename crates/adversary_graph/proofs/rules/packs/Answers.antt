@@ -18,4 +18,4 @@ returns-in-None c =
     let items = c.args.position.now.items in
     let more = sent_items c.args.step.now in
     let above : 1912 < sum items + sum more = rw c.in-None.is at c.requires in
-    (λ e. absurd (false≢true e), λ p. absurd (omega (arith, above, sum_by-append (λ x. x) items more, sum-packing-le c.args.game.now c.args.pack.now (items ++ more) p, game_volume c.args.game.now c.g-capacity.ensures.legal)))
+    (λ e. absurd (false≢true e), λ p. absurd (omega (arith, above, sum_by-append (λ x. x) items more, sum-packing-le c.args.game.now c.args.pack.now (items ++ more) p, game_volume c.args.game.now c.game_is_legal.ensures)))

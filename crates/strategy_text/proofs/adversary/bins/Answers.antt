@@ -8,8 +8,8 @@ use Rattle.strategy_text.proofs.adversary.bins.Goals as goal
 
 pub returns-in_err-bin : goal.returns-in_err-bin
 returns-in_err-bin c =
-    let front : c.push_bin.new.self ≡ c.args.first ∷ [] = c.in_ok-push_bin.ensures.ok ∙ rw c.new-packing.ensures.empty refl in
-    let so_far = rw front at c.loop-alloc.invariant in
+    let first_is : c.push_bin.new.self ≡ c.args.first ∷ [] = c.in_ok-push_bin.ensures.ok ∙ rw c.new-packing.ensures.empty refl in
+    let so_far = rw first_is at c.loop-alloc.invariant in
     let p = err_from_is_err_and c.from_residual-in_err-bin.result c.from_residual-in_err-bin.ensures.1 in
     let less = after_shrinks (codes "/") c.loop-alloc.words c.accept.new.self c.loop-alloc-test.ensures in
     rw (p.1, p.2) (many_fails (after (codes "/")) list_at c.loop-alloc.packing c.loop-alloc.words c.accept.new.self c.list.new.words c.list.new.words (bins_at c.args.first c.args.words.now) c.in_err-bin.field-0.0 c.loop-alloc-test.ensures (omega (arith, less)) c.in_err-bin.ensures so_far)
@@ -25,6 +25,6 @@ loop-alloc-preserved c =
 
 pub returns : goal.returns
 returns c =
-    let front : c.push_bin.new.self ≡ c.args.first ∷ [] = c.in_ok-push_bin.ensures.ok ∙ rw c.new-packing.ensures.empty refl in
-    let so_far = rw front at c.loop-alloc.invariant in
+    let first_is : c.push_bin.new.self ≡ c.args.first ∷ [] = c.in_ok-push_bin.ensures.ok ∙ rw c.new-packing.ensures.empty refl in
+    let so_far = rw first_is at c.loop-alloc.invariant in
     rw c.loop-alloc-test.ensures.1 (many_ends (after (codes "/")) list_at c.loop-alloc.packing c.loop-alloc.words _ c.loop-alloc-test.ensures.0 so_far)

@@ -1,14 +1,14 @@
 use Rattle.std.proofs.Common.{◌<◌, codes, length, arith}
 use Rattle.strategy_text.specs.Words.{after}
 use Rattle.strategy_text.specs.Reading.{placement_at}
-use Rattle.strategy_text.proofs.Loops.{many_more, many_stops, many_ends, from_front, after_shrinks}
+use Rattle.strategy_text.proofs.Loops.{many_more, many_stops, many_ends, from_none, after_shrinks}
 use Rattle.strategy_text.proofs.StepsTaken.{placement_shrinks}
 use Rattle.strategy_text.proofs.adversary.each_placement.Goals as goal
 
 pub returns-in_default : goal.returns-in_default
 returns-in_default c =
     let less = after_shrinks (codes "on") c.loop-words.words c.accept.new.self c.loop-words-test.ensures in
-    from_front c.new-placements.result _ _ c.new-placements.ensures.empty (many_stops (after (codes "on")) placement_at c.loop-words.placements c.loop-words.words c.accept.new.self _ c.loop-words-test.ensures c.in_default.ensures (omega (arith, less)) c.loop-words.invariant)
+    from_none c.new-placements.result _ _ c.new-placements.ensures.empty (many_stops (after (codes "on")) placement_at c.loop-words.placements c.loop-words.words c.accept.new.self _ c.loop-words-test.ensures c.in_default.ensures (omega (arith, less)) c.loop-words.invariant)
 
 pub loop-words-smaller : goal.loop-words-smaller
 loop-words-smaller c =
@@ -22,4 +22,4 @@ loop-words-preserved c =
 pub returns : goal.returns
 returns c =
     let stays = c.loop-words-test.ensures.1 in
-    rw stays (from_front c.new-placements.result _ _ c.new-placements.ensures.empty (many_ends (after (codes "on")) placement_at c.loop-words.placements c.loop-words.words _ c.loop-words-test.ensures.0 c.loop-words.invariant))
+    rw stays (from_none c.new-placements.result _ _ c.new-placements.ensures.empty (many_ends (after (codes "on")) placement_at c.loop-words.placements c.loop-words.words _ c.loop-words-test.ensures.0 c.loop-words.invariant))

@@ -1,13 +1,13 @@
-use Rattle.std.proofs.Common.{sym, ◌∙◌, arith}
+use Rattle.std.proofs.Common.{sym, ◌∙◌}
 use Rattle.strategy_text.specs.Reading.{more_words, entry_at}
-use Rattle.strategy_text.proofs.Loops.{many_more, many_stops, many_ends, from_front, more_some, more_none}
+use Rattle.strategy_text.proofs.Loops.{many_more, many_stops, many_ends, from_none, more_some, more_none}
 use Rattle.strategy_text.proofs.ActsTaken.{entry_shrinks}
 use Rattle.strategy_text.proofs.algorithm.each_entry.Goals as goal
 
 pub returns-in_default : goal.returns-in_default
 returns-in_default c =
     let more = more_some c.loop-words.words (sym c.is_at_end.ensures ∙ c.loop-words-test.true) in
-    from_front c.new-entries.result _ _ c.new-entries.ensures.empty (many_stops more_words entry_at c.loop-words.entries c.loop-words.words c.loop-words.words _ more.0 c.in_default.ensures more.1 c.loop-words.invariant)
+    from_none c.new-entries.result _ _ c.new-entries.ensures.empty (many_stops more_words entry_at c.loop-words.entries c.loop-words.words c.loop-words.words _ more.0 c.in_default.ensures more.1 c.loop-words.invariant)
 
 pub loop-words-smaller : goal.loop-words-smaller
 loop-words-smaller c = entry_shrinks c.loop-words.words (c.in-Some.entry, c.entry.new.words) c.in-Some.ensures
@@ -21,4 +21,4 @@ loop-words-preserved c =
 pub returns : goal.returns
 returns c =
     let none = more_none c.loop-words.words (sym c.is_at_end.ensures ∙ c.loop-words-test.false) in
-    from_front c.new-entries.result _ _ c.new-entries.ensures.empty (many_ends more_words entry_at c.loop-words.entries c.loop-words.words _ none c.loop-words.invariant)
+    from_none c.new-entries.result _ _ c.new-entries.ensures.empty (many_ends more_words entry_at c.loop-words.entries c.loop-words.words _ none c.loop-words.invariant)

@@ -1,4 +1,3 @@
-use Rattle.std.proofs.Common.{[], ◌∷◌, ◌++◌, codes, decimal}
 use Rattle.std.specs.List.{flat_map}
 use Rattle.strategy_text.specs.Text.{packing_words, placement_words}
 use Rattle.strategy_text.proofs.Spaced.{writes_words, stops_words}

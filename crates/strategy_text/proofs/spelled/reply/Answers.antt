@@ -1,4 +1,4 @@
-use Rattle.std.proofs.Common.{[], ◌∷◌, ◌++◌, codes, decimal}
+use Rattle.std.proofs.Common.{[], ◌∷◌, codes}
 use Rattle.strategy_text.specs.Text.{entries_words}
 use Rattle.strategy_text.proofs.Spaced.{writes_words, stops_words}
 use Rattle.strategy_text.proofs.spelled.reply.Goals as goal

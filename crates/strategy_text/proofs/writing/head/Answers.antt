@@ -1,5 +1,4 @@
-use Rattle.std.proofs.Common.{◌≡◌, ℕ, List, [], ◌∷◌, ◌++◌, ◌∙◌, codes, decimal}
-use Rattle.items.specs.Game.{GameNumbers}
+use Rattle.std.proofs.Common.{ℕ, List, [], ◌∷◌, ◌++◌}
 use Rattle.strategy_text.specs.Text.{first_line, game_line, side_line, count_line}
 use Rattle.strategy_text.proofs.TextPieces.{writes_four, stops_one, stops_two, stops_three}
 use Rattle.strategy_text.proofs.writing.head.Goals as goal

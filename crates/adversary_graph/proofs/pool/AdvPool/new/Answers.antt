@@ -4,4 +4,4 @@ use Rattle.adversary_graph.proofs.pool.AdvPool.new.Goals as goal
 
 pub invariant_of-result : goal.invariant_of-result
 invariant_of-result c =
-    rw (c.new.ensures.empty, c.new-2.ensures.empty) (IsPool-nil c.args.format c.args.game.now c.g-capacity.ensures.legal, refl)
+    rw (c.new.ensures.empty, c.new-2.ensures.empty) (IsPool-nil c.args.format c.args.game.now c.game_is_legal.ensures, refl)

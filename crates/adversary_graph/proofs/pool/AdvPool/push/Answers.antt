@@ -17,7 +17,7 @@ invariant_of-self-in-Ok c =
     let node = c.args.node in
     let next = rw (← c.self.view_is) at c.requires.next in
     let positions = c.in-Ok.ensures.ok
-      ∙ ap (λ (earlier : List Position). earlier ++ c.position_of-position.result ∷ []) c.self.invariant.1
-      ∙ ap (λ (p : Position). map position_of pool.nodes ++ p ∷ []) c.position_of-position.ensures
-      ∙ sym (map-push pool.nodes node) in
+    ∙ ap (λ (earlier : List Position). earlier ++ c.position_of-position.result ∷ []) c.self.invariant.1
+    ∙ ap (λ (p : Position). map position_of pool.nodes ++ p ∷ []) c.position_of-position.ensures
+    ∙ sym (map-push pool.nodes node) in
     rw c.in_ok-push.ensures.ok (IsPool-push (pool_of pool.format pool.game pool.nodes) node c.self.invariant.0 next, positions)

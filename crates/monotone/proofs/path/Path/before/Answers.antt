@@ -15,11 +15,13 @@ returns-then-i-others c =
 
 pub returns-then-ne : goal.returns-then-ne
 returns-then-ne c =
-    let e = decided_at_moves c.loop-i.i c.as_slice-mine.result.now c.as_slice-others.result.now (moved 0 0) c.loop-i-test.true (omega arith) (apart_from_ne _ _ c.ne.result c.ne.ensures c.if-ne.true) c.loop-i.invariant.1 in
+    let e = decided_at_moves c.loop-i.i c.as_slice-mine.result.now c.as_slice-others.result.now (moved 0 0) c.loop-i-test.true (omega arith)
+    (apart_from_ne _ _ c.ne.result c.ne.ensures c.if-ne.true) c.loop-i.invariant.1 in
     rw (← c.as_slice-mine.ensures.value, ← c.as_slice-others.ensures.value) record { order = (λ h. e.1 (c.before-then-ne.ensures.0 h), λ h. c.before-then-ne.ensures.1 (e.0 h)) }
 
 pub loop-i-preserved : goal.loop-i-preserved
 loop-i-preserved c = (
   omega arith,
-  decided_from_next c.loop-i.i c.as_slice-mine.result.now c.as_slice-others.result.now (moved 0 0) c.loop-i-test.true (omega arith) (same_from_ne _ _ c.ne.result c.ne.ensures c.if-ne.false) c.loop-i.invariant.1,
+  decided_from_next c.loop-i.i c.as_slice-mine.result.now c.as_slice-others.result.now (moved 0 0) c.loop-i-test.true (omega arith)
+      (same_from_ne _ _ c.ne.result c.ne.ensures c.if-ne.false) c.loop-i.invariant.1,
 )
