@@ -58,12 +58,14 @@ no_head_fault wanted bytes n h line fault low (side_rule side form never) = let 
 no_head_fault wanted bytes n h line fault low (count_syntax never) = never (h.count low)
 
 -- a node of a list of which each meets every rule
-meets_at : (head : Head) (nodes : List AnyNode) (k : ℕ) (node : AnyNode) → EachMeetsRules head nodes → slice_get nodes k ≡ Some node → MeetsRules head (map position_of (take k nodes)) (k + 1 == head.count) node
+meets_at : (head : Head) (nodes : List AnyNode) (k : ℕ) (node : AnyNode) → EachMeetsRules head nodes → slice_get nodes k ≡ Some node
+    → MeetsRules head (map position_of (take k nodes)) (k + 1 == head.count) node
 unfolding EachMeetsRules
 meets_at head nodes k node each at = each k node at
 
 -- a node that meets every rule stands where one is said to break a rule
-node_meets : (bytes : List ℕ) (head : Head) (earlier : List Position) (rule : Rule) → head.count ≤ most_nodes → FaultlessNode bytes head (length earlier) → length earlier < head.count → HasPositions bytes head earlier → HasForm bytes (head.start + length earlier) (IsBrokenNodeLine head earlier rule) → ⊥
+node_meets : (bytes : List ℕ) (head : Head) (earlier : List Position) (rule : Rule) → head.count ≤ most_nodes → FaultlessNode bytes head (length earlier)
+    → length earlier < head.count → HasPositions bytes head earlier → HasForm bytes (head.start + length earlier) (IsBrokenNodeLine head earlier rule) → ⊥
 node_meets bytes head earlier rule high f few told form =
     let broken = form.2 in
     let within : length earlier < length f.nodes = slice_get_within f.nodes (length earlier) f.node f.at in
@@ -75,7 +77,8 @@ node_meets bytes head earlier rule high f few told form =
     (subst (λ (ps : List Position). MeetsRules head ps (length earlier + 1 == head.count) f.node) front meets) in
     meets_excludes head earlier (length earlier + 1 == head.count) broken.0 rule here broken.2
 
-no_body_fault : (bytes : List ℕ) (head : Head) (n : ℕ) → head.count ≤ most_nodes → FaultlessBody bytes head n → (line : ℕ) (fault : Why) → line < n → BodyFault bytes head line fault → ⊥
+no_body_fault : (bytes : List ℕ) (head : Head) (n : ℕ) → head.count ≤ most_nodes → FaultlessBody bytes head n → (line : ℕ) (fault : Why) → line < n
+    → BodyFault bytes head line fault → ⊥
 no_body_fault bytes head n high h line fault low (node_syntax k few never) = let f = h.node k few low in let s = f.stand k f.node f.at in never (s.0, s.1, (f.node, s.2))
 no_body_fault bytes head n high h line fault low (node_rule earlier rule few told form) = node_meets bytes head earlier rule high (h.node (length earlier) few low) few told form
 no_body_fault bytes head n high h line fault low (end_syntax never) = never (h.end low)
@@ -85,7 +88,8 @@ pub none_below : (wanted : Wanted) (bytes : List ℕ) (n : ℕ) → Faultless wa
 none_below wanted bytes n h line fault low (in_head f) = no_head_fault wanted bytes n h line fault low f
 none_below wanted bytes n h line fault low (in_body head has f) = no_body_fault bytes head n has.nodes.2.high (h.body head has) line fault low f
 
-FirstFault-at : (wanted : Wanted) (bytes : List ℕ) (n line : ℕ) (fault : Why) → line ≡ n → LineFault wanted bytes n fault → Faultless wanted bytes n → FirstFault wanted bytes line fault
+FirstFault-at : (wanted : Wanted) (bytes : List ℕ) (n line : ℕ) (fault : Why) → line ≡ n → LineFault wanted bytes n fault → Faultless wanted bytes n
+    → FirstFault wanted bytes line fault
 FirstFault-at wanted bytes n line fault e f clean = record {
   has = subst (λ (i : ℕ). LineFault wanted bytes i fault) (sym e) f;
   first = λ earlier other low g. none_below wanted bytes n clean earlier other (omega arith) g;
@@ -94,7 +98,9 @@ FirstFault-at wanted bytes n line fault e f clean = record {
 -- ---- lines that stand first have no fault
 
 -- head lines, of which at most four stand
-Faultless-head : (wanted : Wanted) (bytes : List ℕ) (n : ℕ) → n ≤ 5 → (1 < n → HasForm bytes 1 IsFirstLine) → (2 < n → (game : GameNumbers) × HasForm bytes 2 (λ line. SpellsGame line game) × IsGame game) → (3 < n → (side : Side) × HasForm bytes 3 (λ line. line ≡ side_line side) × IsWanted wanted side) → (4 < n → HasForm bytes 4 IsCountLine) → Faultless wanted bytes n
+Faultless-head : (wanted : Wanted) (bytes : List ℕ) (n : ℕ) → n ≤ 5 → (1 < n → HasForm bytes 1 IsFirstLine)
+    → (2 < n → (game : GameNumbers) × HasForm bytes 2 (λ line. SpellsGame line game) × IsGame game)
+    → (3 < n → (side : Side) × HasForm bytes 3 (λ line. line ≡ side_line side) × IsWanted wanted side) → (4 < n → HasForm bytes 4 IsCountLine) → Faultless wanted bytes n
 Faultless-head wanted bytes n low first game side count = record {
   first = first;
   game = game;
@@ -112,7 +118,10 @@ slice_at [] k within = absurd (omega arith)
 slice_at (node ∷ nodes) k within = let at = get_or (node ∷ nodes) k node in (at, slice_get-get_or (node ∷ nodes) k node within)
 
 -- a head, nodes and maybe more
-pub Faultless-body : (wanted : Wanted) (bytes : List ℕ) (n : ℕ) (head : Head) (nodes : List AnyNode) → HasHead wanted bytes head → HasNodes bytes head nodes → EachMeetsRules head nodes → ((k : ℕ) → k < head.count → head.start + k < n → k < length nodes) → (head.start + head.count < n → HasForm bytes (head.start + head.count) (λ line. line ≡ end_line)) → (head.start + head.count + 1 < n → HasBytesPast bytes (head.start + head.count) → ⊥) → Faultless wanted bytes n
+pub Faultless-body : (wanted : Wanted) (bytes : List ℕ) (n : ℕ) (head : Head) (nodes : List AnyNode) → HasHead wanted bytes head → HasNodes bytes head nodes
+    → EachMeetsRules head nodes → ((k : ℕ) → k < head.count → head.start + k < n → k < length nodes)
+    → (head.start + head.count < n → HasForm bytes (head.start + head.count) (λ line. line ≡ end_line))
+    → (head.start + head.count + 1 < n → HasBytesPast bytes (head.start + head.count) → ⊥) → Faultless wanted bytes n
 Faultless-body wanted bytes n head nodes has stand each reach end past = record {
   first = λ low. (has.first.0, has.first.1, (head.format, has.first.2));
   game = λ low. (head.game, has.numbers, has.of_game);
@@ -128,7 +137,8 @@ Faultless-body wanted bytes n head nodes has stand each reach end past = record 
 }
 
 -- nodes whose lines stand after the head lines
-pub HasNodes-from : (head : Head) (nodes : List AnyNode) (more : List (List ℕ)) (bytes rest : List ℕ) → head.start ≡ 5 → AreJudged head nodes → StandFirst (lines_of_head head ++ node_lines 0 nodes ++ more) bytes rest → HasNodes bytes head nodes
+pub HasNodes-from : (head : Head) (nodes : List AnyNode) (more : List (List ℕ)) (bytes rest : List ℕ) → head.start ≡ 5 → AreJudged head nodes
+    → StandFirst (lines_of_head head ++ node_lines 0 nodes ++ more) bytes rest → HasNodes bytes head nodes
 HasNodes-from head nodes more bytes rest start judged stood k node e =
     let line : List ℕ = node_line k node in
     let get : slice_get (node_lines 0 nodes ++ more) k ≡ Some line = front_get (node_lines 0 nodes) more k line (node_lines_get 0 nodes k node e ∙ ap (λ (i : ℕ). Some (node_line i node)) (omega arith)) in (
@@ -140,7 +150,9 @@ HasNodes-from head nodes more bytes rest start judged stood k node e =
 -- ---- what was refused is the first fault
 
 -- What is wrong after lines that have no fault is the first fault. Where a read failed after them, no whole line has a fault.
-conclude : (wanted : Wanted) (given : List (List ℕ)) (Wrong : CheckFault → List ℕ → Type 0) (fault : CheckFault) (old : ReaderState) (left new_left : Option (List ℕ)) → ((bytes rest : List ℕ) → StandFirst given bytes rest → Faultless wanted bytes (length given + 1)) → ((bytes rest : List ℕ) (line : ℕ) (cause : Why) → StandFirst given bytes rest → Wrong (Rejected line cause) rest → (line ≡ length given + 1) × LineFault wanted bytes (length given + 1) cause) → RefusesAfter given Wrong fault old left new_left → IsFaultOf wanted old.held fault left new_left
+conclude : (wanted : Wanted) (given : List (List ℕ)) (Wrong : CheckFault → List ℕ → Type 0) (fault : CheckFault) (old : ReaderState) (left new_left : Option (List ℕ))
+    → ((bytes rest : List ℕ) → StandFirst given bytes rest → Faultless wanted bytes (length given + 1))
+    → ((bytes rest : List ℕ) (line : ℕ) (cause : Why) → StandFirst given bytes rest → Wrong (Rejected line cause) rest → (line ≡ length given + 1) × LineFault wanted bytes (length given + 1) cause) → RefusesAfter given Wrong fault old left new_left → IsFaultOf wanted old.held fault left new_left
 conclude wanted given Wrong (Rejected line cause) old left new_left clean wrong r =
     let first : (bytes : List ℕ) → IsWrongAfter given Wrong (Rejected line cause) bytes → FirstFault wanted bytes line cause = λ bytes w. (let f = wrong bytes w.0 line cause w.1 w.2 in FirstFault-at wanted bytes (length given + 1) line cause f.0 f.1 (clean bytes w.0 w.1)) in
     record {
@@ -163,7 +175,8 @@ abbrev RefusedAt : List ℕ → ℕ → (List ℕ → Type 0) → (Rule → List
 RefusedAt bytes n Form Breaking why.Syntax = HasForm bytes n Form → ⊥
 RefusedAt bytes n Form Breaking (why.Rule rule) = HasForm bytes n (Breaking rule)
 
-refused_at : (given : List (List ℕ)) (n : ℕ) (Form : List ℕ → Type 0) (Breaking : Rule → List ℕ → Type 0) (bytes rest : List ℕ) (line : ℕ) (cause : Why) → length given + 1 ≡ n → StandFirst given bytes rest → IsWrongNext n Form Breaking (Rejected line cause) rest → (line ≡ n) × RefusedAt bytes n Form Breaking cause
+refused_at : (given : List (List ℕ)) (n : ℕ) (Form : List ℕ → Type 0) (Breaking : Rule → List ℕ → Type 0) (bytes rest : List ℕ) (line : ℕ) (cause : Why) → length given + 1 ≡ n
+    → StandFirst given bytes rest → IsWrongNext n Form Breaking (Rejected line cause) rest → (line ≡ n) × RefusedAt bytes n Form Breaking cause
 refused_at given n Form Breaking bytes rest line why.Syntax place stood h = (h.0, λ form. h.1 (next_from given bytes rest n Form stood place form))
 refused_at given n Form Breaking bytes rest line (why.Rule rule) place stood h = (h.0, form_from given bytes rest n (Breaking rule) stood place h.1)
 
@@ -189,21 +202,24 @@ count_fault wanted bytes (why.Rule rule) h = absurd h.2
 
 -- ---- where a head line was refused
 
-pub exit_first : (wanted : Wanted) (fault : CheckFault) (old : ReaderState) (left new_left : Option (List ℕ)) → RefusesAfter [] (IsWrongNext 1 IsFirstLine NoRule) fault old left new_left → IsFaultOf wanted old.held fault left new_left
+pub exit_first : (wanted : Wanted) (fault : CheckFault) (old : ReaderState) (left new_left : Option (List ℕ))
+    → RefusesAfter [] (IsWrongNext 1 IsFirstLine NoRule) fault old left new_left → IsFaultOf wanted old.held fault left new_left
 exit_first wanted fault old left new_left r =
     conclude wanted [] (IsWrongNext 1 IsFirstLine NoRule) fault old left new_left
     (λ bytes rest stood. Faultless-head wanted bytes 1 (omega arith) (λ l. absurd (omega arith)) (λ l. absurd (omega arith)) (λ l. absurd (omega arith)) (λ l. absurd (omega arith)))
     (λ bytes rest line cause stood w. let f = refused_at [] 1 IsFirstLine NoRule bytes rest line cause refl stood w in (f.0, first_fault wanted bytes cause f.1))
     r
 
-pub exit_game : (wanted : Wanted) (format : Format) (fault : CheckFault) (old : ReaderState) (left new_left : Option (List ℕ)) → RefusesAfter (first_line format ∷ []) (IsWrongNext 2 IsGameLine BreaksGame) fault old left new_left → IsFaultOf wanted old.held fault left new_left
+pub exit_game : (wanted : Wanted) (format : Format) (fault : CheckFault) (old : ReaderState) (left new_left : Option (List ℕ))
+    → RefusesAfter (first_line format ∷ []) (IsWrongNext 2 IsGameLine BreaksGame) fault old left new_left → IsFaultOf wanted old.held fault left new_left
 exit_game wanted format fault old left new_left r =
     conclude wanted (first_line format ∷ []) (IsWrongNext 2 IsGameLine BreaksGame) fault old left new_left
     (λ bytes rest stood. let one = first_from format [] bytes rest stood in Faultless-head wanted bytes 2 (omega arith) (λ l. (one.0, one.1, (format, one.2))) (λ l. absurd (omega arith)) (λ l. absurd (omega arith)) (λ l. absurd (omega arith)))
     (λ bytes rest line cause stood w. let f = refused_at (first_line format ∷ []) 2 IsGameLine BreaksGame bytes rest line cause refl stood w in (f.0, game_fault wanted bytes cause f.1))
     r
 
-pub exit_side : (wanted : Wanted) (format : Format) (game : GameNumbers) (fault : CheckFault) (old : ReaderState) (left new_left : Option (List ℕ)) → IsGame game → RefusesAfter (first_line format ∷ game_line game ∷ []) (IsWrongNext 3 IsSideLine (BreaksSide wanted)) fault old left new_left → IsFaultOf wanted old.held fault left new_left
+pub exit_side : (wanted : Wanted) (format : Format) (game : GameNumbers) (fault : CheckFault) (old : ReaderState) (left new_left : Option (List ℕ)) → IsGame game
+    → RefusesAfter (first_line format ∷ game_line game ∷ []) (IsWrongNext 3 IsSideLine (BreaksSide wanted)) fault old left new_left → IsFaultOf wanted old.held fault left new_left
 exit_side wanted format game fault old left new_left of_game r =
     conclude wanted (first_line format ∷ game_line game ∷ []) (IsWrongNext 3 IsSideLine (BreaksSide wanted)) fault old left new_left
     (λ bytes rest stood.
@@ -212,7 +228,9 @@ exit_side wanted format game fault old left new_left of_game r =
     (λ bytes rest line cause stood w. let f = refused_at (first_line format ∷ game_line game ∷ []) 3 IsSideLine (BreaksSide wanted) bytes rest line cause refl stood w in (f.0, side_fault wanted bytes cause f.1))
     r
 
-pub exit_count : (wanted : Wanted) (format : Format) (game : GameNumbers) (side : Side) (fault : CheckFault) (old : ReaderState) (left new_left : Option (List ℕ)) → IsGame game → IsWanted wanted side → RefusesAfter (first_line format ∷ game_line game ∷ side_line side ∷ []) (IsWrongNext 4 IsCountLine NoRule) fault old left new_left → IsFaultOf wanted old.held fault left new_left
+pub exit_count : (wanted : Wanted) (format : Format) (game : GameNumbers) (side : Side) (fault : CheckFault) (old : ReaderState) (left new_left : Option (List ℕ)) → IsGame game
+    → IsWanted wanted side → RefusesAfter (first_line format ∷ game_line game ∷ side_line side ∷ []) (IsWrongNext 4 IsCountLine NoRule) fault old left new_left
+    → IsFaultOf wanted old.held fault left new_left
 exit_count wanted format game side fault old left new_left of_game of_side r =
     conclude wanted (first_line format ∷ game_line game ∷ side_line side ∷ []) (IsWrongNext 4 IsCountLine NoRule) fault old left new_left
     (λ bytes rest stood.
@@ -228,13 +246,16 @@ record Stands (wanted : Wanted) (head : Head) (nodes : List AnyNode) (bytes : Li
   has : HasHead wanted bytes head
   stand : HasNodes bytes head nodes
 
-stands_from : (wanted : Wanted) (head : Head) (nodes : List AnyNode) (more : List (List ℕ)) (bytes rest : List ℕ) → IsHead wanted head → AreJudged head nodes → StandFirst (lines_of_head head ++ node_lines 0 nodes ++ more) bytes rest → Stands wanted head nodes bytes
+stands_from : (wanted : Wanted) (head : Head) (nodes : List AnyNode) (more : List (List ℕ)) (bytes rest : List ℕ) → IsHead wanted head → AreJudged head nodes
+    → StandFirst (lines_of_head head ++ node_lines 0 nodes ++ more) bytes rest → Stands wanted head nodes bytes
 stands_from wanted head nodes more bytes rest is judged stood = record {
   has = head_from wanted head (node_lines 0 nodes ++ more) bytes rest is stood;
   stand = HasNodes-from head nodes more bytes rest is.start judged stood;
 }
 
-node_fault : (wanted : Wanted) (head : Head) (nodes : List AnyNode) (bytes : List ℕ) (cause : Why) → Stands wanted head nodes bytes → length nodes < head.count → RefusedAt bytes (head.start + length nodes) (IsNodeLine head (length nodes)) (IsBrokenNodeLine head (map position_of nodes)) cause → LineFault wanted bytes (head.start + length nodes) cause
+node_fault : (wanted : Wanted) (head : Head) (nodes : List AnyNode) (bytes : List ℕ) (cause : Why) → Stands wanted head nodes bytes → length nodes < head.count
+    → RefusedAt bytes (head.start + length nodes) (IsNodeLine head (length nodes)) (IsBrokenNodeLine head (map position_of nodes)) cause
+    → LineFault wanted bytes (head.start + length nodes) cause
 node_fault wanted head nodes bytes why.Syntax s few h = in_body head s.has (node_syntax (length nodes) few h)
 node_fault wanted head nodes bytes (why.Rule rule) s few h =
     let same : length (map position_of nodes) ≡ length nodes = length-map nodes position_of in
@@ -242,7 +263,9 @@ node_fault wanted head nodes bytes (why.Rule rule) s few h =
     (subst (λ (i : ℕ). BodyFault bytes head (head.start + i) (why.Rule rule)) same
     (node_rule (map position_of nodes) rule (omega (arith, same)) (HasPositions-from bytes head nodes s.stand) (subst (λ (i : ℕ). HasForm bytes (head.start + i) (IsBrokenNodeLine head (map position_of nodes) rule)) (sym same) h)))
 
-pub exit_node : (wanted : Wanted) (head : Head) (nodes : List AnyNode) (fault : CheckFault) (old : ReaderState) (left new_left : Option (List ℕ)) → IsHead wanted head → AreJudged head nodes → length nodes < head.count → RefusesAfter (lines_of_head head ++ node_lines 0 nodes) (IsWrongNext (head.start + length nodes) (IsNodeLine head (length nodes)) (IsBrokenNodeLine head (map position_of nodes))) fault old left new_left → IsFaultOf wanted old.held fault left new_left
+pub exit_node : (wanted : Wanted) (head : Head) (nodes : List AnyNode) (fault : CheckFault) (old : ReaderState) (left new_left : Option (List ℕ)) → IsHead wanted head
+    → AreJudged head nodes → length nodes < head.count
+    → RefusesAfter (lines_of_head head ++ node_lines 0 nodes) (IsWrongNext (head.start + length nodes) (IsNodeLine head (length nodes)) (IsBrokenNodeLine head (map position_of nodes))) fault old left new_left → IsFaultOf wanted old.held fault left new_left
 exit_node wanted head nodes fault old left new_left is judged few r =
     let given : List (List ℕ) = lines_of_head head ++ node_lines 0 nodes in
     let place : length given + 1 ≡ head.start + length nodes = omega (arith, length-append (lines_of_head head) (node_lines 0 nodes), length-node_lines 0 nodes, is.start) in
@@ -256,11 +279,15 @@ exit_node wanted head nodes fault old left new_left is judged few r =
         (f.0 ∙ sym place, subst (λ (i : ℕ). LineFault wanted bytes i cause) (sym place) (node_fault wanted head nodes bytes cause (stands bytes rest stood) few f.1)))
     r
 
-end_fault : (wanted : Wanted) (head : Head) (bytes : List ℕ) (cause : Why) → HasHead wanted bytes head → RefusedAt bytes (head.start + head.count) (λ line. line ≡ end_line) NoRule cause → LineFault wanted bytes (head.start + head.count) cause
+end_fault : (wanted : Wanted) (head : Head) (bytes : List ℕ) (cause : Why) → HasHead wanted bytes head
+    → RefusedAt bytes (head.start + head.count) (λ line. line ≡ end_line) NoRule cause → LineFault wanted bytes (head.start + head.count) cause
 end_fault wanted head bytes why.Syntax has h = in_body head has (end_syntax h)
 end_fault wanted head bytes (why.Rule rule) has h = absurd h.2
 
-pub exit_end : (wanted : Wanted) (head : Head) (nodes : List AnyNode) (fault : CheckFault) (old : ReaderState) (left new_left : Option (List ℕ)) → IsHead wanted head → AreJudged head nodes → length nodes ≡ head.count → RefusesAfter (lines_of_head head ++ node_lines 0 nodes) (IsWrongNext (head.start + head.count) (λ line. line ≡ end_line) NoRule) fault old left new_left → IsFaultOf wanted old.held fault left new_left
+pub exit_end : (wanted : Wanted) (head : Head) (nodes : List AnyNode) (fault : CheckFault) (old : ReaderState) (left new_left : Option (List ℕ)) → IsHead wanted head
+    → AreJudged head nodes → length nodes ≡ head.count
+    → RefusesAfter (lines_of_head head ++ node_lines 0 nodes) (IsWrongNext (head.start + head.count) (λ line. line ≡ end_line) NoRule) fault old left new_left
+    → IsFaultOf wanted old.held fault left new_left
 exit_end wanted head nodes fault old left new_left is judged all r =
     let given : List (List ℕ) = lines_of_head head ++ node_lines 0 nodes in
     let place : length given + 1 ≡ head.start + head.count = omega (arith, length-append (lines_of_head head) (node_lines 0 nodes), length-node_lines 0 nodes, is.start, all) in
@@ -286,14 +313,17 @@ length-lines_of_text : (head : Head) (nodes : List AnyNode) → length (lines_of
 length-lines_of_text head nodes = omega (arith, length-append (lines_of_head head) (node_lines 0 nodes ++ end_line ∷ []), length_push (node_lines 0 nodes) end_line, length-node_lines 0 nodes)
 
 -- where a whole text stands first, no line up to its last has a fault
-pub Faultless-text : (wanted : Wanted) (head : Head) (nodes : List AnyNode) (bytes rest : List ℕ) → IsHead wanted head → AreJudged head nodes → length nodes ≡ head.count → StandFirst (lines_of_text head nodes) bytes rest → Faultless wanted bytes (head.start + head.count + 1)
+pub Faultless-text : (wanted : Wanted) (head : Head) (nodes : List AnyNode) (bytes rest : List ℕ) → IsHead wanted head → AreJudged head nodes → length nodes ≡ head.count
+    → StandFirst (lines_of_text head nodes) bytes rest → Faultless wanted bytes (head.start + head.count + 1)
 Faultless-text wanted head nodes bytes rest is judged all stood =
     let s = stands_from wanted head nodes (end_line ∷ []) bytes rest is judged stood in
     let get : slice_get (lines_of_text head nodes) (4 + (length (node_lines 0 nodes) + 0)) ≡ Some end_line = after_get (lines_of_head head) (node_lines 0 nodes ++ end_line ∷ []) (length (node_lines 0 nodes) + 0) end_line (after_get (node_lines 0 nodes) (end_line ∷ []) 0 end_line refl) in
     let end : HasForm bytes (head.start + head.count) (λ line. line ≡ end_line) = (end_line, line_at (lines_of_text head nodes) bytes rest (4 + (length (node_lines 0 nodes) + 0)) (head.start + head.count) end_line stood get (omega (arith, length-node_lines 0 nodes, is.start, all)), refl) in
     Faultless-body wanted bytes (head.start + head.count + 1) head nodes s.has s.stand judged.each (λ k low past. omega (arith, all)) (λ past. end) (λ past. absurd (omega arith))
 
-pub exit_past : (wanted : Wanted) (head : Head) (nodes : List AnyNode) (fault : CheckFault) (old : ReaderState) (left new_left : Option (List ℕ)) → IsHead wanted head → AreJudged head nodes → length nodes ≡ head.count → RefusesAfter (lines_of_text head nodes) (IsPastEnd (head.start + head.count + 1)) fault old left new_left → IsFaultOf wanted old.held fault left new_left
+pub exit_past : (wanted : Wanted) (head : Head) (nodes : List AnyNode) (fault : CheckFault) (old : ReaderState) (left new_left : Option (List ℕ)) → IsHead wanted head
+    → AreJudged head nodes → length nodes ≡ head.count → RefusesAfter (lines_of_text head nodes) (IsPastEnd (head.start + head.count + 1)) fault old left new_left
+    → IsFaultOf wanted old.held fault left new_left
 exit_past wanted head nodes fault old left new_left is judged all r =
     let place : length (lines_of_text head nodes) + 1 ≡ head.start + head.count + 1 = omega (arith, length-lines_of_text head nodes, is.start, all) in
     conclude wanted (lines_of_text head nodes) (IsPastEnd (head.start + head.count + 1)) fault old left new_left

@@ -92,16 +92,20 @@ game_spelled game of_game = record {
   spelled = refl;
 }
 
-pub first_from : (format : Format) (more : List (List ℕ)) (bytes rest : List ℕ) → StandFirst (first_line format ∷ more) bytes rest → HasForm bytes 1 (λ line. line ≡ first_line format)
+pub first_from : (format : Format) (more : List (List ℕ)) (bytes rest : List ℕ) → StandFirst (first_line format ∷ more) bytes rest
+    → HasForm bytes 1 (λ line. line ≡ first_line format)
 first_from format more bytes rest stood = (first_line format, line_at (first_line format ∷ more) bytes rest 0 1 (first_line format) stood refl (omega arith), refl)
 
-pub game_from : (first : List ℕ) (game : GameNumbers) (more : List (List ℕ)) (bytes rest : List ℕ) → IsGame game → StandFirst (first ∷ game_line game ∷ more) bytes rest → HasForm bytes 2 (λ line. SpellsGame line game)
+pub game_from : (first : List ℕ) (game : GameNumbers) (more : List (List ℕ)) (bytes rest : List ℕ) → IsGame game → StandFirst (first ∷ game_line game ∷ more) bytes rest
+    → HasForm bytes 2 (λ line. SpellsGame line game)
 game_from first game more bytes rest of_game stood = (game_line game, line_at (first ∷ game_line game ∷ more) bytes rest 1 2 (game_line game) stood refl (omega arith), game_spelled game of_game)
 
-pub side_from : (first second : List ℕ) (side : Side) (more : List (List ℕ)) (bytes rest : List ℕ) → StandFirst (first ∷ second ∷ side_line side ∷ more) bytes rest → HasForm bytes 3 (λ line. line ≡ side_line side)
+pub side_from : (first second : List ℕ) (side : Side) (more : List (List ℕ)) (bytes rest : List ℕ) → StandFirst (first ∷ second ∷ side_line side ∷ more) bytes rest
+    → HasForm bytes 3 (λ line. line ≡ side_line side)
 side_from first second side more bytes rest stood = (side_line side, line_at (first ∷ second ∷ side_line side ∷ more) bytes rest 2 3 (side_line side) stood refl (omega arith), refl)
 
-pub head_from : (wanted : Wanted) (head : Head) (more : List (List ℕ)) (bytes rest : List ℕ) → IsHead wanted head → StandFirst (lines_of_head head ++ more) bytes rest → HasHead wanted bytes head
+pub head_from : (wanted : Wanted) (head : Head) (more : List (List ℕ)) (bytes rest : List ℕ) → IsHead wanted head → StandFirst (lines_of_head head ++ more) bytes rest
+    → HasHead wanted bytes head
 head_from wanted head more bytes rest is stood = record {
   first = first_from head.format (game_line head.game ∷ side_line head.side ∷ count_line head.count ∷ more) bytes rest stood;
   numbers = game_from (first_line head.format) head.game (side_line head.side ∷ count_line head.count ∷ more) bytes rest is.of_game stood;

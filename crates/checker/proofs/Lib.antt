@@ -12,3 +12,4 @@ pub mod TextLemmas
 pub mod DecideLemmas
 pub mod DecideRules
 pub mod DecideText
+pub mod ForcedLemmas

@@ -33,14 +33,16 @@ HasForm-both bytes n One Other a b = (a.0, a.2, subst Other (HasLine-same bytes 
 
 -- ---- lines that stand first
 
-pub next_from : (given : List (List ℕ)) (bytes rest : List ℕ) (n : ℕ) (Form : List ℕ → Type 0) → StandFirst given bytes rest → length given + 1 ≡ n → HasForm bytes n Form → HasNext Form rest
+pub next_from : (given : List (List ℕ)) (bytes rest : List ℕ) (n : ℕ) (Form : List ℕ → Type 0) → StandFirst given bytes rest → length given + 1 ≡ n → HasForm bytes n Form
+    → HasNext Form rest
 next_from given bytes rest n Form stood place form =
     let l = form.1 in
     let counted : length l.before + 1 ≡ n = l.place in
     let same : rest ≡ with_lf form.0 ++ l.rest = same_rest given l.before rest (with_lf form.0 ++ l.rest) (no_lf given stood.whole) l.lines (omega arith) (sym stood.split ∙ l.split) in
     record { line = form.0; rest = l.rest; whole = l.whole; split = same; form = form.2 }
 
-pub form_from : (given : List (List ℕ)) (bytes rest : List ℕ) (n : ℕ) (Form : List ℕ → Type 0) → StandFirst given bytes rest → length given + 1 ≡ n → HasNext Form rest → HasForm bytes n Form
+pub form_from : (given : List (List ℕ)) (bytes rest : List ℕ) (n : ℕ) (Form : List ℕ → Type 0) → StandFirst given bytes rest → length given + 1 ≡ n → HasNext Form rest
+    → HasForm bytes n Form
 form_from given bytes rest n Form stood place next = (
   next.line,
   record {
@@ -54,7 +56,8 @@ form_from given bytes rest n Form stood place next = (
   next.form,
 )
 
-split_at : (lines : List (List ℕ)) (k : ℕ) (line : List ℕ) → slice_get lines k ≡ Some line → (before : List (List ℕ)) × (after : List (List ℕ)) × (length before ≡ k) × (lines ≡ before ++ line ∷ after)
+split_at : (lines : List (List ℕ)) (k : ℕ) (line : List ℕ) → slice_get lines k ≡ Some line
+    → (before : List (List ℕ)) × (after : List (List ℕ)) × (length before ≡ k) × (lines ≡ before ++ line ∷ after)
 split_at [] k line e = let none : None ≡ Some line = e in absurd cc
 split_at (l ∷ ls) zero line e = let same : l ≡ line = cc in ([], ls, refl, ap (λ (x : List ℕ). x ∷ ls) same)
 split_at (l ∷ ls) (suc k) line e =
@@ -70,7 +73,8 @@ All-after P [] ys h = h
 All-after P (x ∷ xs) ys h = All-after P xs ys (All-tail P x (xs ++ ys) h)
 
 -- lines that stand first, in two parts
-pub StandFirst-parts : (first next : List (List ℕ)) (bytes rest : List ℕ) → StandFirst (first ++ next) bytes rest → StandFirst first bytes (text_of_lines next ++ rest) × StandFirst next (text_of_lines next ++ rest) rest
+pub StandFirst-parts : (first next : List (List ℕ)) (bytes rest : List ℕ) → StandFirst (first ++ next) bytes rest
+    → StandFirst first bytes (text_of_lines next ++ rest) × StandFirst next (text_of_lines next ++ rest) rest
 StandFirst-parts first next bytes rest s = (
   record {
     whole = All-front IsLine first next s.whole;
@@ -80,7 +84,8 @@ StandFirst-parts first next bytes rest s = (
 )
 
 -- the lines that stand first stand in their places
-pub line_at : (lines : List (List ℕ)) (bytes rest : List ℕ) (k n : ℕ) (line : List ℕ) → StandFirst lines bytes rest → slice_get lines k ≡ Some line → k + 1 ≡ n → HasLine bytes n line
+pub line_at : (lines : List (List ℕ)) (bytes rest : List ℕ) (k n : ℕ) (line : List ℕ) → StandFirst lines bytes rest → slice_get lines k ≡ Some line → k + 1 ≡ n
+    → HasLine bytes n line
 line_at lines bytes rest k n line stood at place =
     let s = split_at lines k line at in
     let all : All IsLine (s.0 ++ line ∷ s.1) = subst (λ (ls : List (List ℕ)). All IsLine ls) s.3 stood.whole in

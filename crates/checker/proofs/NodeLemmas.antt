@@ -44,7 +44,8 @@ first_broken_same IsMet (x ∷ xs) r s (inr h) (inl k) = absurd (k.1 h.0)
 first_broken_same IsMet (x ∷ xs) r s (inr h) (inr k) = first_broken_same IsMet xs r s h.1 k.1
 
 -- a node that meets every rule breaks none
-pub meets_excludes : (head : Head) (earlier : List Position) (last : Bool) (node : AnyNode) (rule : Rule) → MeetsRules head earlier last node → Breaks head earlier last node rule → ⊥
+pub meets_excludes : (head : Head) (earlier : List Position) (last : Bool) (node : AnyNode) (rule : Rule) → MeetsRules head earlier last node → Breaks head earlier last node rule
+    → ⊥
 meets_excludes head earlier last (of_adversary node) rule m b = exclusive (adversary.Meets head.format head.game head.sizes earlier last node) adversary.node_rules b.0 m b.2
 meets_excludes head earlier last (of_algorithm node) rule m b = exclusive (algorithm.Meets head.game head.sizes earlier last node) algorithm.node_rules b.0 m b.2
 
@@ -62,13 +63,15 @@ abbrev pub HasNodes : List ℕ → Head → List AnyNode → Type 0
 HasNodes bytes head nodes =
     (k : ℕ) (node : AnyNode) → slice_get nodes k ≡ Some node → HasForm bytes (head.start + k) (λ line. SpellsUnder head k line node)
 
-pub node_same : (bytes : List ℕ) (head : Head) (n k : ℕ) (a b : AnyNode) → k ≤ most_child → HasForm bytes n (λ line. SpellsUnder head k line a) → HasForm bytes n (λ line. SpellsUnder head k line b) → a ≡ b
+pub node_same : (bytes : List ℕ) (head : Head) (n k : ℕ) (a b : AnyNode) → k ≤ most_child → HasForm bytes n (λ line. SpellsUnder head k line a)
+    → HasForm bytes n (λ line. SpellsUnder head k line b) → a ≡ b
 node_same bytes head n k a b le x y =
     let both = HasForm-both bytes n (λ line. SpellsUnder head k line a) (λ line. SpellsUnder head k line b) x y in
     line_tells head.format k both.0 a b le both.1.spells both.2.spells
 
 -- a node and a position that one line tells
-position_same : (bytes : List ℕ) (head : Head) (n k : ℕ) (node : AnyNode) (position : Position) → k ≤ most_child → HasForm bytes n (λ line. SpellsUnder head k line node) → HasForm bytes n (IsNodeLineAt head k position) → position_of node ≡ position
+position_same : (bytes : List ℕ) (head : Head) (n k : ℕ) (node : AnyNode) (position : Position) → k ≤ most_child → HasForm bytes n (λ line. SpellsUnder head k line node)
+    → HasForm bytes n (IsNodeLineAt head k position) → position_of node ≡ position
 position_same bytes head n k node position le x y =
     let both = HasForm-both bytes n (λ line. SpellsUnder head k line node) (IsNodeLineAt head k position) x y in
     let same : node ≡ both.2.0 = line_tells head.format k both.0 node both.2.0 le both.1.spells both.2.1.spells in
@@ -84,7 +87,8 @@ lists_same (x ∷ a) (y ∷ b) e h =
     ap (λ z. z ∷ a) same ∙ ap (λ zs. y ∷ zs) rest
 
 -- an element of the front of mapped nodes
-mapped_get : (nodes : List AnyNode) (n k : ℕ) (position : Position) → slice_get (map position_of (take n nodes)) k ≡ Some position → (node : AnyNode) × (slice_get nodes k ≡ Some node) × (position_of node ≡ position)
+mapped_get : (nodes : List AnyNode) (n k : ℕ) (position : Position) → slice_get (map position_of (take n nodes)) k ≡ Some position
+    → (node : AnyNode) × (slice_get nodes k ≡ Some node) × (position_of node ≡ position)
 mapped_get [] zero k position e = let none : None ≡ Some position = e in absurd cc
 mapped_get [] (suc n) k position e = let none : None ≡ Some position = e in absurd cc
 mapped_get (node ∷ nodes) zero k position e = let none : None ≡ Some position = e in absurd cc
@@ -92,7 +96,8 @@ mapped_get (node ∷ nodes) (suc n) zero position e = let same : position_of nod
 mapped_get (node ∷ nodes) (suc n) (suc k) position e = mapped_get nodes n k position e
 
 -- positions of the first nodes, told in two ways
-pub positions_front : (bytes : List ℕ) (head : Head) (nodes : List AnyNode) (earlier : List Position) → length earlier ≤ length nodes → length earlier ≤ most_child → HasNodes bytes head nodes → HasPositions bytes head earlier → map position_of (take (length earlier) nodes) ≡ earlier
+pub positions_front : (bytes : List ℕ) (head : Head) (nodes : List AnyNode) (earlier : List Position) → length earlier ≤ length nodes → length earlier ≤ most_child
+    → HasNodes bytes head nodes → HasPositions bytes head earlier → map position_of (take (length earlier) nodes) ≡ earlier
 positions_front bytes head nodes earlier le small stand told =
     lists_same (map position_of (take (length earlier) nodes)) earlier (omega (arith, length-map (take (length earlier) nodes) position_of, length-take (length earlier) nodes)) (λ k x y e f.
         let g = mapped_get nodes (length earlier) k x e in
@@ -112,7 +117,8 @@ pub length-node_lines : (number : ℕ) (nodes : List AnyNode) → length (node_l
 length-node_lines number [] = refl
 length-node_lines number (node ∷ nodes) = ap suc (length-node_lines (number + 1) nodes)
 
-pub node_lines_get : (number : ℕ) (nodes : List AnyNode) (k : ℕ) (node : AnyNode) → slice_get nodes k ≡ Some node → slice_get (node_lines number nodes) k ≡ Some (node_line (number + k) node)
+pub node_lines_get : (number : ℕ) (nodes : List AnyNode) (k : ℕ) (node : AnyNode) → slice_get nodes k ≡ Some node
+    → slice_get (node_lines number nodes) k ≡ Some (node_line (number + k) node)
 node_lines_get number [] k node e = let none : None ≡ Some node = e in absurd cc
 node_lines_get number (first ∷ nodes) zero node e =
     let same : first ≡ node = cc in
@@ -122,14 +128,16 @@ node_lines_get number (first ∷ nodes) (suc k) node e =
     let at : (number + 1) + k ≡ number + suc k = omega arith in
     node_lines_get (number + 1) nodes k node e ∙ ap (λ (i : ℕ). Some (node_line i node)) at
 
-pub node_lines_push : (number : ℕ) (nodes : List AnyNode) (node : AnyNode) → node_lines number (nodes ++ node ∷ []) ≡ node_lines number nodes ++ node_line (number + length nodes) node ∷ []
+pub node_lines_push : (number : ℕ) (nodes : List AnyNode) (node : AnyNode)
+    → node_lines number (nodes ++ node ∷ []) ≡ node_lines number nodes ++ node_line (number + length nodes) node ∷ []
 node_lines_push number [] node = ap (λ n. node_line n node ∷ []) (omega arith)
 node_lines_push number (first ∷ nodes) node =
     ap (λ lines. node_line number first ∷ lines) (node_lines_push (number + 1) nodes node ∙ ap (λ n. node_lines (number + 1) nodes ++ node_line n node ∷ []) (omega arith))
 
 -- ---- one more node
 
-each_push : (head : Head) (nodes : List AnyNode) (node : AnyNode) → EachMeetsRules head nodes → MeetsRules head (map position_of nodes) (length nodes + 1 == head.count) node → EachMeetsRules head (nodes ++ node ∷ [])
+each_push : (head : Head) (nodes : List AnyNode) (node : AnyNode) → EachMeetsRules head nodes → MeetsRules head (map position_of nodes) (length nodes + 1 == head.count) node
+    → EachMeetsRules head (nodes ++ node ∷ [])
 unfolding EachMeetsRules
 each_push head nodes node each meets k other e =
     let within : k < length (nodes ++ node ∷ []) = slice_get_within (nodes ++ node ∷ []) k other e in
@@ -144,7 +152,9 @@ each_push head nodes node each meets k other e =
     (subst (λ (front : List AnyNode). MeetsRules head (map position_of front) (length nodes + 1 == head.count) node) (sym (take_at nodes (node ∷ []) (length nodes) refl)) meets)))
     (cases_lt k (length nodes))
 
-spelled_push : (head : Head) (nodes : List AnyNode) (node : AnyNode) → ((k : ℕ) (n : AnyNode) → slice_get nodes k ≡ Some n → SpellsUnder head k (node_line k n) n) → SpellsUnder head (length nodes) (node_line (length nodes) node) node → (k : ℕ) (n : AnyNode) → slice_get (nodes ++ node ∷ []) k ≡ Some n → SpellsUnder head k (node_line k n) n
+spelled_push : (head : Head) (nodes : List AnyNode) (node : AnyNode) → ((k : ℕ) (n : AnyNode) → slice_get nodes k ≡ Some n → SpellsUnder head k (node_line k n) n)
+    → SpellsUnder head (length nodes) (node_line (length nodes) node) node → (k : ℕ) (n : AnyNode) → slice_get (nodes ++ node ∷ []) k ≡ Some n
+    → SpellsUnder head k (node_line k n) n
 spelled_push head nodes node each last k other e =
     let within : k < length (nodes ++ node ∷ []) = slice_get_within (nodes ++ node ∷ []) k other e in
     let here : get_or (nodes ++ node ∷ []) k other ≡ other = get_or_from_slice_get (nodes ++ node ∷ []) k other other e in
@@ -160,7 +170,8 @@ pub AreJudged-none : (head : Head) → AreJudged head []
 unfolding EachMeetsRules
 AreJudged-none head = record { spelled = λ k node e. absurd (none-some node e); each = λ k node e. absurd (none-some node e) }
 
-pub AreJudged-push : (head : Head) (nodes : List AnyNode) (node : AnyNode) (earlier kept : List Position) (text : List ℕ) → earlier ≡ map position_of nodes → AreJudged head nodes → TakesNode head earlier kept node text → AreJudged head (nodes ++ node ∷ [])
+pub AreJudged-push : (head : Head) (nodes : List AnyNode) (node : AnyNode) (earlier kept : List Position) (text : List ℕ) → earlier ≡ map position_of nodes → AreJudged head nodes
+    → TakesNode head earlier kept node text → AreJudged head (nodes ++ node ∷ [])
 AreJudged-push head nodes node earlier kept text e judged takes =
     let count : length earlier ≡ length nodes = ap length e ∙ length-map nodes position_of in
     let under : SpellsUnder head (length earlier) (node_line (length earlier) node) node = subst (λ (t : List ℕ). SpellsUnder head (length earlier) t node) takes.under.spells.spelled takes.under in
@@ -169,18 +180,23 @@ AreJudged-push head nodes node earlier kept text e judged takes =
       each = each_push head nodes node judged.each (subst (λ (i : ℕ). MeetsRules head (map position_of nodes) (i + 1 == head.count) node) count (subst (λ (ps : List Position). MeetsRules head ps (length earlier + 1 == head.count) node) e takes.meets));
     }
 
-pub positions_push : (nodes : List AnyNode) (node : AnyNode) (earlier kept : List Position) → earlier ≡ map position_of nodes → kept ≡ earlier ++ position_of node ∷ [] → kept ≡ map position_of (nodes ++ node ∷ [])
+pub positions_push : (nodes : List AnyNode) (node : AnyNode) (earlier kept : List Position) → earlier ≡ map position_of nodes → kept ≡ earlier ++ position_of node ∷ []
+    → kept ≡ map position_of (nodes ++ node ∷ [])
 positions_push nodes node earlier kept e put = put ∙ ap (λ ps. ps ++ position_of node ∷ []) e ∙ sym (map_push position_of nodes node)
 
 -- the lines of nodes were read, and then that of one more
-pub lines_push : (nodes : List AnyNode) (node : AnyNode) (number : ℕ) (text : List ℕ) (old mid new : ReaderState) (left mid_left new_left : Option (List ℕ)) → number ≡ length nodes → text ≡ node_line number node → ReadsLines (node_lines 0 nodes) old mid left mid_left → ReadsLines (text ∷ []) mid new mid_left new_left → ReadsLines (node_lines 0 (nodes ++ node ∷ [])) old new left new_left
+pub lines_push : (nodes : List AnyNode) (node : AnyNode) (number : ℕ) (text : List ℕ) (old mid new : ReaderState) (left mid_left new_left : Option (List ℕ))
+    → number ≡ length nodes → text ≡ node_line number node → ReadsLines (node_lines 0 nodes) old mid left mid_left → ReadsLines (text ∷ []) mid new mid_left new_left
+    → ReadsLines (node_lines 0 (nodes ++ node ∷ [])) old new left new_left
 lines_push nodes node number text old mid new left mid_left new_left count spelled a b =
     let same : node_line number node ≡ node_line (0 + length nodes) node = ap (λ (i : ℕ). node_line i node) (omega (arith, count)) in
     subst (λ (lines : List (List ℕ)). ReadsLines lines old new left new_left) (ap (λ (line : List ℕ). node_lines 0 nodes ++ line ∷ []) (spelled ∙ same) ∙ sym (node_lines_push 0 nodes node))
     (ReadsLines-then (node_lines 0 nodes) (text ∷ []) old mid new left mid_left new_left a b)
 
 -- the node after these was refused
-pub RefusesNode-from : (head : Head) (nodes : List AnyNode) (earlier : List Position) (fault : CheckFault) (old mid : ReaderState) (left mid_left new_left : Option (List ℕ)) → head.start ≡ 5 → earlier ≡ map position_of nodes → length nodes < head.count → AreJudged head nodes → ReadsLines (node_lines 0 nodes) old mid left mid_left → RefusesNext (5 + length earlier) (IsNodeLine head (length earlier)) (IsBrokenNodeLine head earlier) fault mid mid_left new_left → RefusesNode head fault old left new_left
+pub RefusesNode-from : (head : Head) (nodes : List AnyNode) (earlier : List Position) (fault : CheckFault) (old mid : ReaderState) (left mid_left new_left : Option (List ℕ))
+    → head.start ≡ 5 → earlier ≡ map position_of nodes → length nodes < head.count → AreJudged head nodes → ReadsLines (node_lines 0 nodes) old mid left mid_left
+    → RefusesNext (5 + length earlier) (IsNodeLine head (length earlier)) (IsBrokenNodeLine head earlier) fault mid mid_left new_left → RefusesNode head fault old left new_left
 RefusesNode-from head nodes earlier fault old mid left mid_left new_left start e few judged reads refused =
     let count : length earlier ≡ length nodes = ap length e ∙ length-map nodes position_of in
     let place : 5 + length nodes ≡ head.start + length nodes = omega (arith, start) in
@@ -196,7 +212,9 @@ RefusesNode-from head nodes earlier fault old mid left mid_left new_left start e
     }
 
 -- a node was read, and memory was refused
-pub RefusesNode-memory : (head : Head) (nodes : List AnyNode) (earlier : List Position) (text : List ℕ) (old mid new : ReaderState) (left mid_left new_left : Option (List ℕ)) → head.start ≡ 5 → earlier ≡ map position_of nodes → length nodes < head.count → AreJudged head nodes → ReadsLines (node_lines 0 nodes) old mid left mid_left → ReadsLines (text ∷ []) mid new mid_left new_left → RefusesNode head Memory old left new_left
+pub RefusesNode-memory : (head : Head) (nodes : List AnyNode) (earlier : List Position) (text : List ℕ) (old mid new : ReaderState) (left mid_left new_left : Option (List ℕ))
+    → head.start ≡ 5 → earlier ≡ map position_of nodes → length nodes < head.count → AreJudged head nodes → ReadsLines (node_lines 0 nodes) old mid left mid_left
+    → ReadsLines (text ∷ []) mid new mid_left new_left → RefusesNode head Memory old left new_left
 RefusesNode-memory head nodes earlier text old mid new left mid_left new_left start e few judged reads more =
     RefusesNode-from head nodes earlier Memory old mid left mid_left new_left start e few judged reads
     (refuses_memory (IsWrongNext (5 + length earlier) (IsNodeLine head (length earlier)) (IsBrokenNodeLine head earlier)) (text ∷ []) mid new mid_left new_left more (λ bytes. tt))

@@ -69,12 +69,14 @@ told_split bytes read None gone = absurd cc
 told_split bytes read (Some more) gone = let same : bytes ≡ read ++ more = cc in (more, refl, same)
 
 -- the lines stand first in all bytes too
-pub stand_in_all : (lines : List (List ℕ)) (old new : ReaderState) (bytes more : List ℕ) (left new_left : Option (List ℕ)) (r : ReadsLines lines old new left new_left) → bytes ≡ r.read ++ more → StandFirst lines (old.held ++ bytes) (new.held ++ more)
+pub stand_in_all : (lines : List (List ℕ)) (old new : ReaderState) (bytes more : List ℕ) (left new_left : Option (List ℕ)) (r : ReadsLines lines old new left new_left)
+    → bytes ≡ r.read ++ more → StandFirst lines (old.held ++ bytes) (new.held ++ more)
 stand_in_all lines old new bytes more left new_left r e =
     subst (λ (all : List ℕ). StandFirst lines all (new.held ++ more)) (append_assoc old.held r.read more ∙ ap (λ all. old.held ++ all) (sym e))
     (StandFirst-more lines (old.held ++ r.read) new.held more r.stand)
 
-pub ReadsLines-then : (first next : List (List ℕ)) (old mid new : ReaderState) (left mid_left new_left : Option (List ℕ)) → ReadsLines first old mid left mid_left → ReadsLines next mid new mid_left new_left → ReadsLines (first ++ next) old new left new_left
+pub ReadsLines-then : (first next : List (List ℕ)) (old mid new : ReaderState) (left mid_left new_left : Option (List ℕ)) → ReadsLines first old mid left mid_left
+    → ReadsLines next mid new mid_left new_left → ReadsLines (first ++ next) old new left new_left
 ReadsLines-then first next old mid new left mid_left new_left a b = record {
   open_still = b.open_still;
   read = a.read ++ b.read;
@@ -94,7 +96,8 @@ ReadsLines-none old left open_still = record {
 
 -- ---- one call of the reader
 
-pub reads_one : (text : List ℕ) (old new : ReaderState) (left new_left : Option (List ℕ)) → IsLine text → new.ending ≡ None → ReadsOn old.held (with_lf text ++ new.held) left new_left → ReadsLines (text ∷ []) old new left new_left
+pub reads_one : (text : List ℕ) (old new : ReaderState) (left new_left : Option (List ℕ)) → IsLine text → new.ending ≡ None
+    → ReadsOn old.held (with_lf text ++ new.held) left new_left → ReadsLines (text ∷ []) old new left new_left
 reads_one text old new left new_left whole open_still reads = record {
   open_still = open_still;
   read = reads.0;
@@ -114,7 +117,8 @@ stands_text : (Form : List ℕ → Type 0) (bytes : List ℕ) → HasNext Form b
 stands_text Form bytes next = (next.line, next.rest, next.whole, next.split)
 
 -- where another thing stands next, no whole line does
-no_next : (number : ℕ) (other : Line) (bytes : List ℕ) → (other ≡ Text → ⊥) → StandsNext other bytes → IsWrongAfter [] (IsWrongNext number AnyLine NoRule) (Rejected number why.Syntax) bytes
+no_next : (number : ℕ) (other : Line) (bytes : List ℕ) → (other ≡ Text → ⊥) → StandsNext other bytes
+    → IsWrongAfter [] (IsWrongNext number AnyLine NoRule) (Rejected number why.Syntax) bytes
 no_next number other bytes differs h =
     (bytes, StandFirst-none bytes, (refl, λ next. differs (StandsNext-only other Text bytes h (stands_text AnyLine bytes next))))
 
@@ -122,7 +126,9 @@ not_read : (line : ℕ) (fault : Why) → Rejected line fault ≡ Read → ⊥
 not_read line fault e = absurd cc
 
 -- no whole line stands next
-pub refuses_ending : (number : ℕ) (other : Line) (text : List ℕ) (old new : ReaderState) (left new_left : Option (List ℕ)) → (other ≡ Text → ⊥) → ReadsOn old.held (line_given {E = Failed} (Ok other) text ++ new.held) left new_left → StandsNext other (line_given {E = Failed} (Ok other) text ++ new.held) → IfSome (to_come old left) (StandsNext other) → RefusesNext number AnyLine NoRule (Rejected number why.Syntax) old left new_left
+pub refuses_ending : (number : ℕ) (other : Line) (text : List ℕ) (old new : ReaderState) (left new_left : Option (List ℕ)) → (other ≡ Text → ⊥)
+    → ReadsOn old.held (line_given {E = Failed} (Ok other) text ++ new.held) left new_left → StandsNext other (line_given {E = Failed} (Ok other) text ++ new.held)
+    → IfSome (to_come old left) (StandsNext other) → RefusesNext number AnyLine NoRule (Rejected number why.Syntax) old left new_left
 refuses_ending number other text old new left new_left differs reads shown answer = record {
   read = reads.0;
   gone = reads.2;
@@ -132,7 +138,8 @@ refuses_ending number other text old new left new_left differs reads shown answe
 }
 
 -- a read failed
-pub refuses_read : (number : ℕ) (Form : List ℕ → Type 0) (Breaking : Rule → List ℕ → Type 0) (old new : ReaderState) (left new_left : Option (List ℕ)) → ReadsOn old.held new.held left new_left → HasNoLf new.held → RefusesNext number Form Breaking Read old left new_left
+pub refuses_read : (number : ℕ) (Form : List ℕ → Type 0) (Breaking : Rule → List ℕ → Type 0) (old new : ReaderState) (left new_left : Option (List ℕ))
+    → ReadsOn old.held new.held left new_left → HasNoLf new.held → RefusesNext number Form Breaking Read old left new_left
 refuses_read number Form Breaking old new left new_left reads none = record {
   read = reads.0;
   gone = reads.2;
@@ -144,14 +151,16 @@ refuses_read number Form Breaking old new left new_left reads none = record {
 -- ---- a whole line stood next
 
 -- what was wrong next is so for a stricter form, and for rules that the line does not come to
-pub refuses_form_of : (number : ℕ) (Form : List ℕ → Type 0) (Breaking : Rule → List ℕ → Type 0) (fault : CheckFault) (bytes : List ℕ) → IsWrongAfter [] (IsWrongNext number AnyLine NoRule) fault bytes → IsWrongAfter [] (IsWrongNext number Form Breaking) fault bytes
+pub refuses_form_of : (number : ℕ) (Form : List ℕ → Type 0) (Breaking : Rule → List ℕ → Type 0) (fault : CheckFault) (bytes : List ℕ)
+    → IsWrongAfter [] (IsWrongNext number AnyLine NoRule) fault bytes → IsWrongAfter [] (IsWrongNext number Form Breaking) fault bytes
 refuses_form_of number Form Breaking (Rejected line why.Syntax) bytes h =
     (h.0, h.1, (h.2.0, λ next. h.2.1 (record { line = next.line; rest = next.rest; whole = next.whole; split = next.split; form = tt })))
 refuses_form_of number Form Breaking (Rejected line (why.Rule rule)) bytes h = absurd h.2.1.form
 refuses_form_of number Form Breaking Read bytes h = (h.0, h.1, tt)
 refuses_form_of number Form Breaking Memory bytes h = (h.0, h.1, tt)
 
-pub refuses_next : (number : ℕ) (Form : List ℕ → Type 0) (Breaking : Rule → List ℕ → Type 0) (fault : CheckFault) (old : ReaderState) (left new_left : Option (List ℕ)) → RefusesNext number AnyLine NoRule fault old left new_left → RefusesNext number Form Breaking fault old left new_left
+pub refuses_next : (number : ℕ) (Form : List ℕ → Type 0) (Breaking : Rule → List ℕ → Type 0) (fault : CheckFault) (old : ReaderState) (left new_left : Option (List ℕ))
+    → RefusesNext number AnyLine NoRule fault old left new_left → RefusesNext number Form Breaking fault old left new_left
 refuses_next number Form Breaking fault old left new_left r = record {
   read = r.read;
   gone = r.gone;
@@ -161,7 +170,9 @@ refuses_next number Form Breaking fault old left new_left r = record {
 }
 
 -- what is wrong with the line that stood next is wrong in all bytes
-refuses_given : (Wrong : CheckFault → List ℕ → Type 0) (line : ℕ) (fault : Why) (lines : List (List ℕ)) (old new : ReaderState) (left new_left : Option (List ℕ)) → ReadsLines lines old new left new_left → ((bytes rest : List ℕ) → StandFirst lines bytes rest → Wrong (Rejected line fault) bytes) → RefusesAfter [] Wrong (Rejected line fault) old left new_left
+refuses_given : (Wrong : CheckFault → List ℕ → Type 0) (line : ℕ) (fault : Why) (lines : List (List ℕ)) (old new : ReaderState) (left new_left : Option (List ℕ))
+    → ReadsLines lines old new left new_left → ((bytes rest : List ℕ) → StandFirst lines bytes rest → Wrong (Rejected line fault) bytes)
+    → RefusesAfter [] Wrong (Rejected line fault) old left new_left
 refuses_given Wrong line fault lines old new left new_left r wrong = record {
   read = r.read;
   gone = r.gone;
@@ -173,7 +184,8 @@ refuses_given Wrong line fault lines old new left new_left r wrong = record {
 }
 
 -- a whole line stood next that is not of the form
-pub refuses_form : (number : ℕ) (Form : List ℕ → Type 0) (Breaking : Rule → List ℕ → Type 0) (text : List ℕ) (old new : ReaderState) (left new_left : Option (List ℕ)) → ReadsLines (text ∷ []) old new left new_left → (Form text → ⊥) → RefusesNext number Form Breaking (Rejected number why.Syntax) old left new_left
+pub refuses_form : (number : ℕ) (Form : List ℕ → Type 0) (Breaking : Rule → List ℕ → Type 0) (text : List ℕ) (old new : ReaderState) (left new_left : Option (List ℕ))
+    → ReadsLines (text ∷ []) old new left new_left → (Form text → ⊥) → RefusesNext number Form Breaking (Rejected number why.Syntax) old left new_left
 refuses_form number Form Breaking text old new left new_left r never =
     refuses_given (IsWrongNext number Form Breaking) number why.Syntax (text ∷ []) old new left new_left r (λ bytes rest s. (refl, λ next. never (next_is text bytes rest Form s next)))
 
@@ -183,7 +195,8 @@ refuses_rule number Form Breaking rule text old new left new_left r breaks =
     refuses_given (IsWrongNext number Form Breaking) number (why.Rule rule) (text ∷ []) old new left new_left r (λ bytes rest s. (refl, HasNext-from text bytes rest (Breaking rule) s breaks))
 
 -- lines were read, and memory was refused
-pub refuses_memory : (Wrong : CheckFault → List ℕ → Type 0) (lines : List (List ℕ)) (old new : ReaderState) (left new_left : Option (List ℕ)) → ReadsLines lines old new left new_left → ((bytes : List ℕ) → Wrong Memory bytes) → RefusesAfter [] Wrong Memory old left new_left
+pub refuses_memory : (Wrong : CheckFault → List ℕ → Type 0) (lines : List (List ℕ)) (old new : ReaderState) (left new_left : Option (List ℕ))
+    → ReadsLines lines old new left new_left → ((bytes : List ℕ) → Wrong Memory bytes) → RefusesAfter [] Wrong Memory old left new_left
 refuses_memory Wrong lines old new left new_left r wrong = record {
   read = r.read;
   gone = r.gone;
@@ -202,7 +215,8 @@ refuses_line number Form Breaking Read text old new left new_left r h = absurd h
 refuses_line number Form Breaking Memory text old new left new_left r h = refuses_memory (IsWrongNext number Form Breaking) (text ∷ []) old new left new_left r (λ bytes. tt)
 
 -- lines were read before those after which something was refused
-wrong_after : (first given : List (List ℕ)) (Wrong : CheckFault → List ℕ → Type 0) (fault : CheckFault) (bytes mid : List ℕ) → StandFirst first bytes mid → IsWrongAfter given Wrong fault mid → IsWrongAfter (first ++ given) Wrong fault bytes
+wrong_after : (first given : List (List ℕ)) (Wrong : CheckFault → List ℕ → Type 0) (fault : CheckFault) (bytes mid : List ℕ) → StandFirst first bytes mid
+    → IsWrongAfter given Wrong fault mid → IsWrongAfter (first ++ given) Wrong fault bytes
 wrong_after first given Wrong fault bytes mid s h = (h.0, StandFirst-then first given bytes mid h.0 s h.1, h.2)
 
 pub RefusesAfter-then : (first given : List (List ℕ)) (Wrong : CheckFault → List ℕ → Type 0) (fault : CheckFault) (old mid : ReaderState) (left mid_left new_left : Option (List ℕ)) → ReadsLines first old mid left mid_left → RefusesAfter given Wrong fault mid mid_left new_left → RefusesAfter (first ++ given) Wrong fault old left new_left
@@ -239,7 +253,8 @@ err_so P Q (Ok x) h k = tt
 err_so P Q (Err fault) h k = h fault k
 
 -- the line after those that were given was refused
-pub RefusesNext-after : (given : List (List ℕ)) (Wrong : CheckFault → List ℕ → Type 0) (fault : CheckFault) (old mid : ReaderState) (left mid_left new_left : Option (List ℕ)) → ReadsLines given old mid left mid_left → RefusesAfter [] Wrong fault mid mid_left new_left → RefusesAfter given Wrong fault old left new_left
+pub RefusesNext-after : (given : List (List ℕ)) (Wrong : CheckFault → List ℕ → Type 0) (fault : CheckFault) (old mid : ReaderState) (left mid_left new_left : Option (List ℕ))
+    → ReadsLines given old mid left mid_left → RefusesAfter [] Wrong fault mid mid_left new_left → RefusesAfter given Wrong fault old left new_left
 RefusesNext-after given Wrong fault old mid left mid_left new_left a b =
     subst (λ (lines : List (List ℕ)). RefusesAfter lines Wrong fault old left new_left) (append-nil given) (RefusesAfter-then given [] Wrong fault old mid left mid_left new_left a b)
 
@@ -250,7 +265,9 @@ front_nil [] ys e = refl
 front_nil (x ∷ xs) ys e = absurd cc
 
 -- bytes stood where the input is to end
-pub refuses_past : (number : ℕ) (other : Line) (text : List ℕ) (old new : ReaderState) (left new_left : Option (List ℕ)) → (other ≡ End → ⊥) → ReadsOn old.held (line_given {E = Failed} (Ok other) text ++ new.held) left new_left → StandsNext other (line_given {E = Failed} (Ok other) text ++ new.held) → RefusesAfter [] (IsPastEnd number) (Rejected number why.Syntax) old left new_left
+pub refuses_past : (number : ℕ) (other : Line) (text : List ℕ) (old new : ReaderState) (left new_left : Option (List ℕ)) → (other ≡ End → ⊥)
+    → ReadsOn old.held (line_given {E = Failed} (Ok other) text ++ new.held) left new_left → StandsNext other (line_given {E = Failed} (Ok other) text ++ new.held)
+    → RefusesAfter [] (IsPastEnd number) (Rejected number why.Syntax) old left new_left
 refuses_past number other text old new left new_left differs reads shown =
     let some : (old.held ++ reads.0 ≡ [] → ⊥) = λ none. differs (StandsNext-only other End (old.held ++ reads.0) (subst (StandsNext other) reads.1 shown) none) in
     record {
@@ -264,7 +281,8 @@ refuses_past number other text old new left new_left differs reads shown =
     }
 
 -- a read failed where the input is to end
-pub past_read : (number : ℕ) (old new : ReaderState) (left new_left : Option (List ℕ)) → ReadsOn old.held new.held left new_left → HasNoLf new.held → RefusesAfter [] (IsPastEnd number) Read old left new_left
+pub past_read : (number : ℕ) (old new : ReaderState) (left new_left : Option (List ℕ)) → ReadsOn old.held new.held left new_left → HasNoLf new.held
+    → RefusesAfter [] (IsPastEnd number) Read old left new_left
 past_read number old new left new_left reads none = record {
   read = reads.0;
   gone = reads.2;
@@ -278,7 +296,8 @@ nil_parts [] ys e = (refl, e)
 nil_parts (x ∷ xs) ys e = absurd cc
 
 -- the input ended
-pub reads_end : (text : List ℕ) (old new : ReaderState) (left new_left : Option (List ℕ)) → ReadsOn old.held (line_given {E = Failed} (Ok End) text ++ new.held) left new_left → StandsNext End (line_given {E = Failed} (Ok End) text ++ new.held) → IfSome (to_come old left) (StandsNext End) → ReadsEnd old left new_left
+pub reads_end : (text : List ℕ) (old new : ReaderState) (left new_left : Option (List ℕ)) → ReadsOn old.held (line_given {E = Failed} (Ok End) text ++ new.held) left new_left
+    → StandsNext End (line_given {E = Failed} (Ok End) text ++ new.held) → IfSome (to_come old left) (StandsNext End) → ReadsEnd old left new_left
 reads_end text old new left new_left reads shown answer =
     let parts = nil_parts old.held reads.0 (sym reads.1 ∙ shown) in
     record {
@@ -289,7 +308,9 @@ reads_end text old new left new_left reads shown answer =
           (nil_parts reads.0 rest (nil_parts old.held (reads.0 ++ rest) (told_at (StandsNext End) (to_come old left) (old.held ++ (reads.0 ++ rest)) answer (ap (prepend_known old.held) all))).1).1);
     }
 
-pub ended : (other : Line) (text : List ℕ) (old new : ReaderState) (left new_left : Option (List ℕ)) → other ≡ End → ReadsOn old.held (line_given {E = Failed} (Ok other) text ++ new.held) left new_left → StandsNext other (line_given {E = Failed} (Ok other) text ++ new.held) → IfSome (to_come old left) (StandsNext other) → ReadsEnd old left new_left
+pub ended : (other : Line) (text : List ℕ) (old new : ReaderState) (left new_left : Option (List ℕ)) → other ≡ End
+    → ReadsOn old.held (line_given {E = Failed} (Ok other) text ++ new.held) left new_left → StandsNext other (line_given {E = Failed} (Ok other) text ++ new.held)
+    → IfSome (to_come old left) (StandsNext other) → ReadsEnd old left new_left
 ended End text old new left new_left e reads shown answer = reads_end text old new left new_left reads shown answer
 ended Text text old new left new_left e reads shown answer = absurd cc
 ended TooLong text old new left new_left e reads shown answer = absurd cc

@@ -84,7 +84,8 @@ act_formed One (Reply entries) h = tt
 act_formed Two act h = tt
 
 -- nodes that were judged under a head are legal
-pub legal_from : (wanted : Wanted) (head : Head) (kept : Nodes) → IsHead wanted head → length (nodes_of kept) ≡ head.count → AreJudged head (nodes_of kept) → AreLegalNodes head.format head.game (sizes_of head.game) kept
+pub legal_from : (wanted : Wanted) (head : Head) (kept : Nodes) → IsHead wanted head → length (nodes_of kept) ≡ head.count → AreJudged head (nodes_of kept)
+    → AreLegalNodes head.format head.game (sizes_of head.game) kept
 legal_from wanted head (nodes.Adversary list) is number judged =
     let count : length list ≡ head.count = sym (length-map list of_adversary) ∙ number in
     record {
@@ -105,23 +106,27 @@ legal_from wanted head (nodes.Algorithm list) is number judged =
     }
 
 -- the nodes of a side, as a strategy keeps them
-strip_adversary : (list : List AnyNode) → ((k : ℕ) (node : AnyNode) → slice_get list k ≡ Some node → side_of_node node ≡ Adversary) → (kept : List AdvNode) × (map of_adversary kept ≡ list)
+strip_adversary : (list : List AnyNode) → ((k : ℕ) (node : AnyNode) → slice_get list k ≡ Some node → side_of_node node ≡ Adversary)
+    → (kept : List AdvNode) × (map of_adversary kept ≡ list)
 strip_adversary [] h = ([], refl)
 strip_adversary (of_adversary node ∷ list) h = let r = strip_adversary list (λ k n e. h (suc k) n e) in (node ∷ r.0, ap (λ ns. of_adversary node ∷ ns) r.1)
 strip_adversary (of_algorithm node ∷ list) h = let other : Algorithm ≡ Adversary = h zero (of_algorithm node) refl in absurd cc
 
-strip_algorithm : (list : List AnyNode) → ((k : ℕ) (node : AnyNode) → slice_get list k ≡ Some node → side_of_node node ≡ Algorithm) → (kept : List AlgNode) × (map of_algorithm kept ≡ list)
+strip_algorithm : (list : List AnyNode) → ((k : ℕ) (node : AnyNode) → slice_get list k ≡ Some node → side_of_node node ≡ Algorithm)
+    → (kept : List AlgNode) × (map of_algorithm kept ≡ list)
 strip_algorithm [] h = ([], refl)
 strip_algorithm (of_algorithm node ∷ list) h = let r = strip_algorithm list (λ k n e. h (suc k) n e) in (node ∷ r.0, ap (λ ns. of_algorithm node ∷ ns) r.1)
 strip_algorithm (of_adversary node ∷ list) h = let other : Adversary ≡ Algorithm = h zero (of_adversary node) refl in absurd cc
 
-strip : (side : Side) (list : List AnyNode) → ((k : ℕ) (node : AnyNode) → slice_get list k ≡ Some node → side_of_node node ≡ side) → (kept : Nodes) × (nodes_of kept ≡ list) × (side_of kept ≡ side)
+strip : (side : Side) (list : List AnyNode) → ((k : ℕ) (node : AnyNode) → slice_get list k ≡ Some node → side_of_node node ≡ side)
+    → (kept : Nodes) × (nodes_of kept ≡ list) × (side_of kept ≡ side)
 strip Adversary list h = let r = strip_adversary list h in (nodes.Adversary r.0, r.1, refl)
 strip Algorithm list h = let r = strip_algorithm list h in (nodes.Algorithm r.0, r.1, refl)
 
 -- ---- a text that was read
 
-pub Spells-from : (wanted : Wanted) (head : Head) (kept : Nodes) (old new : ReaderState) (left new_left : Option (List ℕ)) → side_of kept ≡ head.side → ReadsText wanted head (nodes_of kept) old new left new_left → Spells wanted (record { format = head.format; game = head.game; nodes = kept }) old.held new.held left new_left
+pub Spells-from : (wanted : Wanted) (head : Head) (kept : Nodes) (old new : ReaderState) (left new_left : Option (List ℕ)) → side_of kept ≡ head.side
+    → ReadsText wanted head (nodes_of kept) old new left new_left → Spells wanted (record { format = head.format; game = head.game; nodes = kept }) old.held new.held left new_left
 Spells-from wanted head kept old new left new_left side r = record {
   legal = legal_from wanted head kept r.is_head r.number r.judged;
   wanted_side = subst (IsWanted wanted) (sym side) r.is_head.wanted_side;
@@ -132,7 +137,9 @@ Spells-from wanted head kept old new left new_left side r = record {
 }
 
 -- a text that was read to the end of the input
-pub Loads-from : (wanted : Wanted) (head : Head) (kept : Nodes) (old mid : ReaderState) (left mid_left new_left : Option (List ℕ)) → old.held ≡ [] → side_of kept ≡ head.side → ReadsText wanted head (nodes_of kept) old mid left mid_left → ReadsEnd mid mid_left new_left → Loads wanted (record { format = head.format; game = head.game; nodes = kept }) left new_left
+pub Loads-from : (wanted : Wanted) (head : Head) (kept : Nodes) (old mid : ReaderState) (left mid_left new_left : Option (List ℕ)) → old.held ≡ [] → side_of kept ≡ head.side
+    → ReadsText wanted head (nodes_of kept) old mid left mid_left → ReadsEnd mid mid_left new_left
+    → Loads wanted (record { format = head.format; game = head.game; nodes = kept }) left new_left
 Loads-from wanted head kept old mid left mid_left new_left fresh side text end =
     let s = Spells-from wanted head kept old mid left mid_left side text in
     record {
@@ -146,7 +153,9 @@ Loads-from wanted head kept old mid left mid_left new_left fresh side text end =
       whole = end.whole;
     }
 
-pub Accepts-from : (wanted : Wanted) (head : Head) (list : List AnyNode) (accepted : Accepted) (old mid : ReaderState) (left mid_left new_left : Option (List ℕ)) → old.held ≡ [] → ReadsText wanted head list old mid left mid_left → ReadsEnd mid mid_left new_left → accepted.game ≡ head.game → accepted.side ≡ head.side → accepted.nodes ≡ head.count → Accepts wanted accepted left new_left
+pub Accepts-from : (wanted : Wanted) (head : Head) (list : List AnyNode) (accepted : Accepted) (old mid : ReaderState) (left mid_left new_left : Option (List ℕ)) → old.held ≡ []
+    → ReadsText wanted head list old mid left mid_left → ReadsEnd mid mid_left new_left → accepted.game ≡ head.game → accepted.side ≡ head.side → accepted.nodes ≡ head.count
+    → Accepts wanted accepted left new_left
 Accepts-from wanted head list accepted old mid left mid_left new_left fresh r end game side number =
     let kept = strip head.side list (λ k node e. (r.judged.spelled k node e).side) in
     let text : ReadsText wanted head (nodes_of kept.0) old mid left mid_left = subst (λ (ns : List AnyNode). ReadsText wanted head ns old mid left mid_left) (sym kept.1) r in
@@ -159,7 +168,9 @@ Accepts-from wanted head list accepted old mid left mid_left new_left fresh r en
     }
 
 -- bytes past the end of a text were refused
-pub past_fault_of : (wanted : Wanted) (head : Head) (list : List AnyNode) (number : ℕ) (fault : CheckFault) (old mid : ReaderState) (left mid_left new_left : Option (List ℕ)) → old.held ≡ [] → 6 + head.count ≡ number → ReadsText wanted head list old mid left mid_left → RefusesAfter [] (IsPastEnd number) fault mid mid_left new_left → IsFaultOf wanted [] fault left new_left
+pub past_fault_of : (wanted : Wanted) (head : Head) (list : List AnyNode) (number : ℕ) (fault : CheckFault) (old mid : ReaderState) (left mid_left new_left : Option (List ℕ))
+    → old.held ≡ [] → 6 + head.count ≡ number → ReadsText wanted head list old mid left mid_left → RefusesAfter [] (IsPastEnd number) fault mid mid_left new_left
+    → IsFaultOf wanted [] fault left new_left
 past_fault_of wanted head list number fault old mid left mid_left new_left fresh place r refused =
     let at : number ≡ head.start + head.count + 1 = omega (arith, place, r.is_head.start) in
     subst (λ (held : List ℕ). IsFaultOf wanted held fault left new_left) fresh

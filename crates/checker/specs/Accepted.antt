@@ -14,7 +14,8 @@ use Rattle.checker.specs.declared.fault.Why.{Why}
 abbrev pub IsGone : List ℕ → Option (List ℕ) → Option (List ℕ) → Type 0
 IsGone read left new_left = left ≡ prepend_known read new_left
 
--- the strategy is legal and of a wanted side, and the bytes in hand, which are those held before and those read, are its text and what is held now
+-- the strategy is legal and of a wanted side, and the bytes in hand, which are those held before and those read, are
+-- its text and what is held now
 pub record Spells (wanted : Wanted) (strategy : Strategy) (held new_held : List ℕ) (left new_left : Option (List ℕ)) : Type 0 where
   pub legal : IsLegal strategy
   pub wanted_side : IsWanted wanted (side_of strategy.nodes)
@@ -31,7 +32,8 @@ pub record Loads (wanted : Wanted) (strategy : Strategy) (left new_left : Option
   pub spells : Spells wanted strategy [] [] left new_left
   pub whole : IsReadWhole new_left
 
--- a legal strategy of a wanted side stands after the answer, with its game, its side and its number of nodes; where the source tells its bytes, they are the strategy's text, and all of them were read
+-- a legal strategy of a wanted side stands after the answer, with its game, its side and its number of nodes; where the
+-- source tells its bytes, they are the strategy's text, and all of them were read
 pub record Accepts (wanted : Wanted) (accepted : Accepted) (left new_left : Option (List ℕ)) : Type 0 where
   pub strategy : Strategy
   pub loads : Loads wanted strategy left new_left
@@ -39,7 +41,8 @@ pub record Accepts (wanted : Wanted) (accepted : Accepted) (left new_left : Opti
   pub side : accepted.side ≡ side_of strategy.nodes
   pub number : accepted.nodes ≡ length (nodes_of strategy.nodes)
 
--- the bytes in hand, which are those held before and those read, have this first fault, and so has the whole input, where the source tells it
+-- the bytes in hand, which are those held before and those read, have this first fault, and so has the whole input,
+-- where the source tells it
 pub record Rejects (wanted : Wanted) (held : List ℕ) (line : ℕ) (fault : Why) (left new_left : Option (List ℕ)) : Type 0 where
   pub read : List ℕ
   pub gone : IsGone read left new_left

@@ -18,7 +18,8 @@ use Rattle.checker.specs.declared.fault.Why.TheVariants as why
 
 -- ---- lines of bytes
 
--- line n of the bytes, counted from 1, is whole and has at most 16,384 bytes: it stands after n - 1 lines, each with its line feed, and before its own
+-- line n of the bytes, counted from 1, is whole and has at most 16,384 bytes: it stands after n - 1 lines, each with
+-- its line feed, and before its own
 pub record HasLine (bytes : List ℕ) (n : ℕ) (line : List ℕ) : Type 0 where
   pub before : List (List ℕ)
   pub rest : List ℕ
@@ -49,7 +50,8 @@ abbrev pub IsWanted : Wanted → Side → Type 0
 IsWanted Either side = Unit {0}
 IsWanted (Only wanted) side = wanted ≡ side
 
--- a line that names some format; that spells the numbers of some game, be they in its ranges or not; that names some side; that spells some number of nodes
+-- a line that names some format; that spells the numbers of some game, be they in its ranges or not; that names some
+-- side; that spells some number of nodes
 abbrev pub IsFirstLine : List ℕ → Type 0
 IsFirstLine line = (format : Format) × (line ≡ first_line format)
 
@@ -73,13 +75,16 @@ pub record HasHead (wanted : Wanted) (bytes : List ℕ) (head : Head) : Type 0 w
   pub whole_game : head.sizes ≡ sizes_of head.game
   pub start : head.start ≡ 5
 
--- What is wrong with a head line. It has a syntax fault where it is missing, unfinished, too long, or not of the form of its place; a line of its form may break a rule.
+-- What is wrong with a head line. It has a syntax fault where it is missing, unfinished, too long, or not of the form
+-- of its place; a line of its form may break a rule.
 pub data HeadFault (wanted : Wanted) (bytes : List ℕ) : ℕ → Why → Type 0 where
   first_syntax : ¬ (HasForm bytes 1 IsFirstLine) → HeadFault wanted bytes 1 why.Syntax
   game_syntax : ¬ (HasForm bytes 2 IsGameLine) → HeadFault wanted bytes 2 why.Syntax
-  game_rule : (game : GameNumbers) → HasForm bytes 2 (λ line. SpellsGame line game) → ¬ (IsGame game) → HeadFault wanted bytes 2 (why.Rule rules.Game)
+  game_rule : (game : GameNumbers) → HasForm bytes 2 (λ line. SpellsGame line game) → ¬ (IsGame game)
+    → HeadFault wanted bytes 2 (why.Rule rules.Game)
   side_syntax : ¬ (HasForm bytes 3 IsSideLine) → HeadFault wanted bytes 3 why.Syntax
-  side_rule : (side : Side) → HasForm bytes 3 (λ line. line ≡ side_line side) → ¬ (IsWanted wanted side) → HeadFault wanted bytes 3 (why.Rule rules.Side)
+  side_rule : (side : Side) → HasForm bytes 3 (λ line. line ≡ side_line side) → ¬ (IsWanted wanted side)
+    → HeadFault wanted bytes 3 (why.Rule rules.Side)
   count_syntax : ¬ (HasForm bytes 4 IsCountLine) → HeadFault wanted bytes 4 why.Syntax
 
 -- ---- the lines after the head
@@ -89,19 +94,27 @@ abbrev pub HasPositions : List ℕ → Head → List Position → Type 0
 HasPositions bytes head positions =
     (k : ℕ) (position : Position) → slice_get positions k ≡ Some position → HasForm bytes (head.start + k) (IsNodeLineAt head k position)
 
--- What is wrong with a line after this head. A rule of a node is judged where all earlier lines of nodes are of their form; it cannot matter, since the least faulty line wins.
+-- What is wrong with a line after this head. A rule of a node is judged where all earlier lines of nodes are of their
+-- form; it cannot matter, since the least faulty line wins.
 pub data BodyFault (bytes : List ℕ) (head : Head) : ℕ → Why → Type 0 where
-  node_syntax : (k : ℕ) → k < head.count → ¬ (HasForm bytes (head.start + k) (IsNodeLine head k)) → BodyFault bytes head (head.start + k) why.Syntax
-  node_rule : (earlier : List Position) (rule : Rule) → length earlier < head.count → HasPositions bytes head earlier → HasForm bytes (head.start + length earlier) (IsBrokenNodeLine head earlier rule) → BodyFault bytes head (head.start + length earlier) (why.Rule rule)
-  end_syntax : ¬ (HasForm bytes (head.start + head.count) (λ line. line ≡ end_line)) → BodyFault bytes head (head.start + head.count) why.Syntax
-  past_syntax : HasBytesPast bytes (head.start + head.count) → BodyFault bytes head (head.start + head.count + 1) why.Syntax
+  node_syntax : (k : ℕ) → k < head.count → ¬ (HasForm bytes (head.start + k) (IsNodeLine head k))
+    → BodyFault bytes head (head.start + k) why.Syntax
+  node_rule : (earlier : List Position) (rule : Rule) → length earlier < head.count → HasPositions bytes head earlier
+    → HasForm bytes (head.start + length earlier) (IsBrokenNodeLine head earlier rule)
+    → BodyFault bytes head (head.start + length earlier) (why.Rule rule)
+  end_syntax : ¬ (HasForm bytes (head.start + head.count) (λ line. line ≡ end_line))
+    → BodyFault bytes head (head.start + head.count) why.Syntax
+  past_syntax : HasBytesPast bytes (head.start + head.count)
+    → BodyFault bytes head (head.start + head.count + 1) why.Syntax
 
 -- ---- faults
 
--- what is wrong with a line, where a side is wanted; lines after the head are judged only where the head lines have no fault
+-- what is wrong with a line, where a side is wanted; lines after the head are judged only where the head lines have no
+-- fault
 pub data LineFault (wanted : Wanted) (bytes : List ℕ) (line : ℕ) (fault : Why) : Type 0 where
   in_head : HeadFault wanted bytes line fault → LineFault wanted bytes line fault
-  in_body : (head : Head) → HasHead wanted bytes head → BodyFault bytes head line fault → LineFault wanted bytes line fault
+  in_body : (head : Head) → HasHead wanted bytes head → BodyFault bytes head line fault
+    → LineFault wanted bytes line fault
 
 -- the first fault: a line has it, and no line before that one has any
 pub record FirstFault (wanted : Wanted) (bytes : List ℕ) (line : ℕ) (fault : Why) : Type 0 where

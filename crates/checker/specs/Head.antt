@@ -18,7 +18,8 @@ use Rattle.adversary_graph.specs.Legal as adversary_legal
 use Rattle.algorithm_graph.specs.Rules as algorithm
 use Rattle.algorithm_graph.specs.Legal as algorithm_legal
 
--- what the head lines tell: the format, the game, the sizes that items may have, the side, how many nodes there are, and the number of the line of the first node
+-- what the head lines tell: the format, the game, the sizes that items may have, the side, how many nodes there are,
+-- and the number of the line of the first node
 pub record Head : Type 0 where
   pub format : Format
   pub game : GameNumbers

@@ -43,7 +43,8 @@ pub record HasNext (Form : List ℕ → Type 0) (bytes : List ℕ) : Type 0 wher
   pub split : bytes ≡ with_lf line ++ rest
   pub form : Form line
 
--- what is wrong at the start of these bytes, where a line of this number, of a form and which breaks no rule, is to stand
+-- what is wrong at the start of these bytes, where a line of this number, of a form and which breaks no rule, is to
+-- stand
 abbrev pub IsWrongNext : ℕ → (List ℕ → Type 0) → (Rule → List ℕ → Type 0) → CheckFault → List ℕ → Type 0
 IsWrongNext number Form Breaking (Rejected line why.Syntax) bytes = (line ≡ number) × (HasNext Form bytes → ⊥)
 IsWrongNext number Form Breaking (Rejected line (why.Rule rule)) bytes = (line ≡ number) × HasNext (Breaking rule) bytes
@@ -54,7 +55,8 @@ IsWrongNext number Form Breaking Memory bytes = Unit {0}
 abbrev pub IsWrongAfter : List (List ℕ) → (CheckFault → List ℕ → Type 0) → CheckFault → List ℕ → Type 0
 IsWrongAfter given Wrong fault bytes = (rest : List ℕ) × StandFirst given bytes rest × Wrong fault rest
 
--- These lines were given, and then something was refused: by the bytes in hand, which are those held and those read, and by all bytes, where the source tells them. Where a read failed, no line feed stands after these lines in hand.
+-- These lines were given, and then something was refused: by the bytes in hand, which are those held and those read,
+-- and by all bytes, where the source tells them. Where a read failed, no line feed stands after these lines in hand.
 pub record RefusesAfter (given : List (List ℕ)) (Wrong : CheckFault → List ℕ → Type 0) (fault : CheckFault) (old : ReaderState) (left new_left : Option (List ℕ)) : Type 0 where
   pub read : List ℕ
   pub gone : IsGone read left new_left
@@ -63,7 +65,8 @@ pub record RefusesAfter (given : List (List ℕ)) (Wrong : CheckFault → List �
   pub no_line : fault ≡ Read → (rest : List ℕ) × StandFirst given (old.held ++ read) rest × HasNoLf rest
 
 -- the next line was refused
-abbrev pub RefusesNext : ℕ → (List ℕ → Type 0) → (Rule → List ℕ → Type 0) → CheckFault → ReaderState → Option (List ℕ) → Option (List ℕ) → Type 0
+abbrev pub RefusesNext : ℕ → (List ℕ → Type 0) → (Rule → List ℕ → Type 0) → CheckFault → ReaderState → Option (List ℕ)
+    → Option (List ℕ) → Type 0
 RefusesNext number Form Breaking fault old left new_left = RefusesAfter [] (IsWrongNext number Form Breaking) fault old left new_left
 
 -- bytes stand where the input is to end
@@ -121,13 +124,15 @@ IsBrokenBy head earlier number node (Rejected line (why.Rule rule)) =
 IsBrokenBy head earlier number node Read = ⊥
 IsBrokenBy head earlier number node Memory = Unit {0}
 
--- the line spells a node that meets every rule as the one that follows the earlier ones, and its position was put after theirs
+-- the line spells a node that meets every rule as the one that follows the earlier ones, and its position was put after
+-- theirs
 pub record TakesNode (head : Head) (earlier kept : List Position) (node : AnyNode) (text : List ℕ) : Type 0 where
   pub under : SpellsUnder head (length earlier) text node
   pub meets : MeetsRules head earlier (length earlier + 1 == head.count) node
   pub put : kept ≡ earlier ++ position_of node ∷ []
 
--- the node that stood next was read: it meets every rule as the one that follows the earlier ones, and its position was put after theirs
+-- the node that stood next was read: it meets every rule as the one that follows the earlier ones, and its position was
+-- put after theirs
 pub record ReadsNode (head : Head) (earlier kept : List Position) (node : AnyNode) (old new : ReaderState) (left new_left : Option (List ℕ)) : Type 0 where
   pub text : List ℕ
   pub reads : ReadsLines (text ∷ []) old new left new_left

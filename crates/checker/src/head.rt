@@ -54,10 +54,12 @@ pub(crate) fn next_text<S: Source>(
 ) -> Result<(), CheckFault>
     requires { lines.old.ending ≡ None }
     ensures count { S.faults source.old ≤ S.faults source.new }
-    ensures ok { OnOk result (ReadsLines (lines.new.text ∷ []) lines.old lines.new (S.left source.old) (S.left source.new)) }
+    ensures ok { OnOk result (ReadsLines (lines.new.text ∷ []) lines.old lines.new (S.left source.old)
+        (S.left source.new)) }
     ensures line { OnOk result (IsLine lines.new.text) }
     ensures read { result ≡ Err Read → Rose (S.faults source.old) (S.faults source.new) }
-    ensures refused { IfErr result (λ fault. RefusesNext line AnyLine NoRule fault lines.old (S.left source.old) (S.left source.new)) }
+    ensures refused { IfErr result (λ fault. RefusesNext line AnyLine NoRule fault lines.old (S.left source.old)
+        (S.left source.new)) }
 {
     let Ok(found) = lines.next_line(source) else {
         return Err(CheckFault::Read);
@@ -79,9 +81,11 @@ fn is_text(found: Line) -> bool
 fn read_first<S: Source>(lines: &mut LineReader, source: &mut S) -> Result<Format, CheckFault>
     requires { lines.old.ending ≡ None }
     ensures count { S.faults source.old ≤ S.faults source.new }
-    ensures ok { IfOk result (λ format. ReadsLines (first_line format ∷ []) lines.old lines.new (S.left source.old) (S.left source.new)) }
+    ensures ok { IfOk result (λ format. ReadsLines (first_line format ∷ []) lines.old lines.new (S.left source.old)
+        (S.left source.new)) }
     ensures read { result ≡ Err Read → Rose (S.faults source.old) (S.faults source.new) }
-    ensures refused { IfErr result (λ fault. RefusesNext 1 IsFirstLine NoRule fault lines.old (S.left source.old) (S.left source.new)) }
+    ensures refused { IfErr result (λ fault. RefusesNext 1 IsFirstLine NoRule fault lines.old (S.left source.old)
+        (S.left source.new)) }
 {
     next_text(lines, source, 1)?;
     let Some(format) = parse_first(lines.text()) else {
@@ -93,10 +97,12 @@ fn read_first<S: Source>(lines: &mut LineReader, source: &mut S) -> Result<Forma
 fn read_game<S: Source>(lines: &mut LineReader, source: &mut S) -> Result<Game, CheckFault>
     requires { lines.old.ending ≡ None }
     ensures count { S.faults source.old ≤ S.faults source.new }
-    ensures ok { IfOk result (λ game. ReadsLines (game_line game ∷ []) lines.old lines.new (S.left source.old) (S.left source.new)) }
+    ensures ok { IfOk result (λ game. ReadsLines (game_line game ∷ []) lines.old lines.new (S.left source.old)
+        (S.left source.new)) }
     ensures legal { IfOk result IsGame }
     ensures read { result ≡ Err Read → Rose (S.faults source.old) (S.faults source.new) }
-    ensures refused { IfErr result (λ fault. RefusesNext 2 IsGameLine BreaksGame fault lines.old (S.left source.old) (S.left source.new)) }
+    ensures refused { IfErr result (λ fault. RefusesNext 2 IsGameLine BreaksGame fault lines.old (S.left source.old)
+        (S.left source.new)) }
 {
     next_text(lines, source, 2)?;
     let Some((m, g, t)) = parse_game(lines.text()) else {
@@ -125,10 +131,12 @@ fn read_side<S: Source>(
 ) -> Result<Side, CheckFault>
     requires { lines.old.ending ≡ None }
     ensures count { S.faults source.old ≤ S.faults source.new }
-    ensures ok { IfOk result (λ side. ReadsLines (side_line side ∷ []) lines.old lines.new (S.left source.old) (S.left source.new)) }
+    ensures ok { IfOk result (λ side. ReadsLines (side_line side ∷ []) lines.old lines.new (S.left source.old)
+        (S.left source.new)) }
     ensures wanted { IfOk result (IsWanted wanted) }
     ensures read { result ≡ Err Read → Rose (S.faults source.old) (S.faults source.new) }
-    ensures refused { IfErr result (λ fault. RefusesNext 3 IsSideLine (BreaksSide wanted) fault lines.old (S.left source.old) (S.left source.new)) }
+    ensures refused { IfErr result (λ fault. RefusesNext 3 IsSideLine (BreaksSide wanted) fault lines.old
+        (S.left source.old) (S.left source.new)) }
 {
     next_text(lines, source, 3)?;
     let Some(side) = parse_side(lines.text()) else {
@@ -143,10 +151,12 @@ fn read_side<S: Source>(
 fn read_count<S: Source>(lines: &mut LineReader, source: &mut S) -> Result<u32, CheckFault>
     requires { lines.old.ending ≡ None }
     ensures count { S.faults source.old ≤ S.faults source.new }
-    ensures ok { IfOk result (λ nodes. ReadsLines (count_line nodes ∷ []) lines.old lines.new (S.left source.old) (S.left source.new)) }
+    ensures ok { IfOk result (λ nodes. ReadsLines (count_line nodes ∷ []) lines.old lines.new (S.left source.old)
+        (S.left source.new)) }
     ensures range { IfOk result (λ nodes. (1 ≤ nodes) × (nodes ≤ most_nodes)) }
     ensures read { result ≡ Err Read → Rose (S.faults source.old) (S.faults source.new) }
-    ensures refused { IfErr result (λ fault. RefusesNext 4 IsCountLine NoRule fault lines.old (S.left source.old) (S.left source.new)) }
+    ensures refused { IfErr result (λ fault. RefusesNext 4 IsCountLine NoRule fault lines.old (S.left source.old)
+        (S.left source.new)) }
 {
     next_text(lines, source, 4)?;
     let Some(nodes) = parse_nodes(lines.text()) else {
@@ -163,10 +173,12 @@ pub(crate) fn read_head<S: Source>(
 ) -> Result<Head, CheckFault>
     requires { lines.old.ending ≡ None }
     ensures count { S.faults source.old ≤ S.faults source.new }
-    ensures ok { IfOk result (λ head. ReadsLines (lines_of_head (told_by head)) lines.old lines.new (S.left source.old) (S.left source.new)) }
+    ensures ok { IfOk result (λ head. ReadsLines (lines_of_head (told_by head)) lines.old lines.new (S.left source.old)
+        (S.left source.new)) }
     ensures legal { IfOk result (λ head. IsHead wanted (told_by head)) }
     ensures read { result ≡ Err Read → Rose (S.faults source.old) (S.faults source.new) }
-    ensures refused { IfErr result (λ fault. IsFaultOf wanted lines.old.held fault (S.left source.old) (S.left source.new)) }
+    ensures refused { IfErr result (λ fault. IsFaultOf wanted lines.old.held fault (S.left source.old)
+        (S.left source.new)) }
 {
     let format = read_first(lines, source)?;
     let game = read_game(lines, source)?;

@@ -9,3 +9,6 @@ mod reading;
 
 pub use fault::{Accepted, CheckFault, Wanted, Why};
 pub use reading::{check, load, load_from};
+
+#[cfg(test)]
+mod tests;

@@ -33,8 +33,10 @@ fn parse_node(
     line: &[u8],
     number: u32,
 ) -> Result<Option<Node>, AllocError>
-    ensures spelled { IfOk result (λ read. IfSome read (λ node. SpellsUnder (told_by head.now) number line.now (any_node node))) }
-    ensures refused { IfOk result (λ read. IfNone read ((node : AnyNode) → SpellsUnder (told_by head.now) number line.now node → ⊥)) }
+    ensures spelled { IfOk result (λ read. IfSome read (λ node. SpellsUnder (told_by head.now) number line.now
+        (any_node node))) }
+    ensures refused { IfOk result (λ read. IfNone read ((node : AnyNode) → SpellsUnder
+        (told_by head.now) number line.now node → ⊥)) }
 {
     match head.side {
         Side::Adversary => {
@@ -79,7 +81,8 @@ fn judge_node(
 // The node of this number that a line spells; a line that spells none is refused.
 fn next_node(alloc: Global, head: &Head, text: &[u8], number: u32) -> Result<Node, CheckFault>
     ensures ok { IfOk result (λ node. SpellsUnder (told_by head.now) number text.now (any_node node)) }
-    ensures err { IfErr result (λ fault. IsRefusedLine (5 + number) (IsNodeLine (told_by head.now) number) NoRule fault text.now) }
+    ensures err { IfErr result (λ fault. IsRefusedLine (5 + number) (IsNodeLine
+        (told_by head.now) number) NoRule fault text.now) }
 {
     match parse_node(alloc, head, text, number)? {
         Some(node) => Ok(node),
@@ -98,7 +101,8 @@ fn next_position(
     requires number { number ≡ length earlier.now }
     requires most { number < most_nodes }
     requires spellable { IsSpellableNode head.now.format (any_node node.now) }
-    ensures ok { IfOk result (λ position. (position ≡ position_of (any_node node.now)) × MeetsRules (told_by head.now) earlier.now (length earlier.now + 1 == head.now.count) (any_node node.now)) }
+    ensures ok { IfOk result (λ position. (position ≡ position_of (any_node node.now)) × MeetsRules
+        (told_by head.now) earlier.now (length earlier.now + 1 == head.now.count) (any_node node.now)) }
     ensures err { IfErr result (IsBrokenBy (told_by head.now) earlier.now (5 + number) (any_node node.now)) }
 {
     match judge_node(alloc, head, earlier, number + 1 == head.count, node)? {
@@ -117,7 +121,8 @@ fn take_node(
     requires few { length earlier.old < head.now.count }
     requires most { head.now.count ≤ most_nodes }
     ensures ok { IfOk result (λ node. TakesNode (told_by head.now) earlier.old earlier.new (any_node node) text.now) }
-    ensures err { IfErr result (λ fault. IsRefusedLine (5 + length earlier.old) (IsNodeLine (told_by head.now) (length earlier.old)) (IsBrokenNodeLine (told_by head.now) earlier.old) fault text.now) }
+    ensures err { IfErr result (λ fault. IsRefusedLine (5 + length earlier.old) (IsNodeLine (told_by head.now)
+        (length earlier.old)) (IsBrokenNodeLine (told_by head.now) earlier.old) fault text.now) }
 {
     let number = earlier.len() as u32;
     let node = next_node(alloc, head, text, number)?;
@@ -138,9 +143,12 @@ pub(crate) fn read_node<S: Source>(
     requires few { length earlier.old < head.now.count }
     requires most { head.now.count ≤ most_nodes }
     ensures count { S.faults source.old ≤ S.faults source.new }
-    ensures ok { IfOk result (λ node. ReadsNode (told_by head.now) earlier.old earlier.new (any_node node) lines.old lines.new (S.left source.old) (S.left source.new)) }
+    ensures ok { IfOk result (λ node. ReadsNode (told_by head.now) earlier.old earlier.new
+        (any_node node) lines.old lines.new (S.left source.old) (S.left source.new)) }
     ensures read { result ≡ Err Read → Rose (S.faults source.old) (S.faults source.new) }
-    ensures refused { IfErr result (λ fault. RefusesNext (5 + length earlier.old) (IsNodeLine (told_by head.now) (length earlier.old)) (IsBrokenNodeLine (told_by head.now) earlier.old) fault lines.old (S.left source.old) (S.left source.new)) }
+    ensures refused { IfErr result (λ fault. RefusesNext (5 + length earlier.old) (IsNodeLine (told_by head.now)
+        (length earlier.old)) (IsBrokenNodeLine (told_by head.now) earlier.old) fault lines.old (S.left source.old)
+        (S.left source.new)) }
 {
     next_text(lines, source, 5 + earlier.len() as u64)?;
     take_node(alloc, head, earlier, lines.text())

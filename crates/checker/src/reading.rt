@@ -3,6 +3,8 @@
 ghost use Rattle.std.specs.Prelude.{◌≡◌, ◌↔◌, ◌∷◌, [], ◌++◌, ◌≤◌, IsTrue, None, Err, IfOk, IfErr, OnOk, List};
 ghost use Rattle.port_io.specs.Faults.{Rose};
 ghost use Rattle.port_io.specs.declared.lines.Line.TheVariants.{End};
+ghost use Rattle.online_play.specs.Algorithm.{ForcesEvery};
+ghost use Rattle.strategy_text.specs.declared.node.Side.TheVariants.{Adversary};
 ghost use Rattle.strategy_text.specs.Spelling.{most_nodes};
 ghost use Rattle.strategy_text.specs.Text.{AnyNode, end_line, nodes_of, side_of};
 ghost use Rattle.checker.specs.Accepted.{Accepts, Loads, Spells, IsFaultOf};
@@ -29,9 +31,11 @@ fn judge_nodes<S: Source>(
     requires open_still { lines.old.ending ≡ None }
     requires most { head.now.count ≤ most_nodes }
     ensures count { S.faults source.old ≤ S.faults source.new }
-    ensures ok { OnOk result ((nodes : List AnyNode) × ReadsNodes (told_by head.now) nodes lines.old lines.new (S.left source.old) (S.left source.new)) }
+    ensures ok { OnOk result ((nodes : List AnyNode) × ReadsNodes (told_by head.now) nodes lines.old lines.new
+        (S.left source.old) (S.left source.new)) }
     ensures read { result ≡ Err Read → Rose (S.faults source.old) (S.faults source.new) }
-    ensures refused { IfErr result (λ fault. RefusesNode (told_by head.now) fault lines.old (S.left source.old) (S.left source.new)) }
+    ensures refused { IfErr result (λ fault. RefusesNode (told_by head.now) fault lines.old (S.left source.old)
+        (S.left source.new)) }
 {
     let mut positions = PackedPositions::new(alloc);
     for k in 0..head.count {
@@ -77,10 +81,12 @@ fn keep_nodes<S: Source>(
     requires none { nodes_of nodes.old ≡ [] }
     requires side { side_of nodes.old ≡ head.now.side }
     ensures count { S.faults source.old ≤ S.faults source.new }
-    ensures ok { OnOk result (ReadsNodes (told_by head.now) (nodes_of nodes.new) lines.old lines.new (S.left source.old) (S.left source.new)) }
+    ensures ok { OnOk result (ReadsNodes (told_by head.now) (nodes_of nodes.new) lines.old lines.new (S.left source.old)
+        (S.left source.new)) }
     ensures side { OnOk result (side_of nodes.new ≡ head.now.side) }
     ensures read { result ≡ Err Read → Rose (S.faults source.old) (S.faults source.new) }
-    ensures refused { IfErr result (λ fault. RefusesNode (told_by head.now) fault lines.old (S.left source.old) (S.left source.new)) }
+    ensures refused { IfErr result (λ fault. RefusesNode (told_by head.now) fault lines.old (S.left source.old)
+        (S.left source.new)) }
 {
     let mut positions = PackedPositions::new(alloc);
     for k in 0..head.count {
@@ -100,7 +106,8 @@ fn read_end<S: Source>(
     ensures count { S.faults source.old ≤ S.faults source.new }
     ensures ok { OnOk result (ReadsLines (end_line ∷ []) lines.old lines.new (S.left source.old) (S.left source.new)) }
     ensures read { result ≡ Err Read → Rose (S.faults source.old) (S.faults source.new) }
-    ensures refused { IfErr result (λ fault. RefusesNext line (λ text. text ≡ end_line) NoRule fault lines.old (S.left source.old) (S.left source.new)) }
+    ensures refused { IfErr result (λ fault. RefusesNext line (λ text. text ≡ end_line) NoRule fault lines.old
+        (S.left source.old) (S.left source.new)) }
 {
     next_text(lines, source, line)?;
     if !parse_end(lines.text()) {
@@ -126,7 +133,8 @@ fn read_past<S: Source>(
     ensures count { S.faults source.old ≤ S.faults source.new }
     ensures ok { OnOk result (ReadsEnd lines.old (S.left source.old) (S.left source.new)) }
     ensures read { result ≡ Err Read → Rose (S.faults source.old) (S.faults source.new) }
-    ensures refused { IfErr result (λ fault. RefusesAfter [] (IsPastEnd line) fault lines.old (S.left source.old) (S.left source.new)) }
+    ensures refused { IfErr result (λ fault. RefusesAfter [] (IsPastEnd line) fault lines.old (S.left source.old)
+        (S.left source.new)) }
 {
     let Ok(found) = lines.next_line(source) else {
         return Err(CheckFault::Read);
@@ -147,9 +155,11 @@ fn judge_text<S: Source>(
 ) -> Result<Head, CheckFault>
     requires { lines.old.ending ≡ None }
     ensures count { S.faults source.old ≤ S.faults source.new }
-    ensures ok { IfOk result (λ head. (nodes : List AnyNode) × ReadsText wanted (told_by head) nodes lines.old lines.new (S.left source.old) (S.left source.new)) }
+    ensures ok { IfOk result (λ head. (nodes : List AnyNode) × ReadsText wanted (told_by head) nodes lines.old lines.new
+        (S.left source.old) (S.left source.new)) }
     ensures read { result ≡ Err Read → Rose (S.faults source.old) (S.faults source.new) }
-    ensures refused { IfErr result (λ fault. IsFaultOf wanted lines.old.held fault (S.left source.old) (S.left source.new)) }
+    ensures refused { IfErr result (λ fault. IsFaultOf wanted lines.old.held fault (S.left source.old)
+        (S.left source.new)) }
 {
     let head = read_head(lines, source, wanted)?;
     judge_nodes(alloc, lines, source, &head)?;
@@ -167,10 +177,12 @@ fn keep_text<S: Source>(
 ) -> Result<Head, CheckFault>
     requires { lines.old.ending ≡ None }
     ensures count { S.faults source.old ≤ S.faults source.new }
-    ensures ok { IfOk result (λ head. ReadsText wanted (told_by head) (nodes_of nodes.new) lines.old lines.new (S.left source.old) (S.left source.new)) }
+    ensures ok { IfOk result (λ head. ReadsText wanted (told_by head) (nodes_of nodes.new) lines.old lines.new
+        (S.left source.old) (S.left source.new)) }
     ensures side { IfOk result (λ head. side_of nodes.new ≡ head.side) }
     ensures read { result ≡ Err Read → Rose (S.faults source.old) (S.faults source.new) }
-    ensures refused { IfErr result (λ fault. IsFaultOf wanted lines.old.held fault (S.left source.old) (S.left source.new)) }
+    ensures refused { IfErr result (λ fault. IsFaultOf wanted lines.old.held fault (S.left source.old)
+        (S.left source.new)) }
 {
     let head = read_head(lines, source, wanted)?;
     begin(nodes, alloc, head.side);
@@ -207,10 +219,13 @@ pub fn load_from<S: Source>(
 ) -> Result<Strategy, CheckFault>
     requires open_still { lines.old.ending ≡ None }
     ensures count { S.faults source.old ≤ S.faults source.new }
-    ensures loaded { IfOk result (λ strategy. Spells wanted strategy lines.old.held lines.new.held (S.left source.old) (S.left source.new)) }
+    ensures loaded { IfOk result (λ strategy. Spells wanted strategy lines.old.held lines.new.held (S.left source.old)
+        (S.left source.new)) }
     ensures open { OnOk result (lines.new.ending ≡ None) }
+    ensures forced { IfOk result (λ strategy. side_of strategy.nodes ≡ Adversary → ForcesEvery strategy.game) }
     ensures read { result ≡ Err Read → Rose (S.faults source.old) (S.faults source.new) }
-    ensures fault { IfErr result (λ fault. IsFaultOf wanted lines.old.held fault (S.left source.old) (S.left source.new)) }
+    ensures fault { IfErr result (λ fault. IsFaultOf wanted lines.old.held fault (S.left source.old)
+        (S.left source.new)) }
 {
     let mut nodes = Nodes::Adversary(AdvNodes::new(alloc));
     let read = keep_text(alloc, lines, source, wanted, &mut nodes);
@@ -228,7 +243,8 @@ fn load_text<S: Source>(
     requires open_still { lines.old.ending ≡ None }
     requires fresh { lines.old.held ≡ [] }
     ensures count { S.faults source.old ≤ S.faults source.new }
-    ensures ok { IfOk result (λ head. Loads wanted (strategy_of_parts head nodes.new) (S.left source.old) (S.left source.new)) }
+    ensures ok { IfOk result (λ head. Loads wanted (strategy_of_parts head nodes.new) (S.left source.old)
+        (S.left source.new)) }
     ensures read { result ≡ Err Read → Rose (S.faults source.old) (S.faults source.new) }
     ensures fault { IfErr result (λ fault. IsFaultOf wanted [] fault (S.left source.old) (S.left source.new)) }
 {
@@ -250,6 +266,7 @@ pub fn load<S: Source>(
 ) -> Result<Strategy, CheckFault>
     ensures count { S.faults source.old ≤ S.faults source.new }
     ensures loaded { IfOk result (λ strategy. Loads wanted strategy (S.left source.old) (S.left source.new)) }
+    ensures forced { IfOk result (λ strategy. side_of strategy.nodes ≡ Adversary → ForcesEvery strategy.game) }
     ensures read { result ≡ Err Read → Rose (S.faults source.old) (S.faults source.new) }
     ensures fault { IfErr result (λ fault. IsFaultOf wanted [] fault (S.left source.old) (S.left source.new)) }
 {
@@ -269,6 +286,7 @@ pub fn load<S: Source>(
 pub fn check<S: Source>(alloc: Global, source: &mut S) -> Result<Accepted, CheckFault>
     ensures count { S.faults source.old ≤ S.faults source.new }
     ensures accepted { IfOk result (λ accepted. Accepts Either accepted (S.left source.old) (S.left source.new)) }
+    ensures forced { IfOk result (λ accepted. accepted.side ≡ Adversary → ForcesEvery accepted.game) }
     ensures read { result ≡ Err Read → Rose (S.faults source.old) (S.faults source.new) }
     ensures fault { IfErr result (λ fault. IsFaultOf Either [] fault (S.left source.old) (S.left source.new)) }
 {

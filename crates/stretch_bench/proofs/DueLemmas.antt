@@ -49,7 +49,8 @@ legal_numbers accepted left new_left stands =
     }
 
 -- where no command is spelled, usage is due
-pub usage_due : (words : List (List ℕ)) (left new_left : Option (List ℕ)) (status : Status) (text : List ℕ) → IsDue words left new_left status text → SpellsNone words → status ≡ Usage
+pub usage_due : (words : List (List ℕ)) (left new_left : Option (List ℕ)) (status : Status) (text : List ℕ) → IsDue words left new_left status text → SpellsNone words
+    → status ≡ Usage
 usage_due words left new_left Done text due none = absurd (none Check due.command)
 usage_due words left new_left Rejected text due none = absurd (none Check due.command)
 usage_due words left new_left Usage text due none = refl
@@ -60,7 +61,8 @@ usage_due words left new_left OutOfMemory text due none = absurd due
 usage_due words left new_left Unpackable text due none = absurd due
 
 -- behind an accepted line stands a legal strategy
-pub stands_behind : (words : List (List ℕ)) (left new_left : Option (List ℕ)) (status : Status) (text : List ℕ) (accepted : Accepted) (more : List ℕ) → IsDue words left new_left status text → HasNumbers accepted → text ≡ accepted_line accepted ++ more → Accepts Either accepted left new_left
+pub stands_behind : (words : List (List ℕ)) (left new_left : Option (List ℕ)) (status : Status) (text : List ℕ) (accepted : Accepted) (more : List ℕ)
+    → IsDue words left new_left status text → HasNumbers accepted → text ≡ accepted_line accepted ++ more → Accepts Either accepted left new_left
 stands_behind words left new_left Done text accepted more due numbers e =
     subst (λ a. Accepts Either a left new_left) (same_line due.accepted accepted more (legal_numbers due.accepted left new_left due.accepts) numbers (sym due.line ∙ e)) due.accepts
 stands_behind words left new_left Rejected text accepted more due numbers e =
@@ -93,13 +95,17 @@ none_written known accepted first =
     not_empty (accepted_line accepted ++ found.0) found.1 refl
 
 -- the text was written whole, as a piece of the same bytes
-pub behind_whole : (words : List (List ℕ)) (left new_left : Option (List ℕ)) (status : Status) (text piece : List ℕ) (old new : Option (List ℕ)) (accepted : Accepted) → IsDue words left new_left status text → piece ≡ text → new ≡ append_known old piece → HasNumbers accepted → WritesFirst old new (accepted_line accepted) → Accepts Either accepted left new_left
+pub behind_whole : (words : List (List ℕ)) (left new_left : Option (List ℕ)) (status : Status) (text piece : List ℕ) (old new : Option (List ℕ)) (accepted : Accepted)
+    → IsDue words left new_left status text → piece ≡ text → new ≡ append_known old piece → HasNumbers accepted → WritesFirst old new (accepted_line accepted)
+    → Accepts Either accepted left new_left
 behind_whole words left new_left status text piece old new accepted due same whole numbers first =
     let found = first_of old new piece (accepted_line accepted) whole first in
     stands_behind words left new_left status text accepted found.0 due numbers (sym same ∙ found.1)
 
 -- a front of the text was written
-pub behind_front : (words : List (List ℕ)) (left new_left : Option (List ℕ)) (status : Status) (text piece : List ℕ) (old new : Option (List ℕ)) (accepted : Accepted) → IsDue words left new_left status text → piece ≡ text → AppendsSome old new piece → HasNumbers accepted → WritesFirst old new (accepted_line accepted) → Accepts Either accepted left new_left
+pub behind_front : (words : List (List ℕ)) (left new_left : Option (List ℕ)) (status : Status) (text piece : List ℕ) (old new : Option (List ℕ)) (accepted : Accepted)
+    → IsDue words left new_left status text → piece ≡ text → AppendsSome old new piece → HasNumbers accepted → WritesFirst old new (accepted_line accepted)
+    → Accepts Either accepted left new_left
 behind_front words left new_left status text piece old new accepted due same some numbers first =
     let n = some.0 in
     let found = first_of old new (take n piece) (accepted_line accepted) some.2 first in
@@ -121,7 +127,8 @@ legal_bytes accepted bytes (Some rest) stands =
     }
 
 -- what is due for a check is done exactly where the bytes are a legal text
-pub exact_due : (words : List (List ℕ)) (left new_left : Option (List ℕ)) (status : Status) (text : List ℕ) → IsDue words left new_left status text → Spells words Check → IfSome left (λ bytes. ¬ IsStopped status → (status ≡ Done) ↔ IsLegalText Either bytes)
+pub exact_due : (words : List (List ℕ)) (left new_left : Option (List ℕ)) (status : Status) (text : List ℕ) → IsDue words left new_left status text → Spells words Check
+    → IfSome left (λ bytes. ¬ IsStopped status → (status ≡ Done) ↔ IsLegalText Either bytes)
 exact_due words None new_left status text due check = tt
 exact_due words (Some bytes) new_left Done text due check = λ on. (λ e. legal_bytes due.accepted bytes new_left due.accepts, λ legal. refl)
 exact_due words (Some bytes) new_left Rejected text due check = λ on. (λ e. absurd cc, λ legal. absurd (legal_text_has_no_fault Either bytes legal due.at due.why due.rejects.first_of_input.has))
@@ -138,7 +145,8 @@ stopped_any None status h = tt
 stopped_any (Some bytes) status h = λ on. absurd (on h)
 
 -- a text that is due was written whole
-pub answer_due : (run : Run) (status : Status) (text : List ℕ) → IsDue run.words run.left run.new_left status text → run.new_written ≡ append_known run.written text → IsAnswer run status
+pub answer_due : (run : Run) (status : Status) (text : List ℕ) → IsDue run.words run.left run.new_left status text → run.new_written ≡ append_known run.written text
+    → IsAnswer run status
 answer_due run Done text due e = (text, due, e)
 answer_due run Rejected text due e = (text, due, e)
 answer_due run Usage text due e = (text, due, e)

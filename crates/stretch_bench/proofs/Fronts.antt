@@ -33,7 +33,8 @@ one_front x (a ∷ as') (b ∷ bs) rest other more p q e =
     let front : as' ≡ bs = tails.0 in
     (cc, tails.1)
 
-number_front : (x m n : ℕ) (rest other more : List ℕ) → x < 48 → m < 2 ^ 64 → n < 2 ^ 64 → decimal m ++ x ∷ rest ≡ (decimal n ++ x ∷ other) ++ more → (m ≡ n) × (rest ≡ other ++ more)
+number_front : (x m n : ℕ) (rest other more : List ℕ) → x < 48 → m < 2 ^ 64 → n < 2 ^ 64 → decimal m ++ x ∷ rest ≡ (decimal n ++ x ∷ other) ++ more
+    → (m ≡ n) × (rest ≡ other ++ more)
 number_front x m n rest other more low fits same e =
     let parts = one_front x (decimal m) (decimal n) rest other more (decimal_lacks x m low fits) (decimal_lacks x n low same) e in
     (decimal_injective m n fits same parts.0, parts.1)

@@ -15,7 +15,8 @@ pub said : (r : Result (String Global) AllocError) (text line : List ℕ) → If
 said (Ok s) text line h e = h ∙ e
 said (Err e) text line h same = tt
 
-pub accepted_text : (accepted : Accepted) (side : List ℕ) (bins capacity target : ℕ) → side ≡ side_word accepted.side → bins ≡ accepted.game.bins → capacity ≡ accepted.game.capacity → target ≡ accepted.game.target
+pub accepted_text : (accepted : Accepted) (side : List ℕ) (bins capacity target : ℕ) → side ≡ side_word accepted.side → bins ≡ accepted.game.bins
+    → capacity ≡ accepted.game.capacity → target ≡ accepted.game.target
     → codes "accepted " ++ (side ++ (codes " " ++ (decimal bins ++ (codes " " ++ (decimal capacity ++ (codes " " ++ (decimal target ++ (codes " nodes " ++ (decimal accepted.nodes ++ codes "\n"))))))))) ≡ accepted_line accepted
 accepted_text accepted side bins capacity target e1 e2 e3 e4 = rw (e1, e2, e3, e4)
 

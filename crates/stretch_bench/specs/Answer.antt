@@ -8,7 +8,8 @@ use Rattle.stretch_bench.specs.declared.status.Status.TheVariants.{Done, Rejecte
 use Rattle.stretch_bench.specs.Due.{IsDue, IsDueText}
 use Rattle.stretch_bench.specs.Written.{WritesWhole, WritesFront}
 
--- a run: its words; what the source had left and has left, and its faults before and after; what the sink had written and has written, and its faults before and after
+-- a run: its words; what the source had left and has left, and its faults before and after; what the sink had written
+-- and has written, and its faults before and after
 pub record Run : Type 0 where
   pub words : List (List ℕ)
   pub left : Option (List ℕ)

@@ -46,18 +46,23 @@ pub fn run_bench<S: Source, K: Sink>(
         written = K.written sink.old; new_written = K.written sink.new;
         writes_failed = K.faults sink.old; new_writes_failed = K.faults sink.new
     }) result }
-    ensures no_command { SpellsNone (spelling_of words.now) → (source.new ≡ source.old) × ((result ≡ Status.Usage) ⊎ (result ≡ Status.WriteFault) ⊎ (result ≡ Status.OutOfMemory)) }
+    ensures no_command { SpellsNone (spelling_of words.now) → (source.new ≡ source.old) × ((result ≡ Status.Usage) ⊎
+        (result ≡ Status.WriteFault) ⊎ (result ≡ Status.OutOfMemory)) }
     ensures read_fault { result ≡ Status.ReadFault → sink.new ≡ sink.old }
     ensures memory { result ≡ Status.OutOfMemory → sink.new ≡ sink.old }
 
     // A check is done exactly where the input is the text of a legal strategy.
-    ensures exact { Spells (spelling_of words.now) Check → IfSome (S.left source.old) (λ bytes. ¬ IsStopped result → (result ≡ Status.Done) ↔ IsLegalText Either bytes) }
+    ensures exact { Spells (spelling_of words.now) Check → IfSome (S.left source.old) (λ bytes. ¬ IsStopped result →
+        (result ≡ Status.Done) ↔ IsLegalText Either bytes) }
 
     // A legal strategy stands after an accepted line that was written, whatever the status.
-    ensures accepted { (accepted : Accepted) → HasNumbers accepted → WritesFirst (K.written sink.old) (K.written sink.new) (accepted_line accepted) → Accepts Either accepted (S.left source.old) (S.left source.new) }
+    ensures accepted { (accepted : Accepted) → HasNumbers accepted → WritesFirst (K.written sink.old)
+        (K.written sink.new) (accepted_line accepted) → Accepts Either accepted (S.left source.old)
+        (S.left source.new) }
 
     // Where it is the adversary's, every deterministic online algorithm of the game is forced to the target.
-    ensures forced { (game : GameNumbers) (nodes : ℕ) → HasNumbers (adversary_accepted game nodes) → WritesFirst (K.written sink.old) (K.written sink.new) (accepted_line (adversary_accepted game nodes)) → ForcesEvery game }
+    ensures forced { (game : GameNumbers) (nodes : ℕ) → HasNumbers (adversary_accepted game nodes) → WritesFirst
+        (K.written sink.old) (K.written sink.new) (accepted_line (adversary_accepted game nodes)) → ForcesEvery game }
 {
     let due = match due_of(alloc, words, source) {
         Ok(due) => due,

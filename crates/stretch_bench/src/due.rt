@@ -47,7 +47,8 @@ pub(crate) fn due_of<S: Source>(
     source: &mut S,
 ) -> Result<Due, Stop>
     ensures count { S.faults source.old ≤ S.faults source.new }
-    ensures due { IfOk result (λ due. IsDue (spelling_of words.now) (S.left source.old) (S.left source.new) due.status (string_bytes due.text)) }
+    ensures due { IfOk result (λ due. IsDue (spelling_of words.now) (S.left source.old) (S.left source.new) due.status
+        (string_bytes due.text)) }
     ensures no_command { SpellsNone (spelling_of words.now) → (source.new ≡ source.old) × (result ≢ Err Read) }
     ensures read { result ≡ Err Read → Rose (S.faults source.old) (S.faults source.new) }
     ensures interrupted { result ≡ Err Read → IsInterrupted Either [] (S.left source.old) (S.left source.new) }
@@ -65,7 +66,8 @@ pub(crate) fn due_of<S: Source>(
 fn due_of_check<S: Source>(alloc: Global, words: &[String], source: &mut S) -> Result<Due, Stop>
     requires command { Spells (spelling_of words.now) Check }
     ensures count { S.faults source.old ≤ S.faults source.new }
-    ensures due { IfOk result (λ due. IsDue (spelling_of words.now) (S.left source.old) (S.left source.new) due.status (string_bytes due.text)) }
+    ensures due { IfOk result (λ due. IsDue (spelling_of words.now) (S.left source.old) (S.left source.new) due.status
+        (string_bytes due.text)) }
     ensures read { result ≡ Err Read → Rose (S.faults source.old) (S.faults source.new) }
     ensures interrupted { result ≡ Err Read → IsInterrupted Either [] (S.left source.old) (S.left source.new) }
 {

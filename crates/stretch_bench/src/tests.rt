@@ -33,6 +33,19 @@ nodes 5
 end
 ";
 
+// A strategy of the adversary in format 2, with bursts.
+const WITH_BURSTS: &str = "\
+stretch 2
+game 2 3 4
+side adversary
+nodes 4
+0 loads 2 0 items 1 1 burst 2 2 pack 1 2 / 1 2
+1 loads 1 1 items 1 1 burst 1 3 pack 3 / 1 1
+2 loads 1 0 items 1 send 1 on 1 to 0 on 0 to 1
+3 loads 0 0 items - send 1 on 0 to 2
+end
+";
+
 const ACCEPTED: &str = "accepted adversary 2 3 4 nodes 5\n";
 
 // The words of a line.
@@ -77,6 +90,54 @@ fn a_legal_strategy_is_accepted_however_it_comes(rt: HostRuntime) -> Result<(), 
         let status = run_bench(alloc, words.as_slice(), &mut source, &mut sink);
         assert_eq!(rt; status, Status::Done, "by {step}");
         assert_eq!(rt; sink.bytes(), ACCEPTED.as_bytes(), "by {step}");
+    }
+    Ok(())
+}
+
+#[test]
+fn strategies_of_both_sides_and_formats_are_accepted(rt: HostRuntime) -> Result<(), Fail> {
+    let alloc = rt.alloc();
+    let mut second = edited(alloc, LEGAL, "stretch 1", "stretch 2")?;
+    for pack in [" pack 1 2 / 1 on", " pack 1 1 / - on", " pack 1 / - on"] {
+        second = edited(alloc, second.as_str(), pack, " on")?;
+    }
+    let finishing = "stretch 1\ngame 2 3 5\nside algorithm\nnodes 1\n0 loads 0 0 items - finish\nend\n";
+    let of_format_2 = edited(alloc, OF_ALGORITHM, "stretch 1", "stretch 2")?;
+    let cases = [
+        (OF_ALGORITHM, "accepted algorithm 2 2 3 nodes 5\n"),
+        (of_format_2.as_str(), "accepted algorithm 2 2 3 nodes 5\n"),
+        (finishing, "accepted algorithm 2 3 5 nodes 1\n"),
+        (WITH_BURSTS, "accepted adversary 2 3 4 nodes 4\n"),
+        (second.as_str(), ACCEPTED),
+    ];
+    for (text, line) in cases {
+        let (status, written) = checked(alloc, text.as_bytes())?;
+        assert_eq!(rt; written.as_slice(), line.as_bytes());
+        assert_eq!(rt; status, Status::Done);
+    }
+    Ok(())
+}
+
+#[test]
+fn faults_of_both_sides_and_formats_are_named(rt: HostRuntime) -> Result<(), Fail> {
+    let alloc = rt.alloc();
+    let cases = [
+        (OF_ALGORITHM, " 2 on 0 to 1\n", "\n", "rejected line 7 rule replies\n"),
+        (OF_ALGORITHM, " 2 on 0 to 1\n", " 2 on 1 to 1\n", "rejected line 7 rule reply\n"),
+        (OF_ALGORITHM, " 1 on 0 to 2 ", " 1 on 0 to 3 ", "rejected line 9 rule child\n"),
+        (OF_ALGORITHM, "2 1 items 1 2 finish", "1 1 items 1 1 finish", "rejected line 6 rule finish\n"),
+        (WITH_BURSTS, "burst 2 2 pack 1 2 / 1 2", "burst 1 2 pack 1 2 / 1", "rejected line 5 rule burst\n"),
+        (WITH_BURSTS, "burst 2 2", "burst 2 0", "rejected line 5 rule send\n"),
+        (WITH_BURSTS, "1 send 1 on", "1 send 1 pack 1 1 / - on", "rejected line 7 rule pack\n"),
+        (WITH_BURSTS, "stretch 2", "stretch 1", "rejected line 5 syntax\n"),
+        (LEGAL, "stretch 1", "stretch 2", "rejected line 6 rule pack\n"),
+        (LEGAL, "stretch 1", "stretch 3", "rejected line 1 syntax\n"),
+    ];
+    for (text, from, to, line) in cases {
+        let input = edited(alloc, text, from, to)?;
+        let (status, written) = checked(alloc, input.as_bytes())?;
+        assert_eq!(rt; written.as_slice(), line.as_bytes(), "with {to:?}");
+        assert_eq!(rt; status, Status::Rejected, "with {to:?}");
     }
     Ok(())
 }
@@ -133,7 +194,6 @@ fn inputs_of_another_kind_are_rejected(rt: HostRuntime) -> Result<(), Fail> {
         (b"".as_slice(), "rejected line 1 syntax\n"),
         (long.as_slice(), "rejected line 1 syntax\n"),
         (returns.as_slice(), "rejected line 1 syntax\n"),
-        (OF_ALGORITHM.as_bytes(), "rejected line 3 rule side\n"),
     ];
     for (input, line) in cases {
         let (status, written) = checked(alloc, input)?;
@@ -181,7 +241,20 @@ fn a_failing_read_writes_nothing(rt: HostRuntime) -> Result<(), Fail> {
 }
 
 #[test]
-fn a_failing_write_leaves_the_front_of_the_line(rt: HostRuntime) -> Result<(), Fail> {
+fn a_fault_in_a_line_that_was_read_is_answered_before_a_failing_read(rt: HostRuntime) -> Result<(), Fail> {
+    let alloc = rt.alloc();
+    let words = words_of(alloc, "check")?;
+    let input = edited(alloc, LEGAL, "on 2 over\n1", "on 2 to 0\n1")?;
+    let mut source = MemSource::new(alloc, input.as_bytes(), 1, &[101])?;
+    let mut sink = MemSink::new(alloc, 100, 100, &[])?;
+    let status = run_bench(alloc, words.as_slice(), &mut source, &mut sink);
+    assert_eq!(rt; status, Status::Rejected);
+    assert_eq!(rt; sink.bytes(), b"rejected line 5 rule over\n".as_slice());
+    Ok(())
+}
+
+#[test]
+fn a_failing_write_leaves_a_prefix_of_the_line(rt: HostRuntime) -> Result<(), Fail> {
     let alloc = rt.alloc();
     let words = words_of(alloc, "check")?;
     for room in [0, 1, 20, 32] {
@@ -189,8 +262,8 @@ fn a_failing_write_leaves_the_front_of_the_line(rt: HostRuntime) -> Result<(), F
         let mut sink = MemSink::new(alloc, room, 7, &[])?;
         let status = run_bench(alloc, words.as_slice(), &mut source, &mut sink);
         assert_eq!(rt; status, Status::WriteFault, "with room {room}");
-        let front = ACCEPTED.as_bytes().get(..room).unwrap_or(b"none");
-        assert_eq!(rt; sink.bytes(), front, "with room {room}");
+        let prefix = ACCEPTED.as_bytes().get(..room).unwrap_or(b"none");
+        assert_eq!(rt; sink.bytes(), prefix, "with room {room}");
     }
     let mut source = MemSource::new(alloc, LEGAL.as_bytes(), 64, &[])?;
     let mut sink = MemSink::new(alloc, 100, 100, &[1])?;

@@ -5,6 +5,7 @@ use Rattle.checker.specs.declared.fault.CheckFault.{CheckFault}
 use Rattle.checker.specs.declared.fault.CheckFault.TheVariants.{Memory}
 use Rattle.checker.specs.declared.fault.Wanted.TheVariants.{Either}
 use Rattle.checker.proofs.ProgressLemmas.{passed_on}
+use Rattle.checker.proofs.ForcedLemmas.{accepted_forces}
 use Rattle.checker.proofs.TextLemmas.{Accepts-from, past_fault_of, no_memory}
 use Rattle.checker.proofs.reading.check.Goals as goal
 
@@ -34,3 +35,6 @@ pub returns-in_err-lines-clause-fault : goal.returns-in_err-lines-clause-fault
 returns-in_err-lines-clause-fault g c =
     let left = g.S.Source.left c.args.source.now in
     passed_on (λ (f : CheckFault). IsFaultOf Either [] f left left) Memory c.from_residual.result c.from_residual.ensures.1 (no_memory Either left)
+
+pub returns-clause-forced : goal.returns-clause-forced
+returns-clause-forced g c = accepted_forces Either _ (g.S.Source.left c.args.source.now) (g.S.Source.left c.read_past.new.source) (returns-clause-accepted g c)
