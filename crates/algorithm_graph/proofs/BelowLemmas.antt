@@ -1,5 +1,7 @@
 -- The replies of a legal strategy keep every load below the target.
-use Rattle.std.proofs.Common.{◌≡◌, ℕ, zero, suc, ◌+◌, ◌-◌, ◌<◌, ◌≤◌, eqb, true, Option, Some, None, List, [], ◌∷◌, ◌++◌, length, get_or, take, map, replicate, refl, sym, ap, ◌∙◌, subst, arith, inl, inr}
+use Rattle.std.proofs.Common.{◌≡◌, ℕ, zero, suc, ◌+◌, ◌-◌, ◌<◌, ◌≤◌, eqb, true, false, set, Option, Some, None, List, [], ◌∷◌, ◌++◌, length, get_or, take, map, replicate, refl}
+use Rattle.std.proofs.Common.{sym, ap, ◌∙◌}
+use Rattle.std.proofs.Common.{subst, arith, inl, inr}
 use Rattle.std.specs.Prelude.{All, Contains, find, fold, position, slice_get, MatchOption}
 use Rattle.std.specs.Option.{option_map}
 use Rattle.std.proofs.lemmas.Bool.{cases_Bool, eqb-true, eqb-false, eq-eqb}
@@ -52,7 +54,7 @@ pub record IsEntryFor (entries : List Entry) (size : ℕ) (entry : Entry) : Type
 contains_later : {X : Type 0} (x y : X) (ys : List X) → Contains ys x → Contains (y ∷ ys) x
 contains_later x y ys h = (suc h.0, omega (arith, h.1), h.2)
 
-entry_later : (first : Entry) (entries : List Entry) (size : ℕ) → eqb first.size size ≡ Rattle.std.proofs.Common.false → (entry : Entry) × IsEntryFor entries size entry
+entry_later : (first : Entry) (entries : List Entry) (size : ℕ) → eqb first.size size ≡ false → (entry : Entry) × IsEntryFor entries size entry
     → (entry : Entry) × IsEntryFor (first ∷ entries) size entry
 entry_later first entries size e h = (
   h.0,
@@ -91,13 +93,13 @@ Same-push xs ys x s = Same-append xs ys (x ∷ []) (x ∷ []) s (λ z. refl)
 
 -- ---- earlier nodes
 
-slice_get-take : {X : Type 0} (xs : List X) (k i : ℕ) (x : X) → slice_get (take k xs) i ≡ Some x → slice_get xs i ≡ Some x
+pub slice_get-take : {X : Type 0} (xs : List X) (k i : ℕ) (x : X) → slice_get (take k xs) i ≡ Some x → (slice_get xs i ≡ Some x) × (i < k)
 slice_get-take xs zero i x e = absurd (none-some x e)
 slice_get-take [] (suc k) i x e = absurd (none-some x e)
-slice_get-take (y ∷ ys) (suc k) zero x e = e
-slice_get-take (y ∷ ys) (suc k) (suc i) x e = slice_get-take ys k i x e
+slice_get-take (y ∷ ys) (suc k) zero x e = (e, omega arith)
+slice_get-take (y ∷ ys) (suc k) (suc i) x e = let h = slice_get-take ys k i x e in (h.0, omega (arith, h.1))
 
-mapped : {X Y : Type 0} (f : X → Y) (o : Option X) (y : Y) → option_map f o ≡ Some y → (x : X) × (o ≡ Some x) × (f x ≡ y)
+pub mapped : {X Y : Type 0} (f : X → Y) (o : Option X) (y : Y) → option_map f o ≡ Some y → (x : X) × (o ≡ Some x) × (f x ≡ y)
 mapped f None y e = absurd (none-some y e)
 mapped f (Some x) y e = (x, refl, same_Some (f x) y e)
 
@@ -106,7 +108,8 @@ pub earlier_node : (nodes : List AlgNode) (k child : ℕ) (p : Position) → Sta
     → (node : AlgNode) × (slice_get nodes child ≡ Some node) × (position_of node ≡ p)
 earlier_node nodes k child p e =
     let h = mapped position_of (slice_get (take k nodes) child) p (sym (slice_get-map position_of (take k nodes) child) ∙ e) in
-    (h.0, slice_get-take nodes k child h.0 h.1, h.2)
+    let t = slice_get-take nodes k child h.0 h.1 in
+    (h.0, t.0, h.2)
 
 -- ---- the rules of a node by their names
 
@@ -119,7 +122,8 @@ pub record Meets (game : GameNumbers) (sizes : List ℕ) (earlier : List Positio
   pub reply : All (NamesLoad game node.loads) (entries_of node.act)
   pub child : All (LeadsOn earlier (position_of node)) (entries_of node.act)
 
-meets : (format : Format) (game : GameNumbers) (sizes : List ℕ) (nodes : List AlgNode) → IsLegal format game sizes nodes → (k : ℕ) (node : AlgNode) → slice_get nodes k ≡ Some node
+meets : (format : Format) (game : GameNumbers) (sizes : List ℕ) (nodes : List AlgNode) → IsLegal format game sizes nodes → (k : ℕ) (node : AlgNode)
+    → slice_get nodes k ≡ Some node
     → Meets game sizes (map position_of (take k nodes)) node
 unfolding EachMeetsRules
 meets format game sizes nodes legal k node here =
@@ -170,9 +174,10 @@ module _ (format : Format) (game : GameNumbers) (sizes : List ℕ) (nodes : List
       let c : Contains actual entry.load = Contains-Same entry.load node.loads actual (Same-sym actual node.loads at.loads) names.load in
       let bin = bin_for actual entry.load c in
       let child = earlier_node nodes k entry.to (after (position_of node) entry.load entry.size) leads in
-      let loads : child.0.loads ≡ loads_after node.loads entry.load size = ap (λ (p : Position). p.loads) child.2 ∙ ap (λ s. loads_after node.loads entry.load s) is in
+      let loads : child.0.loads ≡ loads_after node.loads entry.load size =
+      ap (λ (p : Position). p.loads) child.2 ∙ ap (λ s. loads_after node.loads entry.load s) is in
       let items : child.0.items ≡ put_ascending size node.items = ap (λ (p : Position). p.items) child.2 ∙ ap (λ s. put_ascending s node.items) is in
-      let put : placed actual bin.0 size ≡ Rattle.std.proofs.Common.set actual bin.0 (entry.load + size) = ap (λ load. Rattle.std.proofs.Common.set actual bin.0 (load + size)) bin.1.lowest.has_load in
+      let put : placed actual bin.0 size ≡ set actual bin.0 (entry.load + size) = ap (λ load. set actual bin.0 (load + size)) bin.1.lowest.has_load in
       let same_loads : Same (placed actual bin.0 size) child.0.loads =
       subst (λ (xs : List ℕ). Same (placed actual bin.0 size) xs) (sym loads)
       (subst (λ (xs : List ℕ). Same xs (loads_after node.loads entry.load size)) (sym put)
@@ -192,18 +197,22 @@ module _ (format : Format) (game : GameNumbers) (sizes : List ℕ) (nodes : List
   act_keeps more keep k node history actual size Finish is at packable all =
       let rules = meets format game sizes nodes legal k node at.here in
       let finishes : Finishes game node.loads = subst (FinishesIfSaid game node) is rules.finish in
-      let fits = Packable-Same game (history ++ size ∷ more) (node.items ++ size ∷ more) (Same-append history node.items (size ∷ more) (size ∷ more) at.items (λ z. refl)) packable in
+      let fits = Packable-Same game (history ++ size ∷ more) (node.items ++ size ∷ more)
+      (Same-append history node.items (size ∷ more) (size ∷ more) at.items (λ z. refl)) packable in
       let order : KeptOrder = kept_order game actual 0 in
       subst (λ (xs : List ℕ). All (λ load. load < game.target) xs) (sym (finish_loads game nodes order more (with_item actual (finish_bin game order actual size) size)))
-      (finish_stays_below game node.loads node.items actual (size ∷ more) legal.of_game (record { legal = rules.loads; renamed = at.loads; total = rules.items.total }) finishes fits)
+      (finish_stays_below game node.loads node.items actual (size ∷ more) legal.of_game
+      (record { legal = rules.loads; renamed = at.loads; total = rules.items.total }) finishes fits)
   act_keeps more keep k node history actual size (Big b) is at packable all =
       let rules = meets format game sizes nodes legal k node at.here in
       let finishes : BigFinishes game node.loads node.items b = subst (BigFinishesIfSaid game node) is rules.big in
-      let fits = Packable-Same game (history ++ size ∷ more) (node.items ++ size ∷ more) (Same-append history node.items (size ∷ more) (size ∷ more) at.items (λ z. refl)) packable in
+      let fits = Packable-Same game (history ++ size ∷ more) (node.items ++ size ∷ more)
+      (Same-append history node.items (size ∷ more) (size ∷ more) at.items (λ z. refl)) packable in
       let order : KeptOrder = kept_order game actual b in
       subst (λ (xs : List ℕ). All (λ load. load < game.target) xs)
       (sym (big_loads game nodes more (with_item actual (big_bin game order actual size) size) (big_order_after game order size)))
-      (big_finish_stays_below game node.loads node.items actual (size ∷ more) b legal.of_game (record { legal = rules.loads; renamed = at.loads; total = rules.items.total }) finishes fits)
+      (big_finish_stays_below game node.loads node.items actual (size ∷ more) b legal.of_game
+      (record { legal = rules.loads; renamed = at.loads; total = rules.items.total }) finishes fits)
   act_keeps more keep k node history actual size (Reply entries) is at packable all =
       let rules = meets format game sizes nodes legal k node at.here in
       let each : ReplyToEach game sizes node.items entries = subst (RepliesIfSaid game sizes node) is rules.replies in

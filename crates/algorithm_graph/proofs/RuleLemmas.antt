@@ -58,7 +58,8 @@ pub breaks_past_items : (game : GameNumbers) (sizes : List ℕ) (earlier : List 
     → Breaks game sizes earlier last node rule
 breaks_past_items game sizes earlier last node p rule fault e loads items is m =
     let at_p : BreaksPastItems game sizes earlier last (node_at p node.act) rule =
-    subst (λ (o : Option Rule). MatchOption o (AllMet (Meets game sizes earlier last (node_at p node.act)) rules_past_items) (BreaksPastItems game sizes earlier last (node_at p node.act))) is m in
+    subst (λ (o : Option Rule). MatchOption o (AllMet (Meets game sizes earlier last (node_at p node.act)) rules_past_items)
+    (BreaksPastItems game sizes earlier last (node_at p node.act))) is m in
     let past : BreaksPastItems game sizes earlier last node rule = subst (λ (q : Position). BreaksPastItems game sizes earlier last (node_at q node.act) rule) e at_p in
     (past.0, past.1, inr (loads, inr (items, past.2)))
 
@@ -68,5 +69,6 @@ pub meets_past_items : (game : GameNumbers) (sizes : List ℕ) (earlier : List P
     → MeetsRules game sizes earlier last node
 meets_past_items game sizes earlier last node p fault e loads items is m =
     let at_p : AllMet (Meets game sizes earlier last (node_at p node.act)) rules_past_items =
-    subst (λ (o : Option Rule). MatchOption o (AllMet (Meets game sizes earlier last (node_at p node.act)) rules_past_items) (BreaksPastItems game sizes earlier last (node_at p node.act))) is m in
+    subst (λ (o : Option Rule). MatchOption o (AllMet (Meets game sizes earlier last (node_at p node.act)) rules_past_items)
+    (BreaksPastItems game sizes earlier last (node_at p node.act))) is m in
     (loads, (items, subst (λ (q : Position). AllMet (Meets game sizes earlier last (node_at q node.act)) rules_past_items) e at_p))

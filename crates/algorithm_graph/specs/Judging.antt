@@ -1,7 +1,8 @@
 -- What the private contracts of judging a node cite; nothing here has to be believed.
 use Rattle.std.specs.Prelude.{◌≡◌, ◌↔◌, ℕ, zero, suc, ◌≤◌, Bool, List, [], ◌∷◌, ◌++◌, if◌then◌else◌, nat_lt, map}
 use Rattle.items.specs.Game.{GameNumbers}
-use Rattle.items.specs.Multiset.{count, IsSize}
+use Rattle.items.specs.Multiset.{count, IsSize, IsMultiset}
+use Rattle.loads.specs.Loads.{IsLoads}
 use Rattle.items.specs.Packable.{Packable}
 use Rattle.loads.specs.After.{after}
 use Rattle.loads.specs.Position.{StandsAt}
@@ -43,6 +44,11 @@ HaveRoom game items room = (size : ℕ) → Packable game (items ++ size ∷ [])
 -- the size of the entry is a size of the game
 abbrev pub HasSize : GameNumbers → Entry → Type 0
 HasSize game entry = IsSize game.capacity entry.size
+
+-- a node's loads are loads of the game, and its items a multiset of sizes of the game
+pub record HasPosition (game : GameNumbers) (node : AlgNode) : Type 0 where
+  pub loads : IsLoads game node.loads
+  pub items : IsMultiset game.capacity node.items
 
 -- the entry leads to an earlier node at the position after its item
 abbrev pub LeadsOn : List Position → Position → Entry → Type 0

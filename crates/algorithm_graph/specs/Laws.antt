@@ -9,7 +9,8 @@ use Rattle.algorithm_graph.specs.Replies.{replies, replayed}
 
 -- the replies of nodes to a game are an algorithm of it, whatever the nodes
 abbrev pub RepliesAreAnAlgorithm : Type 0
-RepliesAreAnAlgorithm = (game : GameNumbers) (nodes : List AlgNode) → IsGame game → IsAlgorithm game (replies game nodes)
+RepliesAreAnAlgorithm =
+    (game : GameNumbers) (nodes : List AlgNode) → IsGame game → IsAlgorithm game (replies game nodes)
 
 -- the loads of a replay are those of the run of the replies
 abbrev pub RunsAreReplays : Type 0

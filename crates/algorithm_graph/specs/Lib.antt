@@ -2,5 +2,9 @@ pub mod Nodes
 pub mod Rules
 pub mod Legal
 pub mod Judging
+pub mod Pools
 pub mod Replies
+pub mod Files
+pub mod RepliesAnswer
+pub mod Replaying
 pub mod Laws

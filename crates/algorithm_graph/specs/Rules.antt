@@ -1,4 +1,5 @@
-use Rattle.std.specs.Prelude.{◌≡◌, ◌↔◌, ℕ, ◌+◌, ◌<◌, Bool, IsTrue, List, [], ◌∷◌, ◌++◌, length, map, slice_index, All, Contains}
+use Rattle.std.specs.Prelude.{◌≡◌, ◌↔◌, ℕ, ◌+◌, ◌<◌, Bool, IsTrue, List, [], ◌∷◌, ◌++◌, length, map, slice_index, All}
+use Rattle.std.specs.Prelude.{Contains}
 use Rattle.items.specs.Game.{GameNumbers}
 use Rattle.items.specs.Packable.{Packable}
 use Rattle.loads.specs.After.{after}
@@ -57,7 +58,8 @@ IsStrictlyAscending xs = (k : ℕ) → k + 1 < length xs → slice_index xs k < 
 -- the sizes of the entries strictly ascend, and are exactly the sizes that may come
 pub record ReplyToEach (game : GameNumbers) (sizes items : List ℕ) (entries : List Entry) : Type 0 where
   pub ascending : IsStrictlyAscending (map (λ entry. entry.size) entries)
-  pub exact : (size : ℕ) → Contains (map (λ entry. entry.size) entries) size ↔ (Contains sizes size × Packable game (items ++ size ∷ []))
+  pub exact : (size : ℕ)
+      → Contains (map (λ entry. entry.size) entries) size ↔ (Contains sizes size × Packable game (items ++ size ∷ []))
 
 -- a node that says `reply` has an entry for each size that may come
 abbrev pub RepliesIfSaid : GameNumbers → List ℕ → AlgNode → Act → Type 0
@@ -70,7 +72,8 @@ pub record NamesLoad (game : GameNumbers) (loads : List ℕ) (entry : Entry) : T
   pub load : Contains loads entry.load
   pub below : entry.load + entry.size < game.target
 
--- the rules of an algorithm's node, over the sizes that items may have, the positions of the nodes before it, and whether it is the last node
+-- the rules of an algorithm's node, over the sizes that items may have, the positions of the nodes before it, and
+-- whether it is the last node
 abbrev pub Meets : GameNumbers → List ℕ → List Position → Bool → AlgNode → NodeRule → Type 0
 Meets game sizes earlier last node loads = IsLoads game node.loads
 Meets game sizes earlier last node items = AreItemsOf sizes node.loads node.items

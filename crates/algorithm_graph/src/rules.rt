@@ -307,7 +307,7 @@ fn leads_to_child<E: EarlierPositions>(
     earlier.is_at(entry.to as usize, &loads, &items)
 }
 
-fn is_empty(position: &Position) -> bool
+pub fn is_empty(position: &Position) -> bool
     ensures exact { IsTrue result ↔ IsEmptyPosition position.now }
 {
     position.items.volume() == 0 && position.loads.as_slice().iter().all(|load| *load == 0)

@@ -1,11 +1,11 @@
 -- Lines in their places.
-use Rattle.std.proofs.Common.{◌≡◌, inl, inr, ℕ, suc, zero, ◌+◌, ◌<◌, ◌≤◌, List, [], ◌∷◌, ◌++◌, length, All, Some, None, sym, ap, ◌∙◌, subst, refl, arith, append_assoc}
+use Rattle.std.proofs.Common.{◌≡◌, ◌≢◌, Contains, inl, inr, ℕ, suc, zero, ◌+◌, ◌<◌, ◌≤◌, List, [], ◌∷◌, ◌++◌, length, All, Some, None, sym, ap, ◌∙◌, subst, refl, arith, append_assoc}
 use Rattle.std.specs.List.{slice_get}
 use Rattle.std.proofs.lemmas.Grind.{flat_map-append}
 use Rattle.std.proofs.lemmas.List.{append-nil}
-use Rattle.std.proofs.lemmas.List.Elements.{All-head, All-tail, All-cons, All-nil}
-use Rattle.port_io.specs.Lines.{IsLine, HasNoLf, with_lf}
-use Rattle.port_io.proofs.NextLemmas.{with_lf-only, HasNoLf-with_lf}
+use Rattle.std.proofs.lemmas.List.Elements.{All-head, All-tail, All-cons, All-nil, All-contains, Contains-append_left, Contains-push}
+use Rattle.port_io.specs.Lines.{lf, IsLine, HasNoLf, with_lf}
+use Rattle.port_io.proofs.NextLemmas.{with_lf-only}
 use Rattle.strategy_text.specs.Text.{text_of_lines}
 use Rattle.checker.specs.FirstFault.{HasLine, HasForm, HasWhole}
 use Rattle.checker.specs.Progress.{StandFirst, HasNext}
@@ -113,6 +113,11 @@ after_get (y ∷ ys) more k x e =
 -- lines that stand first are whole lines
 pub HasWhole-from : (lines : List (List ℕ)) (bytes rest : List ℕ) → StandFirst lines bytes rest → HasWhole bytes (length lines) rest
 HasWhole-from lines bytes rest s = record { lines = lines; place = refl; each = no_lf lines s.whole; split = s.split }
+
+-- bytes with a line in front have a line feed
+pub HasNoLf-with_lf : (line rest bytes : List ℕ) → bytes ≡ with_lf line ++ rest → HasNoLf bytes → ⊥
+HasNoLf-with_lf line rest bytes is none =
+    All-contains (λ b. b ≢ lf) bytes lf none (subst (λ xs. Contains xs lf) (sym is) (Contains-append_left (with_lf line) rest lf (Contains-push line lf))) refl
 
 -- lines that bytes without a line feed follow are at least as many as any lines in front of the bytes
 fewer : (a b : List (List ℕ)) (x y : List ℕ) → All HasNoLf a → All HasNoLf b → HasNoLf x → text_of_lines a ++ x ≡ text_of_lines b ++ y → length b ≤ length a

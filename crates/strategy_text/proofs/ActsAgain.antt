@@ -23,7 +23,14 @@ unfolding entry_at
 entry_again entry rest fits follows =
     let child = decimal entry.to ∷ rest in
     let load = decimal entry.load ∷ codes "to" ∷ child in
-    rw (number_at_again 65535 entry.size (codes "on" ∷ load) (omega arith) fits.size, after_again (codes "on") load, number_at_again 65535 entry.load (codes "to" ∷ child) (omega arith) fits.load, after_again (codes "to") child, number_at_again 4294967295 entry.to rest (omega arith) fits.to) refl
+    rw (
+      number_at_again 65535 entry.size (codes "on" ∷ load) (omega arith) fits.size,
+      after_again (codes "on") load,
+      number_at_again 65535 entry.load (codes "to" ∷ child)
+          (omega arith) fits.load,
+      after_again (codes "to") child,
+      number_at_again 4294967295 entry.to rest (omega arith) fits.to,
+    ) refl
 
 more_again : (entry : Entry) (rest : List (List ℕ)) → more_words ([] ++ (entry_words entry ++ rest)) ≡ Some (entry_words entry ++ rest)
 more_again entry rest = refl
@@ -37,7 +44,11 @@ entries_again [] fits = rw (after_again (codes "-") []) refl
 entries_again (entry ∷ entries) fits =
     let list = recursion_from_All IsEntry (entry ∷ entries) fits in
     let words = flat_map entry_words (entry ∷ entries) ++ [] in
-    rw (after_none (codes "-") (decimal entry.size) _ (not_dash entry.size list.0.size), many_again [] more_words entry_at entry_words IsEntry Anything more_again entry_again (λ e ws. tt) (entry ∷ entries) [] (length words) list tt refl (many_fit entry_words (entry ∷ entries) [] one_word)) (some_again (entry ∷ entries) [] (λ e. cc))
+    rw (
+      after_none (codes "-") (decimal entry.size) _ (not_dash entry.size list.0.size),
+      many_again [] more_words entry_at entry_words IsEntry Anything more_again entry_again
+          (λ e ws. tt) (entry ∷ entries) [] (length words) list tt refl (many_fit entry_words (entry ∷ entries) [] one_word),
+    ) (some_again (entry ∷ entries) [] (λ e. cc))
 
 reply_not_finish : (ws : List (List ℕ)) → after (codes "finish") (codes "reply" ∷ ws) ≡ None
 unfolding after
@@ -55,7 +66,14 @@ act_again : (format : Format) (act : Act) → IsAct format act → act_at format
 unfolding act_at reply_at big_at
 act_again format Finish fits = rw (after_again (codes "finish") []) refl
 act_again format (Big bins) fits =
-    rw (big_not_finish (decimal bins ∷ []), big_not_reply (decimal bins ∷ []), fits.second, after_again (codes "big") (decimal bins ∷ []), number_at_again 65535 bins [] (omega arith) fits.kept) refl
+    rw (
+      big_not_finish (decimal bins ∷ []),
+      big_not_reply (decimal bins ∷ []),
+      fits.second,
+      after_again (codes "big") (decimal bins ∷ []),
+      number_at_again 65535 bins []
+          (omega arith) fits.kept,
+    ) refl
 act_again format (Reply entries) fits =
     rw (reply_not_finish (entries_words entries ++ []), after_again (codes "reply") (entries_words entries ++ []), entries_again entries fits) refl
 
@@ -72,4 +90,8 @@ unfolding algorithm_at
 algorithm_again format number node le h =
     let so_far = decimal number ∷ position_words node.loads node.items in
     let parts : so_far ++ act_words node.act ≡ so_far ++ (act_words node.act ++ []) = ap (λ (t : List (List ℕ)). so_far ++ t) (sym (append-nil (act_words node.act))) in
-    ap (algorithm_at format number) parts ∙ rw (position_again number le (node.loads, node.items) (act_words node.act ++ []) (h.loads, h.items) (act_ends node.act), act_again format node.act h.act) refl
+    ap (algorithm_at format number) parts ∙ rw (
+      position_again number le (node.loads, node.items) (act_words node.act ++ []) (h.loads, h.items) (act_ends node.act),
+      act_again
+          format node.act h.act,
+    ) refl

@@ -43,7 +43,8 @@ unfolding entries_at
 entries_takes words x e =
     choose_then (codes "-") words _ _ x _ e
     (λ rest e0 k0. let y : List Entry × List (List ℕ) = ([], rest) in
-    subst (λ (y : List Entry × List (List ℕ)). Begins words (entries_words y.0) y.1 (All IsEntry y.0)) (some_is y x k0) (record { parts = e0; fits = All-from_recursion IsEntry [] tt }))
+    subst (λ (y : List Entry × List (List ℕ)). Begins words (entries_words y.0) y.1 (All IsEntry y.0)) (some_is y x k0)
+    (record { parts = e0; fits = All-from_recursion IsEntry [] tt }))
     (λ k0. let b = bind_some (each_at more_words entry_at words) some_at x k0 in
     let t = many_takes [] more_words entry_at entry_words IsEntry more_takes entry_takes (length words) words b.0 b.1 in
     let s = some_takes b.0 x b.2 in

@@ -1,5 +1,6 @@
 -- The words that the nodes of both sides begin with are read as what they spell.
-use Rattle.std.proofs.Common.{◌≡◌, ◌≢◌, ℕ, zero, suc, ◌≤◌, Bool, true, false, ◌==◌, List, [], ◌∷◌, ◌++◌, length, map, decimal, codes, Option, Some, None, refl, ap, ◌∙◌, arith, append_assoc, length-append}
+use Rattle.std.proofs.Common.{◌≡◌, ◌≢◌, ℕ, zero, suc, ◌≤◌, Bool, true, false, ◌==◌, List, [], ◌∷◌, ◌++◌, length, map, decimal, codes, Option, Some, None, refl, ap, ◌∙◌, arith}
+use Rattle.std.proofs.Common.{append_assoc, length-append}
 use Rattle.std.specs.List.{flat_map, AllByRecursion}
 use Rattle.std.specs.Str.{bytes_eq}
 use Rattle.std.proofs.lemmas.Slice.Eq.{bytes_eq-Decides}
@@ -56,29 +57,46 @@ list_again (x ∷ xs) rest fits ends =
 abbrev pub BeginsAgain : {X : Type 0} → List (List ℕ) → Beginning → (X → List (List ℕ)) → Type 0
 BeginsAgain {X} lead begin spell = (x : X) (rest : List (List ℕ)) → begin (lead ++ (spell x ++ rest)) ≡ Some (spell x ++ rest)
 
-follow_more : {X : Type 0} (lead : List (List ℕ)) (spell : X → List (List ℕ)) (Follows : List (List ℕ) → Type 0) → ((x : X) (ws : List (List ℕ)) → Follows (lead ++ (spell x ++ ws))) → (xs : List X) (rest : List (List ℕ)) → Follows rest
+follow_more : {X : Type 0} (lead : List (List ℕ)) (spell : X → List (List ℕ)) (Follows : List (List ℕ) → Type 0)
+    → ((x : X) (ws : List (List ℕ)) → Follows (lead ++ (spell x ++ ws))) → (xs : List X) (rest : List (List ℕ)) → Follows rest
     → Follows (flat_map (λ x. lead ++ spell x) xs ++ rest)
 follow_more lead spell Follows on [] rest h = h
 follow_more lead spell Follows on (x ∷ xs) rest h =
-    rw (append_assoc (lead ++ spell x) (flat_map (λ x. lead ++ spell x) xs) rest, append_assoc lead (spell x) (flat_map (λ x. lead ++ spell x) xs ++ rest)) (on x (flat_map (λ x. lead ++ spell x) xs ++ rest))
+    rw (append_assoc (lead ++ spell x) (flat_map (λ x. lead ++ spell x) xs) rest, append_assoc lead (spell x) (flat_map (λ x. lead ++ spell x) xs ++ rest))
+    (on x (flat_map (λ x. lead ++ spell x) xs ++ rest))
 
 pub many_again : {X : Type 0} (lead : List (List ℕ)) (begin : Beginning) (item : Item X) (spell : X → List (List ℕ)) (Fits : X → Type 0) (Follows : List (List ℕ) → Type 0)
     → BeginsAgain lead begin spell → ReadsAgain spell Fits Follows item → ((x : X) (ws : List (List ℕ)) → Follows (lead ++ (spell x ++ ws)))
-    → (xs : List X) (rest : List (List ℕ)) (n : ℕ) → AllByRecursion Fits xs → Follows rest → begin rest ≡ None → length xs ≤ n → many_at begin item n (flat_map (λ x. lead ++ spell x) xs ++ rest) ≡ Some (xs, rest)
+    → (xs : List X) (rest : List (List ℕ)) (n : ℕ) → AllByRecursion Fits xs → Follows rest → begin rest ≡ None → length xs ≤ n
+    → many_at begin item n (flat_map (λ x. lead ++ spell x) xs ++ rest) ≡ Some (xs, rest)
 unfolding many_at
 many_again lead begin item spell Fits Follows starts again on [] rest zero fits follows none le = refl
 many_again lead begin item spell Fits Follows starts again on [] rest (suc n) fits follows none le = rw none refl
 many_again lead begin item spell Fits Follows starts again on (x ∷ xs) rest zero fits follows none le = absurd (omega arith)
 many_again lead begin item spell Fits Follows starts again on (x ∷ xs) rest (suc n) fits follows none le =
     let others = flat_map (λ x. lead ++ spell x) xs in
-    let regrouped : ((lead ++ spell x) ++ others) ++ rest ≡ lead ++ (spell x ++ (others ++ rest)) = append_assoc (lead ++ spell x) others rest ∙ append_assoc lead (spell x) (others ++ rest) in
-    ap (many_at begin item (suc n)) regrouped ∙ rw (starts x (others ++ rest), again x (others ++ rest) fits.0 (follow_more lead spell Follows on xs rest follows), many_again lead begin item spell Fits Follows starts again on xs rest n fits.1 follows none (omega arith)) refl
+    let regrouped : ((lead ++ spell x) ++ others) ++ rest ≡ lead ++ (spell x ++ (others ++ rest)) = append_assoc (lead ++ spell x) others rest ∙ append_assoc lead (spell x)
+    (others ++ rest) in
+    ap (many_at begin item (suc n)) regrouped ∙ rw (
+      starts x (others ++ rest),
+      again x (others ++ rest) fits.0 (follow_more lead spell Follows on xs rest follows),
+      many_again lead
+          begin item spell Fits Follows starts again on xs rest n fits.1 follows none (omega arith),
+    ) refl
 
 -- there are at least as many words as values
 pub many_fit : {X : Type 0} (spell : X → List (List ℕ)) (xs : List X) (rest : List (List ℕ)) → ((x : X) → 1 ≤ length (spell x)) → length xs ≤ length (flat_map spell xs ++ rest)
 many_fit spell [] rest one = omega arith
 many_fit spell (x ∷ xs) rest one =
-    omega (arith, one x, many_fit spell xs rest one, length-append (spell x) (flat_map spell xs), length-append (flat_map spell xs) rest, length-append (spell x ++ flat_map spell xs) rest)
+    omega (
+      arith,
+      one x,
+      many_fit spell xs rest one,
+      length-append (spell x) (flat_map spell xs),
+      length-append (flat_map spell xs) rest,
+      length-append
+          (spell x ++ flat_map spell xs) rest,
+    )
 
 -- ---- a position
 
@@ -103,5 +121,11 @@ unfolding position_at
 position_again number le position rest fits ends =
     let items = (codes "items" ∷ list_words position.1) ++ rest in
     let loads = (codes "loads" ∷ list_words position.0) ++ items in
-    let parts : numbered_words number position ++ rest ≡ decimal number ∷ loads = ap (λ (t : List (List ℕ)). decimal number ∷ t) (append_assoc (codes "loads" ∷ list_words position.0) (codes "items" ∷ list_words position.1) rest) in
-    ap (position_at number) parts ∙ rw (numbered_again number loads le, labelled_again (codes "loads") position.0 items (recursion_from_All IsNumber position.0 fits.0) (items_end (list_words position.1 ++ rest)), labelled_again (codes "items") position.1 rest (recursion_from_All IsNumber position.1 fits.1) ends) refl
+    let parts : numbered_words number position ++ rest ≡ decimal number ∷ loads = ap (λ (t : List (List ℕ)). decimal number ∷ t)
+    (append_assoc (codes "loads" ∷ list_words position.0) (codes "items" ∷ list_words position.1) rest) in
+    ap (position_at number) parts ∙ rw (
+      numbered_again number loads le,
+      labelled_again (codes "loads") position.0 items (recursion_from_All IsNumber position.0 fits.0)
+          (items_end (list_words position.1 ++ rest)),
+      labelled_again (codes "items") position.1 rest (recursion_from_All IsNumber position.1 fits.1) ends,
+    ) refl

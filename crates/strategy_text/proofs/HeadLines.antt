@@ -29,10 +29,24 @@ game_takes line game e =
 pub game_again : (line : List ℕ) (game : GameNumbers) → SpellsGame line game → game_at (words_left (Some line)) ≡ Some game
 unfolding game_at game_line
 game_again line game h =
-    let all : words_left (Some line) ≡ game_words game = ap (λ (l : List ℕ). words_left (Some l)) h.spelled ∙ words_again (codes "game") (decimal game.bins ∷ decimal game.capacity ∷ decimal game.target ∷ []) (refl, (decimal_word game.bins (omega (arith, h.bins)), (decimal_word game.capacity (omega (arith, h.capacity)), (decimal_word game.target (omega (arith, h.target)), tt)))) in
-    ap game_at all ∙ rw (after_again (codes "game") (decimal game.bins ∷ decimal game.capacity ∷ decimal game.target ∷ []), number_at_again 65535 game.bins (decimal game.capacity ∷ decimal game.target ∷ []) (omega arith) h.bins, number_at_again 65535 game.capacity (decimal game.target ∷ []) (omega arith) h.capacity, number_at_again 65535 game.target [] (omega arith) h.target) refl
+    let all : words_left (Some line) ≡ game_words game = ap (λ (l : List ℕ). words_left (Some l)) h.spelled ∙ words_again (codes "game")
+    (decimal game.bins ∷ decimal game.capacity ∷ decimal game.target ∷ []) (
+      refl,
+      (
+        decimal_word game.bins (omega (arith, h.bins)),
+        (decimal_word game.capacity (omega (arith, h.capacity)), (decimal_word game.target (omega (arith, h.target)), tt)),
+      ),
+    ) in
+    ap game_at all ∙ rw (
+      after_again (codes "game") (decimal game.bins ∷ decimal game.capacity ∷ decimal game.target ∷ []),
+      number_at_again 65535 game.bins
+          (decimal game.capacity ∷ decimal game.target ∷ []) (omega arith) h.bins,
+      number_at_again 65535 game.capacity (decimal game.target ∷ []) (omega arith) h.capacity,
+      number_at_again 65535 game.target [] (omega arith) h.target,
+    ) refl
 
-pub game_exact : (line : List ℕ) (r : Option (ℕ × ℕ × ℕ)) → option_map (λ x. numbers x.0 x.1 x.2) r ≡ game_at (words_left (Some line)) → MatchOption r ((game : GameNumbers) → SpellsGame line game → ⊥) (λ x. SpellsGame line (numbers x.0 x.1 x.2))
+pub game_exact : (line : List ℕ) (r : Option (ℕ × ℕ × ℕ)) → option_map (λ x. numbers x.0 x.1 x.2) r ≡ game_at (words_left (Some line))
+    → MatchOption r ((game : GameNumbers) → SpellsGame line game → ⊥) (λ x. SpellsGame line (numbers x.0 x.1 x.2))
 game_exact line None e = λ game h. (let z = game_again line game h in absurd cc)
 game_exact line (Some x) e = game_takes line (numbers x.0 x.1 x.2) (sym e)
 
@@ -60,7 +74,8 @@ count_takes line nodes e =
 pub count_again : (line : List ℕ) (nodes : ℕ) → SpellsCount line nodes → count_at (words_left (Some line)) ≡ Some nodes
 unfolding count_at count_line
 count_again line nodes h =
-    let all : words_left (Some line) ≡ codes "nodes" ∷ decimal nodes ∷ [] = ap (λ (l : List ℕ). words_left (Some l)) h.spelled ∙ words_again (codes "nodes") (decimal nodes ∷ []) (refl, (decimal_word nodes (omega (arith, h.high)), tt)) in
+    let all : words_left (Some line) ≡ codes "nodes" ∷ decimal nodes ∷ [] = ap (λ (l : List ℕ). words_left (Some l)) h.spelled ∙ words_again (codes "nodes") (decimal nodes ∷ [])
+    (refl, (decimal_word nodes (omega (arith, h.high)), tt)) in
     ap count_at all ∙ rw (after_again (codes "nodes") (decimal nodes ∷ []), number_at_again 4000000000 nodes [] (omega arith) h.high, low_yes nodes h.low) refl
 
 pub count_exact : (line : List ℕ) (r : Option ℕ) → r ≡ count_at (words_left (Some line)) → MatchOption r ((nodes : ℕ) → SpellsCount line nodes → ⊥) (SpellsCount line)

@@ -110,7 +110,8 @@ regroup : (l : List ℕ) (ls : List (List ℕ)) (x : List ℕ) → l ++ 10 ∷ (
 regroup l ls x = sym (append_assoc (l ++ 10 ∷ []) (text_of_lines ls) x ∙ append_assoc l (10 ∷ []) (text_of_lines ls ++ x))
 
 -- two texts that go on in the same way begin with the same line
-pub first_same : (l m : List ℕ) (ls ms : List (List ℕ)) (x y : List ℕ) → is_line l ≡ true → is_line m ≡ true → text_of_lines (l ∷ ls) ++ x ≡ text_of_lines (m ∷ ms) ++ y → (l ≡ m) × (text_of_lines ls ++ x ≡ text_of_lines ms ++ y)
+pub first_same : (l m : List ℕ) (ls ms : List (List ℕ)) (x y : List ℕ) → is_line l ≡ true → is_line m ≡ true → text_of_lines (l ∷ ls) ++ x ≡ text_of_lines (m ∷ ms) ++ y
+    → (l ≡ m) × (text_of_lines ls ++ x ≡ text_of_lines ms ++ y)
 first_same l m ls ms x y p q e =
     cut l m (text_of_lines ls ++ x) (text_of_lines ms ++ y) p q (regroup l ls x ∙ e ∙ sym (regroup m ms y))
 

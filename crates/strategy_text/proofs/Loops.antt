@@ -19,16 +19,19 @@ mapped_none : (o : Option ℕ) (ws : List (List ℕ)) → (let r : Option (ℕ �
 mapped_none None ws e = refl
 mapped_none (Some n) ws e = absurd cc
 
-pub numbers_more : (so_far : List ℕ) (n : ℕ) (words rest : List (List ℕ)) (total : List ℕ × List (List ℕ)) → number_at 65535 words ≡ Some (n, rest) → numbers_so_far so_far words ≡ total → numbers_so_far (so_far ++ n ∷ []) rest ≡ total
+pub numbers_more : (so_far : List ℕ) (n : ℕ) (words rest : List (List ℕ)) (total : List ℕ × List (List ℕ)) → number_at 65535 words ≡ Some (n, rest)
+    → numbers_so_far so_far words ≡ total → numbers_so_far (so_far ++ n ∷ []) rest ≡ total
 unfolding numbers_at number_at
 numbers_more so_far n [] rest total e h = absurd cc
 numbers_more so_far n (w ∷ ws) rest total e h =
     let m = mapped (number_of 65535 w) ws (n, rest) e in
     let one : numbers_so_far so_far (w ∷ ws) ≡ (so_far ++ (n ∷ (numbers_at ws).0), (numbers_at ws).1) = rw m.0 refl in
-    let two : numbers_so_far (so_far ++ n ∷ []) ws ≡ (so_far ++ (n ∷ (numbers_at ws).0), (numbers_at ws).1) = ap (λ (ns : List ℕ). (ns, (numbers_at ws).1)) (append_assoc so_far (n ∷ []) (numbers_at ws).0) in
+    let two : numbers_so_far (so_far ++ n ∷ []) ws ≡ (so_far ++ (n ∷ (numbers_at ws).0), (numbers_at ws).1) = ap (λ (ns : List ℕ). (ns, (numbers_at ws).1))
+    (append_assoc so_far (n ∷ []) (numbers_at ws).0) in
     rw (← m.1) (two ∙ sym one ∙ h)
 
-pub numbers_end : (so_far : List ℕ) (words : List (List ℕ)) (total : List ℕ × List (List ℕ)) → number_at 65535 words ≡ None → numbers_so_far so_far words ≡ total → total ≡ (so_far, words)
+pub numbers_end : (so_far : List ℕ) (words : List (List ℕ)) (total : List ℕ × List (List ℕ)) → number_at 65535 words ≡ None → numbers_so_far so_far words ≡ total
+    → total ≡ (so_far, words)
 unfolding numbers_at number_at
 numbers_end so_far [] total e h = sym h ∙ ap (λ (ns : List ℕ). (ns, [])) (append-nil so_far)
 numbers_end so_far (w ∷ ws) total e h =
@@ -54,12 +57,13 @@ abbrev pub Beginning : Type 0
 Beginning = List (List ℕ) → Option (List (List ℕ))
 
 -- the values so far, and those of what is left, are these in all
-pub record Goes {X : Type 0} (begin : List (List ℕ) → Option (List (List ℕ))) (item : List (List ℕ) → Option (X × List (List ℕ))) (so_far : List X) (words : List (List ℕ)) (total : Option (List X × List (List ℕ))) : Type 0 where
+pub record Goes {X : Type 0} (begin : Beginning) (item : Item X) (so_far : List X) (words : List (List ℕ)) (total : Option (List X × List (List ℕ))) : Type 0 where
   pub most : ℕ
   pub enough : length words ≤ most
   pub same : prepended so_far (many_at begin item most words) ≡ total
 
-pub many_begins : {X : Type 0} (begin : Beginning) (item : Item X) (so_far : List X) (words : List (List ℕ)) → Goes begin item so_far words (prepended so_far (each_at begin item words))
+pub many_begins : {X : Type 0} (begin : Beginning) (item : Item X) (so_far : List X) (words : List (List ℕ))
+    → Goes begin item so_far words (prepended so_far (each_at begin item words))
 many_begins begin item so_far words = record { most = length words; enough = omega arith; same = refl }
 
 regroup : {X : Type 0} (so_far : List X) (x : X) (read : Option (List X × List (List ℕ))) → prepended so_far (prepended (x ∷ []) read) ≡ prepended (so_far ++ x ∷ []) read
@@ -67,11 +71,13 @@ regroup so_far x None = refl
 regroup {X} so_far x (Some y) = ap (λ (xs : List X). Some (xs, y.1)) (sym (append_assoc so_far (x ∷ []) y.0))
 
 more_by : {X : Type 0} (begin : Beginning) (item : Item X) (so_far : List X) (words rest left : List (List ℕ)) (x : X) (total : Option (List X × List (List ℕ))) (most : ℕ)
-    → begin words ≡ Some rest → item rest ≡ Some (x, left) → length left < length words → length words ≤ most → prepended so_far (many_at begin item most words) ≡ total → Goes begin item (so_far ++ x ∷ []) left total
+    → begin words ≡ Some rest → item rest ≡ Some (x, left) → length left < length words → length words ≤ most → prepended so_far (many_at begin item most words) ≡ total
+    → Goes begin item (so_far ++ x ∷ []) left total
 unfolding many_at
 more_by begin item so_far words rest left x total zero e k less enough h = absurd (omega arith)
 more_by begin item so_far words rest left x total (suc n) e k less enough h =
-    let one : prepended so_far (many_at begin item (suc n) words) ≡ prepended (so_far ++ x ∷ []) (many_at begin item n left) = rw (e, k) (regroup so_far x (many_at begin item n left)) in
+    let one : prepended so_far (many_at begin item (suc n) words) ≡ prepended (so_far ++ x ∷ []) (many_at begin item n left) = rw (e, k)
+    (regroup so_far x (many_at begin item n left)) in
     record { most = n; enough = omega arith; same = sym one ∙ h }
 
 pub many_more : {X : Type 0} (begin : Beginning) (item : Item X) (so_far : List X) (words rest left : List (List ℕ)) (x : X) (total : Option (List X × List (List ℕ)))
@@ -110,7 +116,8 @@ pub from_none : {X : Type 0} (so_far : List X) (read r : Option (List X × List 
 from_none so_far read r e h = sym (rw e (none-prepended read)) ∙ h
 
 pub many_fails : {X : Type 0} (begin : Beginning) (item : Item X) (so_far : List X) (words rest left after-it : List (List ℕ)) (total : Option (List X × List (List ℕ))) (e : Stop)
-    → begin words ≡ Some rest → 0 < length words → Reads (let r : Result X Stop = Err e in r) left (item rest) → Goes begin item so_far words total → Reads (let r : Result (List X) Stop = Err e in r) after-it total
+    → begin words ≡ Some rest → 0 < length words → Reads (let r : Result X Stop = Err e in r) left (item rest) → Goes begin item so_far words total
+    → Reads (let r : Result (List X) Stop = Err e in r) after-it total
 many_fails begin item so_far words rest left after-it total Memory e some k h = tt
 many_fails begin item so_far words rest left after-it total Form e some k h = many_stops begin item so_far words rest total e k some h
 

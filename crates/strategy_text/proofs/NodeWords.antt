@@ -27,7 +27,8 @@ lists_words : (xs : List ℕ) → AllByRecursion IsNumber xs → AreWords (list_
 lists_words [] h = (refl, tt)
 lists_words (x ∷ xs) h = numbers_words (x ∷ xs) h
 
-each_words : {X : Type 0} (spell : X → List (List ℕ)) (Fits : X → Type 0) → ((x : X) → Fits x → AreWords (spell x)) → (xs : List X) → AllByRecursion Fits xs → AreWords (flat_map spell xs)
+each_words : {X : Type 0} (spell : X → List (List ℕ)) (Fits : X → Type 0) → ((x : X) → Fits x → AreWords (spell x)) → (xs : List X) → AllByRecursion Fits xs
+    → AreWords (flat_map spell xs)
 each_words spell Fits one [] h = tt
 each_words spell Fits one (x ∷ xs) h = AreWords-append (spell x) (flat_map spell xs) (one x h.0) (each_words spell Fits one xs h.1)
 
@@ -36,7 +37,8 @@ each_words spell Fits one (x ∷ xs) h = AreWords-append (spell x) (flat_map spe
 bins_words : (bins : List (List ℕ)) → AllByRecursion (AllByRecursion IsNumber) bins → AreWords (pack_words bins)
 bins_words [] h = tt
 bins_words (bin ∷ bins) h =
-    rw (pack_bins bin bins) (AreWords-append (list_words bin) (flat_map (λ b. codes "/" ∷ list_words b) bins) (lists_words bin h.0) (each_words (λ b. codes "/" ∷ list_words b) (AllByRecursion IsNumber) (λ b f. (refl, lists_words b f)) bins h.1))
+    rw (pack_bins bin bins) (AreWords-append (list_words bin) (flat_map (λ b. codes "/" ∷ list_words b) bins) (lists_words bin h.0)
+    (each_words (λ b. codes "/" ∷ list_words b) (AllByRecursion IsNumber) (λ b f. (refl, lists_words b f)) bins h.1))
 
 packs_words : (pack : List (List ℕ)) → IsPack pack → AreWords (pack_words pack)
 packs_words pack h = bins_words pack (pack_lists pack h)
@@ -53,8 +55,14 @@ placements_words : (p : Placement) → IsPlacement p → AreWords (placement_wor
 placements_words p h = (refl, (decimal_word p.load (omega (arith, h.load)), thens_words p.next h.next))
 
 pub steps_words : (format : Format) (step : Step) → IsStep format step → AreWords (step_words step)
-steps_words format (Send size pack placements) h =
-    (refl, (decimal_word size (omega (arith, h.sent)), AreWords-append (packing_words pack) (flat_map placement_words placements) (optional_packs_words format pack h.packed) (each_words placement_words IsPlacement placements_words placements (recursion_from_All IsPlacement placements h.each))))
+steps_words format (Send size pack placements) h = (
+  refl,
+  (
+    decimal_word size (omega (arith, h.sent)),
+    AreWords-append (packing_words pack) (flat_map placement_words placements) (optional_packs_words format pack h.packed)
+        (each_words placement_words IsPlacement placements_words placements (recursion_from_All IsPlacement placements h.each)),
+  ),
+)
 steps_words format (Burst count size pack) h =
     (refl, (decimal_word count (omega (arith, h.times)), (decimal_word size (omega (arith, h.sent)), (refl, packs_words pack h.packed))))
 
@@ -75,13 +83,20 @@ acts_words format (Reply entries) h = (refl, all_entries_words entries h)
 -- ---- the words of a node
 
 positions_words : (number : ℕ) (loads items : List ℕ) → number ≤ 4294967295 → All IsNumber loads → All IsNumber items → AreWords (decimal number ∷ position_words loads items)
-positions_words number loads items le l i =
-    (decimal_word number (omega arith), AreWords-append (codes "loads" ∷ list_words loads) (codes "items" ∷ list_words items) (refl, lists_words loads (recursion_from_All IsNumber loads l)) (refl, lists_words items (recursion_from_All IsNumber items i)))
+positions_words number loads items le l i = (
+  decimal_word number (omega arith),
+  AreWords-append (codes "loads" ∷ list_words loads) (codes "items" ∷ list_words items)
+      (refl, lists_words loads (recursion_from_All IsNumber loads l)) (refl, lists_words items (recursion_from_All IsNumber items i)),
+)
 
-pub adversarys_words : (format : Format) (number : ℕ) (node : AdvNode) → number ≤ 4294967295 → IsSpellableAdversary format node → AreWords (decimal number ∷ position_words node.loads node.items ++ step_words node.step)
+pub adversarys_words : (format : Format) (number : ℕ) (node : AdvNode) → number ≤ 4294967295 → IsSpellableAdversary format node
+    → AreWords (decimal number ∷ position_words node.loads node.items ++ step_words node.step)
 adversarys_words format number node le h =
-    AreWords-append (decimal number ∷ position_words node.loads node.items) (step_words node.step) (positions_words number node.loads node.items le h.loads h.items) (steps_words format node.step h.step)
+    AreWords-append (decimal number ∷ position_words node.loads node.items) (step_words node.step) (positions_words number node.loads node.items le h.loads h.items)
+    (steps_words format node.step h.step)
 
-pub algorithms_words : (format : Format) (number : ℕ) (node : AlgNode) → number ≤ 4294967295 → IsSpellableAlgorithm format node → AreWords (decimal number ∷ position_words node.loads node.items ++ act_words node.act)
+pub algorithms_words : (format : Format) (number : ℕ) (node : AlgNode) → number ≤ 4294967295 → IsSpellableAlgorithm format node
+    → AreWords (decimal number ∷ position_words node.loads node.items ++ act_words node.act)
 algorithms_words format number node le h =
-    AreWords-append (decimal number ∷ position_words node.loads node.items) (act_words node.act) (positions_words number node.loads node.items le h.loads h.items) (acts_words format node.act h.act)
+    AreWords-append (decimal number ∷ position_words node.loads node.items) (act_words node.act) (positions_words number node.loads node.items le h.loads h.items)
+    (acts_words format node.act h.act)

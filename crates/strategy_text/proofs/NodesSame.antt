@@ -38,7 +38,8 @@ words_differ (Burst count size pack) (Reply entries) e = apart (codes "burst") (
 ended : (so_far rest : List (List ℕ)) → so_far ++ rest ≡ so_far ++ (rest ++ [])
 ended so_far rest = ap (λ (t : List (List ℕ)). so_far ++ t) (sym (append-nil rest))
 
-sides_differ : (format : Format) (number : ℕ) (a : AdvNode) (b : AlgNode) → number ≤ most_child → IsSpellableAdversary format a → IsSpellableAlgorithm format b → adversary_line number a ≡ algorithm_line number b → ⊥
+sides_differ : (format : Format) (number : ℕ) (a : AdvNode) (b : AlgNode) → number ≤ most_child → IsSpellableAdversary format a → IsSpellableAlgorithm format b
+    → adversary_line number a ≡ algorithm_line number b → ⊥
 sides_differ format number a b le g h e =
     let line = adversary_line number a in
     let wa = adversary_line_words format number line a le g refl in
@@ -50,7 +51,8 @@ sides_differ format number a b le g h e =
     let same = some_is ((a.loads, a.items), step_words a.step ++ []) ((b.loads, b.items), act_words b.act ++ []) (sym ra ∙ rb) in
     words_differ a.step b.act (ap (λ (r : (List ℕ × List ℕ) × List (List ℕ)). r.1) same)
 
-pub line_same : (format : Format) (number : ℕ) (one other : AnyNode) → number ≤ most_child → IsSpellableNode format one → IsSpellableNode format other → node_line number one ≡ node_line number other → one ≡ other
+pub line_same : (format : Format) (number : ℕ) (one other : AnyNode) → number ≤ most_child → IsSpellableNode format one → IsSpellableNode format other
+    → node_line number one ≡ node_line number other → one ≡ other
 line_same format number (of_adversary a) (of_adversary b) le g h e =
     let ra = adversary_line_again format number (adversary_line number a) a le g refl in
     let rb = adversary_line_again format number (adversary_line number a) b le h e in
@@ -71,8 +73,10 @@ line_tells format number line one other le g h = line_same format number one oth
 
 pub node_is_line : (format : Format) (number : ℕ) (node : AnyNode) → number ≤ most_child → IsSpellableNode format node → is_line (node_line number node) ≡ true
 unfolding adversary_line algorithm_line
-node_is_line format number (of_adversary node) le h = words_line (decimal number ∷ position_words node.loads node.items ++ step_words node.step) (adversarys_words format number node le h)
-node_is_line format number (of_algorithm node) le h = words_line (decimal number ∷ position_words node.loads node.items ++ act_words node.act) (algorithms_words format number node le h)
+node_is_line format number (of_adversary node) le h =
+    words_line (decimal number ∷ position_words node.loads node.items ++ step_words node.step) (adversarys_words format number node le h)
+node_is_line format number (of_algorithm node) le h =
+    words_line (decimal number ∷ position_words node.loads node.items ++ act_words node.act) (algorithms_words format number node le h)
 
 pub nodes_are_lines : NodesAreLines
 nodes_are_lines format number node le h = line_parts (node_line number node) (node_is_line format number node le h)

@@ -1,5 +1,6 @@
 -- A word is read as a number exactly where it is the number's decimal digits.
-use Rattle.std.proofs.Common.{◌≡◌, ℕ, ◌+◌, ◌-◌, ◌*◌, ◌<◌, ◌≤◌, ◌^◌, Bool, true, false, cond, ◌&&◌, ◌==◌, List, [], ◌∷◌, length, get_or, decimal, Option, Some, None, refl, sym, ap, ◌∙◌, arith, rules, inl, inr}
+use Rattle.std.proofs.Common.{◌≡◌, ℕ, ◌+◌, ◌-◌, ◌*◌, ◌<◌, ◌≤◌, ◌^◌, Bool, true, false, cond, ◌&&◌, ◌==◌, List, [], ◌∷◌, length, get_or, decimal, Option, Some, None, refl, sym, ap}
+use Rattle.std.proofs.Common.{◌∙◌, arith, rules, inl, inr}
 use Rattle.std.proofs.lemmas.Bool.{cases_lt}
 use Rattle.std.specs.Prelude.{nat_le}
 use Rattle.std.specs.Char.{is_ascii_digit}
@@ -55,7 +56,8 @@ digits_again high n (c ∷ cs) d le =
     let q = le_yes (10 * n + (c - 48)) high (omega (arith, grows (10 * n + (c - 48)) cs)) in
     rw (p.0, q) (digits_again high (10 * n + (c - 48)) cs p.1 le)
 
-spelled : (high n : ℕ) (word : List ℕ) → high < 2 ^ 64 → 0 < length word → (get_or word 0 0 ≡ 48 → length word ≡ 1) → digits_after high 0 word ≡ Some n → (word ≡ decimal n) × (n ≤ high)
+spelled : (high n : ℕ) (word : List ℕ) → high < 2 ^ 64 → 0 < length word → (get_or word 0 0 ≡ 48 → length word ≡ 1) → digits_after high 0 word ≡ Some n
+    → (word ≡ decimal n) × (n ≤ high)
 spelled high n word small some lead e =
     let r = digits_read high 0 n word e in
     let le : n ≤ high = r.low (omega arith) in

@@ -25,20 +25,24 @@ each_spaced words xs = spaced (flat_map words xs)
 each-append : {X : Type 0} (words : X → List (List ℕ)) (xs ys : List X) → each_spaced words (xs ++ ys) ≡ each_spaced words xs ++ each_spaced words ys
 each-append words xs ys = ap spaced (flat_map-append words xs ys) ∙ spaced-append (flat_map words xs) (flat_map words ys)
 
-pub each_more : {X : Type 0} (words : X → List (List ℕ)) (xs : List X) (i : ℕ) (x : X) → i < length xs → get_or xs i x ≡ x → each_spaced words (take (i + 1) xs) ≡ each_spaced words (take i xs) ++ spaced (words x)
+pub each_more : {X : Type 0} (words : X → List (List ℕ)) (xs : List X) (i : ℕ) (x : X) → i < length xs → get_or xs i x ≡ x
+    → each_spaced words (take (i + 1) xs) ≡ each_spaced words (take i xs) ++ spaced (words x)
 each_more words xs i x h e =
-    ap (each_spaced words) (take_more xs i x h ∙ ap (λ y. take i xs ++ y ∷ []) e) ∙ each-append words (take i xs) (x ∷ []) ∙ ap (λ (t : List (List ℕ)). each_spaced words (take i xs) ++ spaced t) (append-nil (words x))
+    ap (each_spaced words) (take_more xs i x h ∙ ap (λ y. take i xs ++ y ∷ []) e) ∙ each-append words (take i xs) (x ∷ []) ∙ ap
+    (λ (t : List (List ℕ)). each_spaced words (take i xs) ++ spaced t) (append-nil (words x))
 
 pub each_rest : {X : Type 0} (words : X → List (List ℕ)) (xs : List X) (i : ℕ) → each_spaced words xs ≡ each_spaced words (take i xs) ++ each_spaced words (drop i xs)
 each_rest words xs i = ap (each_spaced words) (sym (take-append-drop i xs)) ∙ each-append words (take i xs) (drop i xs)
 
 -- the words of the values so far were taken, and those of the next
-pub took_each : {X : Type 0} (words : X → List (List ℕ)) (xs : List X) (i : ℕ) (x : X) (a b c : Standing) → i < length xs → get_or xs i x ≡ x → Took a b (each_spaced words (take i xs)) → Took b c (spaced (words x)) → Took a c (each_spaced words (take (i + 1) xs))
+pub took_each : {X : Type 0} (words : X → List (List ℕ)) (xs : List X) (i : ℕ) (x : X) (a b c : Standing) → i < length xs → get_or xs i x ≡ x
+    → Took a b (each_spaced words (take i xs)) → Took b c (spaced (words x)) → Took a c (each_spaced words (take (i + 1) xs))
 took_each words xs i x a b c h e p q =
     subst (Took a c) (sym (each_more words xs i x h e)) (took_then a b c (each_spaced words (take i xs)) (spaced (words x)) p q)
 
 -- the words of the values so far were taken, and of those of the next a prefix
-pub stopped_each : {X : Type 0} (words : X → List (List ℕ)) (xs : List X) (i : ℕ) (x : X) (a b c : Standing) → i < length xs → get_or xs i x ≡ x → Took a b (each_spaced words (take i xs)) → Stopped b c (spaced (words x)) → Stopped a c (each_spaced words xs)
+pub stopped_each : {X : Type 0} (words : X → List (List ℕ)) (xs : List X) (i : ℕ) (x : X) (a b c : Standing) → i < length xs → get_or xs i x ≡ x
+    → Took a b (each_spaced words (take i xs)) → Stopped b c (spaced (words x)) → Stopped a c (each_spaced words xs)
 stopped_each words xs i x a b c h e p q =
     let so_far = each_spaced words (take i xs) ++ spaced (words x) in
     let rest = each_spaced words (drop (i + 1) xs) in
@@ -75,7 +79,8 @@ rest_of : (x : List ℕ) (xs : List (List ℕ)) → take (length (x ∷ xs) - 1)
 rest_of x xs = take_all (length (x ∷ xs) - 1) xs (omega arith)
 
 -- the first list of a packing was taken, and the others were written
-pub writes_bins : {X E : Type 0} (r : Result X E) (a b c : Standing) (first : List ℕ) (bins : List (List ℕ)) → 1 ≤ length bins → first ≡ get_or bins 0 first → Took a b (spaced (list_words first))
+pub writes_bins : {X E : Type 0} (r : Result X E) (a b c : Standing) (first : List ℕ) (bins : List (List ℕ)) → 1 ≤ length bins → first ≡ get_or bins 0 first
+    → Took a b (spaced (list_words first))
     → Writes r b c (spaced (flat_map (λ bin. codes "/" ∷ list_words bin) (take (length bins - 1) (drop 1 bins)))) → Writes r a c (spaced (pack_words bins))
 writes_bins r a b c first [] le is p q = absurd (omega arith)
 writes_bins r a b c first (x ∷ xs) le is p q =

@@ -21,13 +21,16 @@ each_algorithm format (x ∷ xs) h = (h.0, each_algorithm format xs h.1)
 
 -- nodes of the adversary that lines can spell
 pub adversary_nodes : (format : Format) (list : List AdvNode) → All (IsSpellableAdversary format) list → All (IsSpellableNode format) (map of_adversary list)
-adversary_nodes format list h = All-from_recursion (IsSpellableNode format) (map of_adversary list) (each_adversary format list (recursion_from_All (IsSpellableAdversary format) list h))
+adversary_nodes format list h =
+    All-from_recursion (IsSpellableNode format) (map of_adversary list) (each_adversary format list (recursion_from_All (IsSpellableAdversary format) list h))
 
 -- nodes of the algorithm that lines can spell
 pub algorithm_nodes : (format : Format) (list : List AlgNode) → All (IsSpellableAlgorithm format) list → All (IsSpellableNode format) (map of_algorithm list)
-algorithm_nodes format list h = All-from_recursion (IsSpellableNode format) (map of_algorithm list) (each_algorithm format list (recursion_from_All (IsSpellableAlgorithm format) list h))
+algorithm_nodes format list h =
+    All-from_recursion (IsSpellableNode format) (map of_algorithm list) (each_algorithm format list (recursion_from_All (IsSpellableAlgorithm format) list h))
 
-pub adversary_spellable : (format : Format) (game : GameNumbers) (list : List AdvNode) → IsGame game → 1 ≤ length list → length list ≤ most_nodes → All (IsSpellableAdversary format) list
+pub adversary_spellable : (format : Format) (game : GameNumbers) (list : List AdvNode) → IsGame game → 1 ≤ length list → length list ≤ most_nodes
+    → All (IsSpellableAdversary format) list
     → IsSpellable (record { format = format; game = game; nodes = Adversary list })
 adversary_spellable format game list legal low high h = record {
   bins = omega (arith, legal.bins.high);
@@ -38,7 +41,8 @@ adversary_spellable format game list legal low high h = record {
   each = adversary_nodes format list h;
 }
 
-pub algorithm_spellable : (format : Format) (game : GameNumbers) (list : List AlgNode) → IsGame game → 1 ≤ length list → length list ≤ most_nodes → All (IsSpellableAlgorithm format) list
+pub algorithm_spellable : (format : Format) (game : GameNumbers) (list : List AlgNode) → IsGame game → 1 ≤ length list → length list ≤ most_nodes
+    → All (IsSpellableAlgorithm format) list
     → IsSpellable (record { format = format; game = game; nodes = Algorithm list })
 algorithm_spellable format game list legal low high h = record {
   bins = omega (arith, legal.bins.high);

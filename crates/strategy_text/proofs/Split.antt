@@ -13,7 +13,8 @@ no_place : (b : Bool) (n : ℕ) → cond b (Some n) None ≡ None → b ≡ fals
 no_place true n e = absurd cc
 no_place false n e = refl
 
-pub split_some : (p : ℕ → Bool) (bytes : List ℕ) (i : ℕ) → position p bytes ≡ Some i → slice_split p bytes ≡ take i bytes ∷ slice_split p (take (length bytes - (i + 1)) (drop (i + 1) bytes))
+pub split_some : (p : ℕ → Bool) (bytes : List ℕ) (i : ℕ) → position p bytes ≡ Some i
+    → slice_split p bytes ≡ take i bytes ∷ slice_split p (take (length bytes - (i + 1)) (drop (i + 1) bytes))
 split_some p bytes i e =
     let h = some_place _ _ i e in
     let lt : position_or_len p bytes < length bytes = ltb-true _ _ h.0 in

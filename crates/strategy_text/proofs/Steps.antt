@@ -98,13 +98,15 @@ some_again (x ∷ xs) left h = rw (full (length xs)) refl
 
 -- ---- choices
 
-choose_by : {X : Type 0} (word : List ℕ) (words : List (List ℕ)) (o : Option (List (List ℕ))) (here : List (List ℕ) → Option X) (other : Option X) (y : X) (P : Type 0) → after word words ≡ o → choose o here other ≡ Some y
+choose_by : {X : Type 0} (word : List ℕ) (words : List (List ℕ)) (o : Option (List (List ℕ))) (here : List (List ℕ) → Option X) (other : Option X) (y : X) (P : Type 0)
+    → after word words ≡ o → choose o here other ≡ Some y
     → ((rest : List (List ℕ)) → words ≡ word ∷ rest → here rest ≡ Some y → P) → (other ≡ Some y → P) → P
 choose_by word words None here other y P e k there missing = missing k
 choose_by word words (Some rest) here other y P e k there missing = there rest (after_takes word words rest e) k
 
 -- a choice that was read, by whether its word was there
-pub choose_then : {X : Type 0} (word : List ℕ) (words : List (List ℕ)) (here : List (List ℕ) → Option X) (other : Option X) (y : X) (P : Type 0) → choose (after word words) here other ≡ Some y
+pub choose_then : {X : Type 0} (word : List ℕ) (words : List (List ℕ)) (here : List (List ℕ) → Option X) (other : Option X) (y : X) (P : Type 0)
+    → choose (after word words) here other ≡ Some y
     → ((rest : List (List ℕ)) → words ≡ word ∷ rest → here rest ≡ Some y → P) → (other ≡ Some y → P) → P
 choose_then word words here other y P k there missing = choose_by word words (after word words) here other y P refl k there missing
 

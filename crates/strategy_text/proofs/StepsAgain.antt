@@ -47,13 +47,19 @@ unfolding number_of
 slashes_end [] rest h = h
 slashes_end (bin ∷ bins) rest h = refl
 
-bins_again : (bin : List ℕ) (bins rest : List (List ℕ)) → AllByRecursion (AllByRecursion IsNumber) (bin ∷ bins) → EndsPack rest → pack_at (pack_words (bin ∷ bins) ++ rest) ≡ Some (bin ∷ bins, rest)
+bins_again : (bin : List ℕ) (bins rest : List (List ℕ)) → AllByRecursion (AllByRecursion IsNumber) (bin ∷ bins) → EndsPack rest
+    → pack_at (pack_words (bin ∷ bins) ++ rest) ≡ Some (bin ∷ bins, rest)
 unfolding pack_at
 bins_again bin bins rest fits end =
     let others = flat_map (λ b. codes "/" ∷ list_words b) bins in
-    let regrouped : pack_words (bin ∷ bins) ++ rest ≡ list_words bin ++ (others ++ rest) = ap (λ (t : List (List ℕ)). t ++ rest) (pack_bins bin bins) ∙ append_assoc (list_words bin) others rest in
+    let regrouped : pack_words (bin ∷ bins) ++ rest ≡ list_words bin ++ (others ++ rest) = ap (λ (t : List (List ℕ)). t ++ rest) (pack_bins bin bins) ∙ append_assoc
+    (list_words bin) others rest in
     let follow : Ends (others ++ rest) = slashes_end bins rest end.ends in
-    ap pack_at regrouped ∙ rw (list_again bin (others ++ rest) fits.0 follow, many_again (codes "/" ∷ []) (after (codes "/")) list_at list_words (AllByRecursion IsNumber) Ends slash_again list_again slash_ends bins rest (length (others ++ rest)) fits.1 end.ends end.slash (many_fit (λ b. codes "/" ∷ list_words b) bins rest one_slash)) refl
+    ap pack_at regrouped ∙ rw (
+      list_again bin (others ++ rest) fits.0 follow,
+      many_again (codes "/" ∷ []) (after (codes "/")) list_at list_words (AllByRecursion IsNumber) Ends
+          slash_again list_again slash_ends bins rest (length (others ++ rest)) fits.1 end.ends end.slash (many_fit (λ b. codes "/" ∷ list_words b) bins rest one_slash),
+    ) refl
 
 pack_again : ReadsAgain pack_words IsPack EndsPack pack_at
 pack_again [] rest fits end = absurd (fits.some refl)
@@ -76,7 +82,8 @@ Anything ws = Unit {0}
 then_again : ReadsAgain then_words IsThen Anything then_at
 unfolding then_at
 then_again Over rest fits follows = rw (after_again (codes "over") rest) refl
-then_again (To child) rest fits follows = rw (to_not_over (decimal child ∷ rest), after_again (codes "to") (decimal child ∷ rest), number_at_again 4294967295 child rest (omega arith) fits) refl
+then_again (To child) rest fits follows =
+    rw (to_not_over (decimal child ∷ rest), after_again (codes "to") (decimal child ∷ rest), number_at_again 4294967295 child rest (omega arith) fits) refl
 
 placement_again : ReadsAgain on_words IsPlacement Anything placement_at
 unfolding placement_at
@@ -96,7 +103,9 @@ one_on p = omega arith
 placements_again : (placements : List Placement) → placements ≢ [] → All IsPlacement placements → placements_at (flat_map placement_words placements ++ []) ≡ Some (placements, [])
 unfolding placements_at
 placements_again placements some fits =
-    rw (many_again (codes "on" ∷ []) (after (codes "on")) placement_at on_words IsPlacement Anything on_again placement_again (λ p ws. tt) placements [] (length (flat_map placement_words placements ++ [])) (recursion_from_All IsPlacement placements fits) tt on_none (many_fit placement_words placements [] one_on)) (some_again placements [] some)
+    rw (many_again (codes "on" ∷ []) (after (codes "on")) placement_at on_words IsPlacement Anything on_again placement_again (λ p ws. tt) placements []
+    (length (flat_map placement_words placements ++ [])) (recursion_from_All IsPlacement placements fits) tt on_none (many_fit placement_words placements [] one_on)) (some_again
+    placements [] some)
 
 on_ends : (ws : List (List ℕ)) → EndsPack (codes "on" ∷ ws)
 unfolding number_of after
@@ -120,11 +129,27 @@ step_again : (format : Format) (step : Step) → IsStep format step → step_at 
 unfolding step_at send_at burst_at
 step_again format (Send size pack placements) fits =
     let on = flat_map placement_words placements ++ [] in
-    let parts : step_words (Send size pack placements) ++ [] ≡ codes "send" ∷ decimal size ∷ (packing_words pack ++ on) = ap (λ (t : List (List ℕ)). codes "send" ∷ decimal size ∷ t) (append_assoc (packing_words pack) (flat_map placement_words placements) []) in
-    ap (step_at format) parts ∙ rw (after_again (codes "send") (decimal size ∷ (packing_words pack ++ on)), number_at_again 65535 size (packing_words pack ++ on) (omega arith) fits.sent, optional_pack_again format pack on fits.packed (placements_end placements fits.some), placements_again placements fits.some fits.each) refl
+    let parts : step_words (Send size pack placements) ++ [] ≡ codes "send" ∷ decimal size ∷ (packing_words pack ++ on) = ap
+    (λ (t : List (List ℕ)). codes "send" ∷ decimal size ∷ t) (append_assoc (packing_words pack) (flat_map placement_words placements) []) in
+    ap (step_at format) parts ∙ rw (
+      after_again (codes "send") (decimal size ∷ (packing_words pack ++ on)),
+      number_at_again 65535 size (packing_words pack ++ on) (omega arith)
+          fits.sent,
+      optional_pack_again format pack on fits.packed (placements_end placements fits.some),
+      placements_again placements fits.some fits.each,
+    ) refl
 step_again format (Burst count size pack) fits =
     let bins = pack_words pack ++ [] in
-    rw (burst_not_send (decimal count ∷ decimal size ∷ codes "pack" ∷ bins), fits.second, after_again (codes "burst") (decimal count ∷ decimal size ∷ codes "pack" ∷ bins), number_at_again 65535 count (decimal size ∷ codes "pack" ∷ bins) (omega arith) fits.times, number_at_again 65535 size (codes "pack" ∷ bins) (omega arith) fits.sent, after_again (codes "pack") bins, pack_again pack [] fits.packed nothing_ends) refl
+    rw (
+      burst_not_send (decimal count ∷ decimal size ∷ codes "pack" ∷ bins),
+      fits.second,
+      after_again (codes "burst") (decimal count ∷ decimal size ∷ codes "pack" ∷ bins),
+      number_at_again 65535 count (decimal size ∷ codes "pack" ∷ bins) (omega arith) fits.times,
+      number_at_again 65535 size (codes "pack" ∷ bins) (omega arith) fits.sent,
+      after_again
+          (codes "pack") bins,
+      pack_again pack [] fits.packed nothing_ends,
+    ) refl
 
 pub step_ends : (step : Step) → Ends (step_words step ++ [])
 unfolding number_of
@@ -138,4 +163,8 @@ unfolding adversary_at
 adversary_again format number node le h =
     let so_far = decimal number ∷ position_words node.loads node.items in
     let parts : so_far ++ step_words node.step ≡ so_far ++ (step_words node.step ++ []) = ap (λ (t : List (List ℕ)). so_far ++ t) (sym (append-nil (step_words node.step))) in
-    ap (adversary_at format number) parts ∙ rw (position_again number le (node.loads, node.items) (step_words node.step ++ []) (h.loads, h.items) (step_ends node.step), step_again format node.step h.step) refl
+    ap (adversary_at format number) parts ∙ rw (
+      position_again number le (node.loads, node.items) (step_words node.step ++ []) (h.loads, h.items) (step_ends node.step),
+      step_again
+          format node.step h.step,
+    ) refl

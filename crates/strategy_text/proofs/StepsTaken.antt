@@ -14,7 +14,8 @@ use Rattle.strategy_text.specs.declared.node.Then.TheVariants.{Over, To}
 use Rattle.strategy_text.specs.Text.{list_words, pack_words, packing_words, then_words, placement_words, step_words, position_words}
 use Rattle.strategy_text.specs.Spelling.{IsNumber, IsThen, IsPlacement, IsPack, IsOptionalPack, IsStep, IsSpellableAdversary}
 use Rattle.strategy_text.specs.Words.{after}
-use Rattle.strategy_text.specs.Reading.{some_at, list_at, each_at, bins_at, pack_at, optional_pack_at, child_at, then_at, placement_at, placements_at, send_at, burst_at, step_at, position_at, adversary_at}
+use Rattle.strategy_text.specs.Reading.{some_at, list_at, each_at, bins_at, pack_at, optional_pack_at, child_at, then_at, placement_at, placements_at, send_at, burst_at, step_at}
+use Rattle.strategy_text.specs.Reading.{position_at, adversary_at}
 use Rattle.strategy_text.proofs.Steps.{bind_some, some_is, after_takes, after_then, some_takes, number_then, whole_takes, choose_then, second_takes}
 use Rattle.strategy_text.proofs.Taken.{Begins, Spells, Begins-shrinks, begins_then, many_takes, list_takes, numbered_words, IsPositionOfNumbers, position_takes}
 
@@ -35,13 +36,16 @@ each_all (bin ∷ bins) h = (All-from_recursion IsNumber bin h.0, each_all bins 
 is_pack : (bin : List ℕ) (bins : List (List ℕ)) → AllByRecursion (AllByRecursion IsNumber) (bin ∷ bins) → IsPack (bin ∷ bins)
 is_pack bin bins h = record { some = not_nil bin bins; each = All-from_recursion (All IsNumber) (bin ∷ bins) (each_all (bin ∷ bins) h) }
 
-bins_takes : (first : List ℕ) (words : List (List ℕ)) (x : List (List ℕ) × List (List ℕ)) → AllByRecursion IsNumber first → bins_at first words ≡ Some x → Begins (list_words first ++ words) (pack_words x.0) x.1 (IsPack x.0)
+bins_takes : (first : List ℕ) (words : List (List ℕ)) (x : List (List ℕ) × List (List ℕ)) → AllByRecursion IsNumber first → bins_at first words ≡ Some x
+    → Begins (list_words first ++ words) (pack_words x.0) x.1 (IsPack x.0)
 bins_takes first words x fits e =
     let b = bind_some (each_at (after (codes "/")) list_at words) (λ xs. Some ((first ∷ []) ++ xs.0, xs.1)) x e in
     let t = many_takes (codes "/" ∷ []) (after (codes "/")) list_at list_words (AllByRecursion IsNumber) (after_takes (codes "/")) list_takes (length words) words b.0 b.1 in
     let y : List (List ℕ) × List (List ℕ) = (first ∷ b.0.0, b.0.1) in
-    let parts : list_words first ++ words ≡ pack_words (first ∷ b.0.0) ++ b.0.1 = ap (λ (t : List (List ℕ)). list_words first ++ t) t.parts ∙ sym (append_assoc (list_words first) _ b.0.1) ∙ ap (λ (t : List (List ℕ)). t ++ b.0.1) (sym (pack_bins first b.0.0)) in
-    subst (λ (y : List (List ℕ) × List (List ℕ)). Begins (list_words first ++ words) (pack_words y.0) y.1 (IsPack y.0)) (some_is y x b.2) (record { parts = parts; fits = is_pack first b.0.0 (fits, t.fits) })
+    let parts : list_words first ++ words ≡ pack_words (first ∷ b.0.0) ++ b.0.1 = ap (λ (t : List (List ℕ)). list_words first ++ t) t.parts ∙ sym
+    (append_assoc (list_words first) _ b.0.1) ∙ ap (λ (t : List (List ℕ)). t ++ b.0.1) (sym (pack_bins first b.0.0)) in
+    subst (λ (y : List (List ℕ) × List (List ℕ)). Begins (list_words first ++ words) (pack_words y.0) y.1 (IsPack y.0)) (some_is y x b.2)
+    (record { parts = parts; fits = is_pack first b.0.0 (fits, t.fits) })
 
 pack_takes : Spells pack_words IsPack pack_at
 unfolding pack_at
@@ -113,16 +117,22 @@ placements_takes words x e =
 
 -- ---- what is sent
 
-send_takes : (format : Format) (words : List (List ℕ)) (x : Step × List (List ℕ)) → send_at format words ≡ Some x → Begins (codes "send" ∷ words) (step_words x.0) x.1 (IsStep format x.0)
+send_takes : (format : Format) (words : List (List ℕ)) (x : Step × List (List ℕ)) → send_at format words ≡ Some x
+    → Begins (codes "send" ∷ words) (step_words x.0) x.1 (IsStep format x.0)
 unfolding send_at
 send_takes format words x e =
     number_then 65535 words _ x _ (omega arith) e
     (λ n r1 e1 le k1. begins_then (optional_pack_at format) packing_words (IsOptionalPack format) (optional_pack_takes format) r1 _ x _ k1
     (λ pack r2 e2 f2 k2. begins_then placements_at (flat_map placement_words) ArePlacements placements_takes r2 _ x _ k2
     (λ placements r3 e3 f3 k3. let y : Step × List (List ℕ) = (Send n pack placements, r3) in
-    let tail : r1 ≡ (packing_words pack ++ flat_map placement_words placements) ++ r3 = e2 ∙ ap (λ (t : List (List ℕ)). packing_words pack ++ t) e3 ∙ sym (append_assoc (packing_words pack) (flat_map placement_words placements) r3) in
+    let tail : r1 ≡ (packing_words pack ++ flat_map placement_words placements) ++ r3 = e2 ∙ ap (λ (t : List (List ℕ)). packing_words pack ++ t) e3 ∙ sym
+    (append_assoc (packing_words pack) (flat_map placement_words placements) r3) in
     subst (λ (y : Step × List (List ℕ)). Begins (codes "send" ∷ words) (step_words y.0) y.1 (IsStep format y.0)) (some_is y x k3)
-    (record { parts = ap (λ (t : List (List ℕ)). codes "send" ∷ t) (e1 ∙ ap (λ (t : List (List ℕ)). decimal n ∷ t) tail); fits = record { sent = le; packed = f2; some = f3.some; each = f3.each } }))))
+    (record {
+      parts = ap (λ (t : List (List ℕ)). codes "send" ∷ t) (e1 ∙ ap (λ (t : List (List ℕ)). decimal n ∷ t) tail);
+      fits = record
+          { sent = le; packed = f2; some = f3.some; each = f3.each };
+    }))))
 
 burst_takes : Spells step_words (IsStep Two) burst_at
 unfolding burst_at

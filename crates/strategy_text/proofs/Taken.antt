@@ -1,5 +1,6 @@
 -- What is read of the words that the nodes of both sides begin with is spelled so.
-use Rattle.std.proofs.Common.{◌≡◌, ◌≢◌, ℕ, zero, suc, ◌≤◌, ◌==◌, List, [], ◌∷◌, ◌++◌, length, map, decimal, codes, Option, Some, None, refl, sym, ap, subst, ◌∙◌, arith, append_assoc, length-append, All}
+use Rattle.std.proofs.Common.{◌≡◌, ◌≢◌, ℕ, zero, suc, ◌≤◌, ◌==◌, List, [], ◌∷◌, ◌++◌, length, map, decimal, codes, Option, Some, None, refl, sym, ap, subst, ◌∙◌, arith}
+use Rattle.std.proofs.Common.{append_assoc, length-append, All}
 use Rattle.std.specs.List.{flat_map, AllByRecursion}
 use Rattle.std.proofs.lemmas.Bool.{eqb-true}
 use Rattle.std.proofs.lemmas.List.Elements.{All-from_recursion}
@@ -16,7 +17,8 @@ pub record Begins (words text rest : List (List ℕ)) (Fits : Type 0) : Type 0 w
   pub parts : words ≡ text ++ rest
   pub fits : Fits
 
-numbers_step : (w : List ℕ) (ws : List (List ℕ)) (o : Option ℕ) (found : List ℕ × List (List ℕ)) → number_of 65535 w ≡ o → Begins ws (map decimal found.0) found.1 (AllByRecursion IsNumber found.0)
+numbers_step : (w : List ℕ) (ws : List (List ℕ)) (o : Option ℕ) (found : List ℕ × List (List ℕ)) → number_of 65535 w ≡ o
+    → Begins ws (map decimal found.0) found.1 (AllByRecursion IsNumber found.0)
     → Begins (w ∷ ws) (map decimal (numbers_from o (w ∷ ws) found).0) (numbers_from o (w ∷ ws) found).1 (AllByRecursion IsNumber (numbers_from o (w ∷ ws) found).0)
 numbers_step w ws None found e h = record { parts = refl; fits = tt }
 numbers_step w ws (Some n) found e h =
@@ -41,7 +43,8 @@ list_takes words x e =
     (λ rest e0 k. let y : List ℕ × List (List ℕ) = ([], rest) in
     subst (λ (y : List ℕ × List (List ℕ)). Begins words (list_words y.0) y.1 (AllByRecursion IsNumber y.0)) (some_is y x k) (record { parts = e0; fits = tt }))
     (λ k. let t = some_takes (numbers_at words) x k in
-    subst (λ (y : List ℕ × List (List ℕ)). y.0 ≢ [] → Begins words (list_words y.0) y.1 (AllByRecursion IsNumber y.0)) t.0 (λ some. record { parts = rw (list_some (numbers_at words).0 some) found.parts; fits = found.fits }) t.1)
+    subst (λ (y : List ℕ × List (List ℕ)). y.0 ≢ [] → Begins words (list_words y.0) y.1 (AllByRecursion IsNumber y.0)) t.0
+    (λ some. record { parts = rw (list_some (numbers_at words).0 some) found.parts; fits = found.fits }) t.1)
 
 -- what a reader takes is spelled so
 abbrev pub Spells : {X : Type 0} → (X → List (List ℕ)) → (X → Type 0) → (List (List ℕ) → Option (X × List (List ℕ))) → Type 0
@@ -51,7 +54,8 @@ Spells {X} spell Fits item = (words : List (List ℕ)) (x : X × List (List ℕ)
 abbrev pub BeginsWith : List (List ℕ) → Beginning → Type 0
 BeginsWith lead begin = (words rest : List (List ℕ)) → begin words ≡ Some rest → words ≡ lead ++ rest
 
-many_step : {X : Type 0} (lead : List (List ℕ)) (begin : Beginning) (item : Item X) (spell : X → List (List ℕ)) (Fits : X → Type 0) (others : List (List ℕ) → Option (List X × List (List ℕ)))
+many_step : {X : Type 0} (lead : List (List ℕ)) (begin : Beginning) (item : Item X) (spell : X → List (List ℕ)) (Fits : X → Type 0)
+    (others : List (List ℕ) → Option (List X × List (List ℕ)))
     → BeginsWith lead begin → Spells spell Fits item → Spells (flat_map (λ x. lead ++ spell x)) (AllByRecursion Fits) others
     → (words : List (List ℕ)) (o : Option (List (List ℕ))) → begin words ≡ o → (found : List X × List (List ℕ)) → many_from o words item others ≡ Some found
     → Begins words (flat_map (λ x. lead ++ spell x) found.0) found.1 (AllByRecursion Fits found.0)
@@ -67,12 +71,15 @@ many_step {X} lead begin item spell Fits others starts one more words (Some rest
     let all : List X × List (List ℕ) = (a.0.0 ∷ b.0.0, b.0.1) in
     let is = some_is all found b.2 in
     let more_words = flat_map (λ x. lead ++ spell x) b.0.0 in
-    let here : words ≡ lead ++ (spell a.0.0 ++ (more_words ++ b.0.1)) = starts words rest e ∙ ap (λ (t : List (List ℕ)). lead ++ t) (ta.parts ∙ ap (λ (t : List (List ℕ)). spell a.0.0 ++ t) tb.parts) in
-    let regrouped : ((lead ++ spell a.0.0) ++ more_words) ++ b.0.1 ≡ lead ++ (spell a.0.0 ++ (more_words ++ b.0.1)) = append_assoc (lead ++ spell a.0.0) more_words b.0.1 ∙ append_assoc lead (spell a.0.0) (more_words ++ b.0.1) in
+    let here : words ≡ lead ++ (spell a.0.0 ++ (more_words ++ b.0.1)) = starts words rest e ∙ ap (λ (t : List (List ℕ)). lead ++ t)
+    (ta.parts ∙ ap (λ (t : List (List ℕ)). spell a.0.0 ++ t) tb.parts) in
+    let regrouped : ((lead ++ spell a.0.0) ++ more_words) ++ b.0.1 ≡ lead ++ (spell a.0.0 ++ (more_words ++ b.0.1)) = append_assoc (lead ++ spell a.0.0) more_words b.0.1 ∙
+    append_assoc lead (spell a.0.0) (more_words ++ b.0.1) in
     let joined : Begins words (flat_map (λ x. lead ++ spell x) all.0) all.1 (AllByRecursion Fits all.0) = record { parts = here ∙ sym regrouped; fits = (ta.fits, tb.fits) } in
     subst (λ (y : List X × List (List ℕ)). Begins words (flat_map (λ x. lead ++ spell x) y.0) y.1 (AllByRecursion Fits y.0)) is joined
 
-pub many_takes : {X : Type 0} (lead : List (List ℕ)) (begin : Beginning) (item : Item X) (spell : X → List (List ℕ)) (Fits : X → Type 0) → BeginsWith lead begin → Spells spell Fits item → (n : ℕ) → Spells (flat_map (λ x. lead ++ spell x)) (AllByRecursion Fits) (many_at begin item n)
+pub many_takes : {X : Type 0} (lead : List (List ℕ)) (begin : Beginning) (item : Item X) (spell : X → List (List ℕ)) (Fits : X → Type 0) → BeginsWith lead begin
+    → Spells spell Fits item → (n : ℕ) → Spells (flat_map (λ x. lead ++ spell x)) (AllByRecursion Fits) (many_at begin item n)
 unfolding many_at
 many_takes {X} lead begin item spell Fits starts one zero words found k =
     let none : List X × List (List ℕ) = ([], words) in
@@ -106,7 +113,8 @@ numbered_takes number words rest e =
     let same : n ≡ number = eqb-true n number t.0 in
     e1 ∙ rw (same, t.1) refl)
 
-labelled_takes : (word : List ℕ) (words : List (List ℕ)) (x : List ℕ × List (List ℕ)) → labelled_at word words ≡ Some x → Begins words (word ∷ list_words x.0) x.1 (AllByRecursion IsNumber x.0)
+labelled_takes : (word : List ℕ) (words : List (List ℕ)) (x : List ℕ × List (List ℕ)) → labelled_at word words ≡ Some x
+    → Begins words (word ∷ list_words x.0) x.1 (AllByRecursion IsNumber x.0)
 unfolding labelled_at
 labelled_takes word words x e =
     after_then word words _ x _ e
@@ -126,11 +134,13 @@ joined a b c d rest e f = e ∙ ap (λ (t : List (List ℕ)). b ++ t) f ∙ sym 
 pub position_takes : (number : ℕ) → Spells (numbered_words number) IsPositionOfNumbers (position_at number)
 unfolding position_at
 position_takes number words x e =
-    let b = bind_some (numbered_at number words) (λ rest. labelled_at (codes "loads") rest >>= λ loads. labelled_at (codes "items") loads.1 >>= λ items. Some ((loads.0, items.0), items.1)) x e in
+    let b = bind_some (numbered_at number words) (λ rest. labelled_at (codes "loads") rest >>= λ loads. labelled_at (codes "items") loads.1 >>= λ items. Some
+    ((loads.0, items.0), items.1)) x e in
     let e0 = numbered_takes number words b.0 b.1 in
     begins_then (labelled_at (codes "loads")) (λ xs. codes "loads" ∷ list_words xs) (AllByRecursion IsNumber) (labelled_takes (codes "loads")) b.0 _ x _ b.2
     (λ loads r1 e1 f1 k1. begins_then (labelled_at (codes "items")) (λ xs. codes "items" ∷ list_words xs) (AllByRecursion IsNumber) (labelled_takes (codes "items")) r1 _ x _ k1
     (λ items r2 e2 f2 k2. let y : (List ℕ × List ℕ) × List (List ℕ) = ((loads, items), r2) in
-    let parts : words ≡ numbered_words number (loads, items) ++ r2 = e0 ∙ ap (λ (t : List (List ℕ)). decimal number ∷ t) (joined b.0 (codes "loads" ∷ list_words loads) r1 (codes "items" ∷ list_words items) r2 e1 e2) in
+    let parts : words ≡ numbered_words number (loads, items) ++ r2 = e0 ∙ ap (λ (t : List (List ℕ)). decimal number ∷ t)
+    (joined b.0 (codes "loads" ∷ list_words loads) r1 (codes "items" ∷ list_words items) r2 e1 e2) in
     subst (λ (y : (List ℕ × List ℕ) × List (List ℕ)). Begins words (numbered_words number y.0) y.1 (IsPositionOfNumbers y.0)) (some_is y x k2)
     (record { parts = parts; fits = (All-from_recursion IsNumber loads f1, All-from_recursion IsNumber items f2) })))

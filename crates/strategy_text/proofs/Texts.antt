@@ -13,7 +13,8 @@ use Rattle.strategy_text.specs.declared.node.Nodes.TheVariants as nodes
 use Rattle.strategy_text.specs.declared.node.Side.{Side}
 use Rattle.strategy_text.specs.declared.node.Side.TheVariants as sides
 use Rattle.strategy_text.specs.declared.node.Strategy.{Strategy}
-use Rattle.strategy_text.specs.Text.{AnyNode, of_adversary, of_algorithm, node_line, node_lines, nodes_of, side_of, first_line, game_line, side_line, count_line, end_line, strategy_lines, text_of_lines, text_of}
+use Rattle.strategy_text.specs.Text.{AnyNode, of_adversary, of_algorithm, node_line, node_lines, nodes_of, side_of, first_line, game_line, side_line, count_line, end_line}
+use Rattle.strategy_text.specs.Text.{strategy_lines, text_of_lines, text_of}
 use Rattle.strategy_text.specs.Spelling.{IsSpellableNode, IsSpellable, SpellsGame, SpellsCount}
 use Rattle.strategy_text.specs.Laws.{TextTellsStrategy, NoTextBeginsAnother, IsOneLine, LinesAreLines}
 use Rattle.strategy_text.specs.Words.{words_left}
@@ -31,7 +32,9 @@ first_is_line Two = refl
 
 pub game_is_line : (game : GameNumbers) → game.bins ≤ 65535 → game.capacity ≤ 65535 → game.target ≤ 65535 → is_line (game_line game) ≡ true
 unfolding game_line
-game_is_line game m g t = words_line (codes "game" ∷ decimal game.bins ∷ decimal game.capacity ∷ decimal game.target ∷ []) (refl, (decimal_word game.bins (omega arith), (decimal_word game.capacity (omega arith), (decimal_word game.target (omega arith), tt))))
+game_is_line game m g t =
+    words_line (codes "game" ∷ decimal game.bins ∷ decimal game.capacity ∷ decimal game.target ∷ [])
+    (refl, (decimal_word game.bins (omega arith), (decimal_word game.capacity (omega arith), (decimal_word game.target (omega arith), tt))))
 
 pub side_is_line : (side : Side) → is_line (side_line side) ≡ true
 side_is_line sides.Adversary = refl
@@ -74,13 +77,15 @@ record Same (ns ms : List AnyNode) (x y : List ℕ) : Type 0 where
   nodes : ns ≡ ms
   rest : x ≡ y
 
-nodes_same : (format : Format) (k : ℕ) (ns ms : List AnyNode) (tail : List (List ℕ)) (x y : List ℕ) → k + length ns ≤ 4294967295 → AllByRecursion (IsSpellableNode format) ns → AllByRecursion (IsSpellableNode format) ms → length ns ≡ length ms
+nodes_same : (format : Format) (k : ℕ) (ns ms : List AnyNode) (tail : List (List ℕ)) (x y : List ℕ) → k + length ns ≤ 4294967295 → AllByRecursion (IsSpellableNode format) ns
+    → AllByRecursion (IsSpellableNode format) ms → length ns ≡ length ms
     → text_of_lines (node_lines k ns ++ tail) ++ x ≡ text_of_lines (node_lines k ms ++ tail) ++ y → Same ns ms (text_of_lines tail ++ x) (text_of_lines tail ++ y)
 nodes_same format k [] [] tail x y le g h len e = record { nodes = refl; rest = e }
 nodes_same format k [] (m ∷ ms) tail x y le g h len e = absurd (omega arith)
 nodes_same format k (n ∷ ns) [] tail x y le g h len e = absurd (omega arith)
 nodes_same format k (n ∷ ns) (m ∷ ms) tail x y le g h len e =
-    let f = first_same (node_line k n) (node_line k m) (node_lines (k + 1) ns ++ tail) (node_lines (k + 1) ms ++ tail) x y (node_is_line format k n (omega arith) g.0) (node_is_line format k m (omega arith) h.0) e in
+    let f = first_same (node_line k n) (node_line k m) (node_lines (k + 1) ns ++ tail) (node_lines (k + 1) ms ++ tail) x y (node_is_line format k n (omega arith) g.0)
+    (node_is_line format k m (omega arith) h.0) e in
     let r = nodes_same format (k + 1) ns ms tail x y (omega arith) g.1 h.1 (omega arith) f.1 in
     let one = line_same format k n m (omega arith) g.0 h.0 f.0 in
     record { nodes = rw (one, r.nodes) refl; rest = r.rest }
@@ -143,13 +148,18 @@ record SameStrategy (one other : Strategy) (x y : List ℕ) : Type 0 where
 texts_same : (one other : Strategy) (x y : List ℕ) → IsSpellable one → IsSpellable other → text_of one ++ x ≡ text_of other ++ y → SameStrategy one other x y
 texts_same one other x y g h e =
     let first = first_same (first_line one.format) (first_line other.format) (game_lines one) (game_lines other) x y (first_is_line one.format) (first_is_line other.format) e in
-    let second = first_same (game_line one.game) (game_line other.game) (side_lines one) (side_lines other) x y (game_is_line one.game g.bins g.capacity g.target) (game_is_line other.game h.bins h.capacity h.target) first.1 in
-    let third = first_same (side_line (side_of one.nodes)) (side_line (side_of other.nodes)) (count_lines one) (count_lines other) x y (side_is_line (side_of one.nodes)) (side_is_line (side_of other.nodes)) second.1 in
-    let fourth = first_same (count_line (length (nodes_of one.nodes))) (count_line (length (nodes_of other.nodes))) (last_lines one) (last_lines other) x y (count_is_line _ g.high) (count_is_line _ h.high) third.1 in
+    let second = first_same (game_line one.game) (game_line other.game) (side_lines one) (side_lines other) x y (game_is_line one.game g.bins g.capacity g.target)
+    (game_is_line other.game h.bins h.capacity h.target) first.1 in
+    let third = first_same (side_line (side_of one.nodes)) (side_line (side_of other.nodes)) (count_lines one) (count_lines other) x y (side_is_line (side_of one.nodes))
+    (side_is_line (side_of other.nodes)) second.1 in
+    let fourth = first_same (count_line (length (nodes_of one.nodes))) (count_line (length (nodes_of other.nodes))) (last_lines one) (last_lines other) x y (count_is_line _ g.high)
+    (count_is_line _ h.high) third.1 in
     let formats = first_tells one.format other.format first.0 in
     let counts = count_tells (length (nodes_of one.nodes)) (length (nodes_of other.nodes)) (spells_count one g) (spells_count other h) fourth.0 in
-    let each = subst (λ (f : Format). AllByRecursion (IsSpellableNode f) (nodes_of other.nodes)) (sym formats) (recursion_from_All (IsSpellableNode other.format) (nodes_of other.nodes) h.each) in
-    let same = nodes_same one.format 0 (nodes_of one.nodes) (nodes_of other.nodes) (end_line ∷ []) x y (omega (arith, g.high)) (recursion_from_All (IsSpellableNode one.format) (nodes_of one.nodes) g.each) each counts fourth.1 in
+    let each = subst (λ (f : Format). AllByRecursion (IsSpellableNode f) (nodes_of other.nodes)) (sym formats)
+    (recursion_from_All (IsSpellableNode other.format) (nodes_of other.nodes) h.each) in
+    let same = nodes_same one.format 0 (nodes_of one.nodes) (nodes_of other.nodes) (end_line ∷ []) x y (omega (arith, g.high))
+    (recursion_from_All (IsSpellableNode one.format) (nodes_of one.nodes) g.each) each counts fourth.1 in
     let last = first_same end_line end_line [] [] x y refl refl same.rest in
     record {
       format = formats;
@@ -158,7 +168,8 @@ texts_same one other x y g h e =
       rest = last.1;
     }
 
-same_strategy : (f1 f2 : Format) (g1 g2 : GameNumbers) (n1 n2 : Nodes) → f1 ≡ f2 → g1 ≡ g2 → n1 ≡ n2 → (let s : Strategy = record { format = f1; game = g1; nodes = n1 } in s) ≡ record { format = f2; game = g2; nodes = n2 }
+same_strategy : (f1 f2 : Format) (g1 g2 : GameNumbers) (n1 n2 : Nodes) → f1 ≡ f2 → g1 ≡ g2 → n1 ≡ n2
+    → (let s : Strategy = record { format = f1; game = g1; nodes = n1 } in s) ≡ record { format = f2; game = g2; nodes = n2 }
 same_strategy f1 f2 g1 g2 n1 n2 e f g = rw (e, f, g) refl
 
 pub text_tells : TextTellsStrategy
@@ -173,7 +184,8 @@ no_prefix one other more g h e =
 
 -- ---- lines
 
-node_lines_are : (format : Format) (k : ℕ) (ns : List AnyNode) → k + length ns ≤ 4294967295 → AllByRecursion (IsSpellableNode format) ns → AllByRecursion IsOneLine (node_lines k ns ++ end_line ∷ [])
+node_lines_are : (format : Format) (k : ℕ) (ns : List AnyNode) → k + length ns ≤ 4294967295 → AllByRecursion (IsSpellableNode format) ns
+    → AllByRecursion IsOneLine (node_lines k ns ++ end_line ∷ [])
 node_lines_are format k [] le h = (line_parts end_line refl, tt)
 node_lines_are format k (n ∷ ns) le h = (line_parts (node_line k n) (node_is_line format k n (omega arith) h.0), node_lines_are format (k + 1) ns (omega arith) h.1)
 

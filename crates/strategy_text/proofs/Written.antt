@@ -25,7 +25,8 @@ took_then a b c x y p q = record {
 
 pub stopped_then : (a b c : Standing) (x y : List ℕ) → Took a b x → Stopped b c y → Stopped a c (x ++ y)
 stopped_then a b c x y p q = record {
-  some = subst (λ (t : List ℕ). AppendsSome a.written c.written t) (sym (regroup a.held x y p.sent b.held p.same)) (AppendsSome-then a.written b.written c.written p.sent (b.held ++ y) p.told q.some);
+  some = subst (λ (t : List ℕ). AppendsSome a.written c.written t) (sym (regroup a.held x y p.sent b.held p.same))
+      (AppendsSome-then a.written b.written c.written p.sent (b.held ++ y) p.told q.some);
   rose = omega (arith, p.count, q.rose);
   count = omega (arith, p.count, q.count);
 }
@@ -45,7 +46,8 @@ writes_then (Err failed) a b c x y p q = stopped_then a b c x y p q
 
 -- a piece went past an empty buffer
 pub writes_past : {X E : Type 0} (r : Result X E) (a : Standing) (mid new : Option (List ℕ)) (m n : ℕ) (held piece : List ℕ)
-    → Took a (standing mid m held) [] → held ≡ [] → OnOk r (new ≡ append_known mid piece) → OnErr r (Rose m n) → OnErr r (AppendsSome mid new piece) → m ≤ n → Writes r a (standing new n held) piece
+    → Took a (standing mid m held) [] → held ≡ [] → OnOk r (new ≡ append_known mid piece) → OnErr r (Rose m n) → OnErr r (AppendsSome mid new piece) → m ≤ n
+    → Writes r a (standing new n held) piece
 writes_past (Ok done) a mid new m n held piece p empty ok rose some count =
     let q : Took (standing mid m held) (standing new n held) piece = record { sent = piece; told = ok; same = rw empty (sym (append-nil piece)); count = count } in
     took_then a (standing mid m held) (standing new n held) [] piece p q
@@ -75,7 +77,8 @@ written_prefix (Err failed) a b piece empty w = rw empty at w.some
 all_sent : (held piece sent left : List ℕ) → held ≡ [] → left ≡ [] → held ++ piece ≡ sent ++ left → piece ≡ sent
 all_sent held piece sent left e f g = sym (ap (λ (t : List ℕ). t ++ piece) e) ∙ g ∙ ap (λ (t : List ℕ). sent ++ t) f ∙ append-nil sent
 
-pub written_whole : {X E : Type 0} (r : Result X E) (a b : Standing) (piece : List ℕ) → a.held ≡ [] → OnOk r (b.held ≡ []) → Writes r a b piece → OnOk r (b.written ≡ append_known a.written piece)
+pub written_whole : {X E : Type 0} (r : Result X E) (a b : Standing) (piece : List ℕ) → a.held ≡ [] → OnOk r (b.held ≡ []) → Writes r a b piece
+    → OnOk r (b.written ≡ append_known a.written piece)
 written_whole (Ok done) a b piece empty left w = w.told ∙ ap (append_known a.written) (sym (all_sent a.held piece w.sent b.held empty left w.same))
 written_whole (Err failed) a b piece empty left w = tt
 

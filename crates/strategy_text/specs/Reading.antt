@@ -1,5 +1,6 @@
--- What the lines of a strategy are read as, from left to right, word by word. These definitions serve private contracts alone.
-use Rattle.std.specs.Prelude.{◌≡◌, ℕ, zero, suc, ◌==◌, List, [], ◌∷◌, ◌++◌, length, Option, Some, None, Result, Ok, Err, option_and_then, if◌then◌else◌, codes}
+-- What the lines of a strategy are read as, from left to right, word by word. Private contracts alone cite these.
+use Rattle.std.specs.Prelude.{◌≡◌, ℕ, zero, suc, ◌==◌, List, [], ◌∷◌, ◌++◌, length, Option, Some, None, Result, Ok}
+use Rattle.std.specs.Prelude.{Err, option_and_then, if◌then◌else◌, codes}
 use Rattle.items.specs.Game.{GameNumbers, numbers}
 use Rattle.strategy_text.specs.declared.node.Act.{Act}
 use Rattle.strategy_text.specs.declared.node.Act.TheVariants.{Finish, Big, Reply}
@@ -99,17 +100,21 @@ list_at words = choose (after (codes "-") words) (λ rest. Some ([], rest)) (som
 abbrev pub prepended : {X : Type 0} → List X → Option (List X × List (List ℕ)) → Option (List X × List (List ℕ))
 prepended so_far read = read >>= λ x. Some (so_far ++ x.0, x.1)
 
-abbrev pub many_from : {X : Type 0} → Option (List (List ℕ)) → List (List ℕ) → (List (List ℕ) → Option (X × List (List ℕ))) → (List (List ℕ) → Option (List X × List (List ℕ))) → Option (List X × List (List ℕ))
+abbrev pub many_from : {X : Type 0} → Option (List (List ℕ)) → List (List ℕ)
+    → (List (List ℕ) → Option (X × List (List ℕ))) → (List (List ℕ) → Option (List X × List (List ℕ)))
+    → Option (List X × List (List ℕ))
 many_from None words item others = Some ([], words)
 many_from (Some rest) words item others = item rest >>= λ x. prepended (x.0 ∷ []) (others x.1)
 
 -- values of which each has its beginning, as many as there are but at most so many
-unfoldable pub many_at : {X : Type 0} → (List (List ℕ) → Option (List (List ℕ))) → (List (List ℕ) → Option (X × List (List ℕ))) → ℕ → List (List ℕ) → Option (List X × List (List ℕ))
+unfoldable pub many_at : {X : Type 0} → (List (List ℕ) → Option (List (List ℕ)))
+    → (List (List ℕ) → Option (X × List (List ℕ))) → ℕ → List (List ℕ) → Option (List X × List (List ℕ))
 many_at begin item zero words = Some ([], words)
 many_at begin item (suc n) words = many_from (begin words) words item (many_at begin item n)
 
 -- all values of which each has its beginning
-abbrev pub each_at : {X : Type 0} → (List (List ℕ) → Option (List (List ℕ))) → (List (List ℕ) → Option (X × List (List ℕ))) → List (List ℕ) → Option (List X × List (List ℕ))
+abbrev pub each_at : {X : Type 0} → (List (List ℕ) → Option (List (List ℕ)))
+    → (List (List ℕ) → Option (X × List (List ℕ))) → List (List ℕ) → Option (List X × List (List ℕ))
 each_at begin item words = many_at begin item (length words) words
 
 -- ---- a position
@@ -146,7 +151,9 @@ pack_at words = do
 
 -- a packing, which may be missing in format 2
 unfoldable pub optional_pack_at : Format → List (List ℕ) → Option (Option (List (List ℕ)) × List (List ℕ))
-optional_pack_at format words = choose (after (codes "pack") words) (λ rest. pack_at rest >>= λ x. Some (Some x.0, x.1)) (second format (Some (None, words)))
+optional_pack_at format words =
+    choose (after (codes "pack") words) (λ rest. pack_at rest >>= λ x. Some (Some x.0, x.1))
+    (second format (Some (None, words)))
 
 abbrev pub child_at : List (List ℕ) → Option (Then × List (List ℕ))
 child_at words = do
@@ -217,7 +224,8 @@ entry_at words = do
 
 -- the replies, to the end of the line
 unfoldable pub entries_at : List (List ℕ) → Option (List Entry × List (List ℕ))
-entries_at words = choose (after (codes "-") words) (λ rest. Some ([], rest)) (each_at more_words entry_at words >>= some_at)
+entries_at words =
+    choose (after (codes "-") words) (λ rest. Some ([], rest)) (each_at more_words entry_at words >>= some_at)
 
 -- bins kept for big items
 unfoldable pub big_at : List (List ℕ) → Option (Act × List (List ℕ))
@@ -228,7 +236,9 @@ big_at words = do
 
 -- replies, or bins kept for big items
 unfoldable pub reply_at : Format → List (List ℕ) → Option (Act × List (List ℕ))
-reply_at format words = choose (after (codes "reply") words) (λ rest. entries_at rest >>= λ x. Some (Reply x.0, x.1)) (second format (big_at words))
+reply_at format words =
+    choose (after (codes "reply") words) (λ rest. entries_at rest >>= λ x. Some (Reply x.0, x.1))
+    (second format (big_at words))
 
 -- what is done
 unfoldable pub act_at : Format → List (List ℕ) → Option (Act × List (List ℕ))

@@ -28,4 +28,5 @@ AllMet IsMet (first ∷ others) = IsMet first × AllMet IsMet others
 -- a rule of a list that is not met, while each one before it is
 abbrev pub IsFirstBroken : {R : Type 0} → (R → Type 0) → List R → R → Type 0
 IsFirstBroken IsMet [] rule = ⊥
-IsFirstBroken IsMet (first ∷ others) rule = ((rule ≡ first) × ¬ (IsMet first)) ⊎ (IsMet first × IsFirstBroken IsMet others rule)
+IsFirstBroken IsMet (first ∷ others) rule =
+    ((rule ≡ first) × ¬ (IsMet first)) ⊎ (IsMet first × IsFirstBroken IsMet others rule)

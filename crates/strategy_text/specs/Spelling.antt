@@ -58,11 +58,11 @@ IsOptionalPack format None = format ≡ Two
 IsOptionalPack format (Some pack) = IsPack pack
 
 -- an item to send, with at least one placement
-pub record IsSend (format : Format) (size : ℕ) (pack : Option (List (List ℕ))) (placements : List Placement) : Type 0 where
+pub record IsSend (format : Format) (size : ℕ) (pack : Option (List (List ℕ))) (on : List Placement) : Type 0 where
   pub sent : IsNumber size
   pub packed : IsOptionalPack format pack
-  pub some : placements ≢ []
-  pub each : All IsPlacement placements
+  pub some : on ≢ []
+  pub each : All IsPlacement on
 
 -- several items to send, in format 2
 pub record IsBurst (format : Format) (count size : ℕ) (pack : List (List ℕ)) : Type 0 where

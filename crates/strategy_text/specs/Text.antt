@@ -50,7 +50,8 @@ placement_words placement = codes "on" ∷ decimal placement.load ∷ then_words
 
 -- what is sent
 abbrev pub step_words : Step → List (List ℕ)
-step_words (Send size pack placements) = codes "send" ∷ decimal size ∷ packing_words pack ++ flat_map placement_words placements
+step_words (Send size pack placements) =
+    codes "send" ∷ decimal size ∷ packing_words pack ++ flat_map placement_words placements
 step_words (Burst count size pack) = codes "burst" ∷ decimal count ∷ decimal size ∷ codes "pack" ∷ pack_words pack
 
 abbrev pub entry_words : Entry → List (List ℕ)
@@ -144,7 +145,8 @@ head_lines format game side count = first_line format ∷ game_line game ∷ sid
 -- the lines of a strategy: its head, its nodes, and the end
 abbrev pub strategy_lines : Strategy → List (List ℕ)
 strategy_lines strategy =
-    head_lines strategy.format strategy.game (side_of strategy.nodes) (length (nodes_of strategy.nodes)) ++ node_lines 0 (nodes_of strategy.nodes) ++ end_line ∷ []
+    head_lines strategy.format strategy.game (side_of strategy.nodes) (length (nodes_of strategy.nodes))
+    ++ node_lines 0 (nodes_of strategy.nodes) ++ end_line ∷ []
 
 -- lines as bytes: each followed by a line feed
 abbrev pub text_of_lines : List (List ℕ) → List ℕ

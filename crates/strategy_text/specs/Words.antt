@@ -18,7 +18,8 @@ words_from (Some word) rest = word ∷ words_left rest
 -- the number up to a limit that digits and the number before them spell
 abbrev pub digits_after : ℕ → ℕ → List ℕ → Option ℕ
 digits_after high n [] = Some n
-digits_after high n (c ∷ cs) = if is_ascii_digit c && nat_le (10 * n + (c - 48)) high then digits_after high (10 * n + (c - 48)) cs else None
+digits_after high n (c ∷ cs) =
+    if is_ascii_digit c && nat_le (10 * n + (c - 48)) high then digits_after high (10 * n + (c - 48)) cs else None
 
 -- the number up to a limit that a word spells in digits without a leading zero
 unfoldable pub number_of : ℕ → List ℕ → Option ℕ

@@ -5,7 +5,9 @@ ghost use Rattle.strategy_text.specs.declared.node.AdvNode.{AdvNode};
 ghost use Rattle.strategy_text.specs.Text.{AnyNode, of_adversary};
 ghost use Rattle.strategy_text.specs.Spelling.{SpellsNode};
 ghost use Rattle.strategy_text.specs.Words.{after};
-ghost use Rattle.strategy_text.specs.Reading.{Takes, Reads, Gives, list_at, each_at, bins_at, pack_at, optional_pack_at, then_at, placement_at, placements_at, send_at, burst_at, step_at, adversary_at};
+ghost use Rattle.strategy_text.specs.Reading.{Takes, Reads, Gives, list_at, each_at, bins_at, pack_at};
+ghost use Rattle.strategy_text.specs.Reading.{optional_pack_at, then_at, placement_at, placements_at, send_at};
+ghost use Rattle.strategy_text.specs.Reading.{burst_at, step_at, adversary_at};
 
 use crate::node::{AdvNode, Format, Placement, Placements, Step, Then};
 use crate::position::{list, position};
@@ -175,8 +177,10 @@ pub fn parse_adversary(
     line: &[u8],
     number: u32,
 ) -> Result<Option<AdvNode>, AllocError>
-    ensures spelled { IfOk result (λ read. IfSome read (λ node. SpellsNode format number line.now (of_adversary node))) }
-    ensures refused { IfOk result (λ read. IfNone read ((node : AdvNode) → SpellsNode format number line.now (of_adversary node) → ⊥)) }
+    ensures spelled { IfOk result (λ read.
+        IfSome read (λ node. SpellsNode format number line.now (of_adversary node))) }
+    ensures refused { IfOk result (λ read.
+        IfNone read ((node : AdvNode) → SpellsNode format number line.now (of_adversary node) → ⊥)) }
 {
     if line.len() > LINE_BYTES {
         return Ok(None);

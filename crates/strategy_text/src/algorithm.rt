@@ -4,7 +4,8 @@ ghost use Rattle.std.specs.Prelude.{◌≡◌, IfOk, IfSome, IfNone};
 ghost use Rattle.strategy_text.specs.declared.node.AlgNode.{AlgNode};
 ghost use Rattle.strategy_text.specs.Text.{AnyNode, of_algorithm};
 ghost use Rattle.strategy_text.specs.Spelling.{SpellsNode};
-ghost use Rattle.strategy_text.specs.Reading.{Takes, Reads, Gives, more_words, each_at, entry_at, entries_at, big_at, reply_at, act_at, algorithm_at};
+ghost use Rattle.strategy_text.specs.Reading.{Takes, Reads, Gives, more_words, each_at, entry_at, entries_at, big_at};
+ghost use Rattle.strategy_text.specs.Reading.{reply_at, act_at, algorithm_at};
 
 use crate::node::{Act, AlgNode, Entries, Entry, Format};
 use crate::position::position;
@@ -119,8 +120,10 @@ pub fn parse_algorithm(
     line: &[u8],
     number: u32,
 ) -> Result<Option<AlgNode>, AllocError>
-    ensures spelled { IfOk result (λ read. IfSome read (λ node. SpellsNode format number line.now (of_algorithm node))) }
-    ensures refused { IfOk result (λ read. IfNone read ((node : AlgNode) → SpellsNode format number line.now (of_algorithm node) → ⊥)) }
+    ensures spelled { IfOk result (λ read.
+        IfSome read (λ node. SpellsNode format number line.now (of_algorithm node))) }
+    ensures refused { IfOk result (λ read.
+        IfNone read ((node : AlgNode) → SpellsNode format number line.now (of_algorithm node) → ⊥)) }
 {
     if line.len() > LINE_BYTES {
         return Ok(None);

@@ -1,6 +1,7 @@
 //! What holds of every text of a strategy. The functions do nothing: their contracts are the laws.
 
-ghost use Rattle.strategy_text.specs.Laws.{TextTellsStrategy, NoTextBeginsAnother, LineTellsNode, NoNodeIsTheEnd, NodesAreLines, LinesAreLines};
+ghost use Rattle.strategy_text.specs.Laws.{TextTellsStrategy, NoTextBeginsAnother, LineTellsNode, NoNodeIsTheEnd};
+ghost use Rattle.strategy_text.specs.Laws.{NodesAreLines, LinesAreLines};
 
 /// Two strategies, of any side and format, never have the same text, and no strategy's text is a proper
 /// prefix of another's.

@@ -3,7 +3,8 @@
 ghost use Rattle.std.specs.Prelude.{◌≡◌, ℕ, ◌∷◌, [], ◌++◌, List, decimal, codes};
 ghost use Rattle.std.specs.List.{flat_map};
 ghost use Rattle.strategy_text.specs.declared.node.Step.TheVariants.{Send, Burst};
-ghost use Rattle.strategy_text.specs.Text.{list_words, pack_words, packing_words, placement_words, step_words, entry_words, entries_words, act_words, position_words};
+ghost use Rattle.strategy_text.specs.Text.{list_words, pack_words, packing_words, placement_words, step_words};
+ghost use Rattle.strategy_text.specs.Text.{entry_words, entries_words, act_words, position_words};
 ghost use Rattle.strategy_text.specs.Writing.{standing, Writes, spaced, word_of};
 
 use crate::buffer::Buffer;
@@ -182,7 +183,8 @@ fn branches<K: Sink>(
 ) -> Result<(), Failed>
     ensures { Writes result
         (standing (K.written sink.old) (K.faults sink.old) buffer.old)
-        (standing (K.written sink.new) (K.faults sink.new) buffer.new) (spaced (packing_words pack.now ++ flat_map placement_words placements.now)) }
+        (standing (K.written sink.new) (K.faults sink.new) buffer.new)
+        (spaced (packing_words pack.now ++ flat_map placement_words placements.now)) }
 {
     optional_packing(pack, buffer, sink)?;
     put_each(placements, buffer, sink)
@@ -198,7 +200,8 @@ fn send<K: Sink>(
 ) -> Result<(), Failed>
     ensures { Writes result
         (standing (K.written sink.old) (K.faults sink.old) buffer.old)
-        (standing (K.written sink.new) (K.faults sink.new) buffer.new) (spaced (step_words (Send size pack.now placements.now))) }
+        (standing (K.written sink.new) (K.faults sink.new) buffer.new)
+        (spaced (step_words (Send size pack.now placements.now))) }
 {
     let words = [Word::Keyword("send"), Word::Size(size)];
     put_each(&words, buffer, sink)?;
@@ -215,7 +218,8 @@ fn burst<K: Sink>(
 ) -> Result<(), Failed>
     ensures { Writes result
         (standing (K.written sink.old) (K.faults sink.old) buffer.old)
-        (standing (K.written sink.new) (K.faults sink.new) buffer.new) (spaced (step_words (Burst count size pack.now))) }
+        (standing (K.written sink.new) (K.faults sink.new) buffer.new)
+        (spaced (step_words (Burst count size pack.now))) }
 {
     let words = [Word::Keyword("burst"), Word::Size(count), Word::Size(size)];
     put_each(&words, buffer, sink)?;
@@ -253,7 +257,8 @@ fn entries<K: Sink>(entries: &[Entry], buffer: &mut Buffer, sink: &mut K) -> Res
 fn reply<K: Sink>(list: &[Entry], buffer: &mut Buffer, sink: &mut K) -> Result<(), Failed>
     ensures { Writes result
         (standing (K.written sink.old) (K.faults sink.old) buffer.old)
-        (standing (K.written sink.new) (K.faults sink.new) buffer.new) (spaced (codes "reply" ∷ entries_words list.now)) }
+        (standing (K.written sink.new) (K.faults sink.new) buffer.new)
+        (spaced (codes "reply" ∷ entries_words list.now)) }
 {
     buffer.word(sink, b"reply")?;
     entries(list, buffer, sink)

@@ -5,7 +5,8 @@ ghost use Rattle.std.specs.List.{flat_map};
 ghost use Rattle.std.specs.Io.KnownBytes.{append_known};
 ghost use Rattle.port_io.specs.Faults.{Rose};
 ghost use Rattle.port_io.specs.Told.{AppendsSome};
-ghost use Rattle.strategy_text.specs.Text.{line_of, position_words, step_words, act_words, node_lines, nodes_of, side_of, first_line, head_lines, text_of_lines, text_of};
+ghost use Rattle.strategy_text.specs.Text.{line_of, position_words, step_words, act_words, node_lines, nodes_of};
+ghost use Rattle.strategy_text.specs.Text.{side_of, first_line, head_lines, text_of_lines, text_of};
 ghost use Rattle.strategy_text.specs.Spelling.{IsSpellable};
 ghost use Rattle.strategy_text.specs.Writing.{standing, Writes};
 
@@ -42,7 +43,8 @@ fn line<T: Spelled, K: Sink>(
 ) -> Result<(), Failed>
     ensures { Writes result
         (standing (K.written sink.old) (K.faults sink.old) buffer.old)
-        (standing (K.written sink.new) (K.faults sink.new) buffer.new) (line_of (first.now ∷ flat_map T.words others.now) ++ 10 ∷ []) }
+        (standing (K.written sink.new) (K.faults sink.new) buffer.new)
+        (line_of (first.now ∷ flat_map T.words others.now) ++ 10 ∷ []) }
 {
     buffer.put(sink, first)?;
     put_each(others, buffer, sink)?;

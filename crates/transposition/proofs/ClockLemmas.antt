@@ -10,7 +10,8 @@ unfoldable pub marks_left : List Bool → ℕ
 marks_left [] = 0
 marks_left (mark ∷ marks) = cond mark 1 0 + marks_left marks
 
-pub marks_left-cleared : (marks : List Bool) (place : ℕ) (d : Bool) → place < length marks → get_or marks place d ≡ true → suc (marks_left (set marks place false)) ≡ marks_left marks
+pub marks_left-cleared : (marks : List Bool) (place : ℕ) (d : Bool) → place < length marks → get_or marks place d ≡ true
+    → suc (marks_left (set marks place false)) ≡ marks_left marks
 unfolding marks_left
 marks_left-cleared [] place d l h = absurd (omega (arith, l))
 marks_left-cleared (mark ∷ marks) zero d l h = rw h (omega arith)
@@ -28,7 +29,8 @@ next-lt number place l = (elim (eqb (place + 1) number) as (λ b. eqb (place + 1
   | false ↦ λ e. let apart = eqb-false (place + 1) number e in omega (arith, l, apart)
 ]) refl
 
-pub one_more_on : (before : Marks) (marks : List Bool) (hand next : ℕ) → IsOnTheWay before marks hand → get_or marks hand false ≡ true → next ≡ next_place (length (set marks hand false)) hand → IsOnTheWay before (set marks hand false) next
+pub one_more_on : (before : Marks) (marks : List Bool) (hand next : ℕ) → IsOnTheWay before marks hand → get_or marks hand false ≡ true
+    → next ≡ next_place (length (set marks hand false)) hand → IsOnTheWay before (set marks hand false) next
 one_more_on before marks hand next h is e =
     let same : length (set marks hand false) ≡ length marks = length-set marks hand false in
     let is_next : next ≡ next_place (length marks) hand = e ∙ ap (λ n. next_place n hand) same in

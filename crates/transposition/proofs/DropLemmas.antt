@@ -16,12 +16,14 @@ module _ {K V S : Type 0} (eq : K → K → Bool) (laws : IsEquivalence eq) wher
     | inr (past, none) ↦ omega (arith, l, past)
   ]
 
-  pub one_fewer : (old new : HashMap K V S) (place : ℕ) (taken : Option (K × V)) → place < length old.entries → taken ≡ slice_get old.entries place → length new.entries + (if is_some taken then 1 else 0) ≡ length old.entries → length new.entries + 1 ≡ length old.entries
+  pub one_fewer : (old new : HashMap K V S) (place : ℕ) (taken : Option (K × V)) → place < length old.entries → taken ≡ slice_get old.entries place
+      → length new.entries + (if is_some taken then 1 else 0) ≡ length old.entries → length new.entries + 1 ≡ length old.entries
   one_fewer old new place None l e number = absurd (no_entry old place l e)
   one_fewer old new place (Some entry) l e number = number
 
   -- the entry at a place is dropped
-  pub dropped_at : (old new : HashMap K V S) (place : ℕ) (taken : Option (K × V)) → IsUnique eq old → place < length old.entries → taken ≡ slice_get old.entries place → IfSome taken (λ entry. Updates eq old new entry.0 None) → (dropped : K) × Drops eq old.entries new.entries dropped
+  pub dropped_at : (old new : HashMap K V S) (place : ℕ) (taken : Option (K × V)) → IsUnique eq old → place < length old.entries → taken ≡ slice_get old.entries place
+      → IfSome taken (λ entry. Updates eq old new entry.0 None) → (dropped : K) × Drops eq old.entries new.entries dropped
   dropped_at old new place None distinct l e updates = absurd (no_entry old place l e)
   dropped_at old new place (Some entry) distinct l e updates = (
     entry.0,
@@ -44,12 +46,15 @@ module _ {K V : Type 0} (eq : K → K → Bool) (laws : IsEquivalence eq) (befor
   still_none none drops = drops.values key ∙ ap (λ o. cond (eq dropped key) None o) none ∙ none_either (eq dropped key)
 
   -- there are as many entries as before
-  number_for_other : found eq before key ≡ None → Drops eq before between dropped → length between + 1 ≡ length before → (had : Option V) → had ≡ found eq between key → length after ≡ length between + (if is_some had then 0 else 1) → length after ≡ length before
+  number_for_other : found eq before key ≡ None → Drops eq before between dropped → length between + 1 ≡ length before → (had : Option V) → had ≡ found eq between key
+      → length after ≡ length between + (if is_some had then 0 else 1) → length after ≡ length before
   number_for_other none drops fewer None e number = omega (arith, fewer, number)
   number_for_other none drops fewer (Some v) e number = let no = still_none none drops in cc
 
   -- a new key takes the place of the one that was dropped
-  pub put_for_other : found eq before key ≡ None → Drops eq before between dropped → length between + 1 ≡ length before → (had : Option V) → had ≡ found eq between key → length after ≡ length between + (if is_some had then 0 else 1) → ((one : K) → found eq after one ≡ cond (eq key one) (Some value) (found eq between one)) → PutsForOther eq before after key value dropped
+  pub put_for_other : found eq before key ≡ None → Drops eq before between dropped → length between + 1 ≡ length before → (had : Option V) → had ≡ found eq between key
+      → length after ≡ length between + (if is_some had then 0 else 1) → ((one : K) → found eq after one ≡ cond (eq key one) (Some value) (found eq between one))
+      → PutsForOther eq before after key value dropped
   put_for_other none drops fewer had was number puts = record {
     other = apart (eq key dropped) refl none drops.had;
     had = drops.had;

@@ -20,44 +20,53 @@ module _ {K V : Type 0} (eq : K → K → Bool) (laws : IsEquivalence eq) where
   -- the entry that a key has gives what the key finds
   found_entry : (key : K) (entries : List (K × V)) (entry : K × V) → lookup_entry (eq key) entries ≡ Some entry → found eq entries key ≡ Some entry.1
   found_entry key [] entry h = cc
-  found_entry key (first ∷ entries) entry h = (elim (eq key first.0) as (λ b. cond b (Some first) (lookup_entry (eq key) entries) ≡ Some entry → cond b (Some first.1) (found eq entries key) ≡ Some entry.1) [
-    | true ↦ λ e. let same : first ≡ entry = cc in ap (λ x. Some x.1) same
-    | false ↦ λ e. found_entry key entries entry e
-  ]) h
+  found_entry key (first ∷ entries) entry h = (elim (eq key first.0) as (λ b. cond b (Some first) (lookup_entry (eq key) entries) ≡ Some entry → cond b (Some first.1)
+      (found eq entries key) ≡ Some entry.1) [
+        | true ↦ λ e. let same : first ≡ entry = cc in ap (λ x. Some x.1) same
+        | false ↦ λ e. found_entry key entries entry e
+      ]) h
 
   found_nothing : (key : K) (entries : List (K × V)) → lookup_entry (eq key) entries ≡ None → found eq entries key ≡ None
   found_nothing key [] h = refl
-  found_nothing key (first ∷ entries) h = (elim (eq key first.0) as (λ b. cond b (Some first) (lookup_entry (eq key) entries) ≡ None → cond b (Some first.1) (found eq entries key) ≡ None) [
-    | true ↦ λ e. cc
-    | false ↦ λ e. found_nothing key entries e
-  ]) h
+  found_nothing key (first ∷ entries) h = (elim (eq key first.0) as (λ b. cond b (Some first) (lookup_entry (eq key) entries) ≡ None → cond b (Some first.1)
+      (found eq entries key) ≡ None) [
+        | true ↦ λ e. cc
+        | false ↦ λ e. found_nothing key entries e
+      ]) h
 
   -- an entry taken out and put first with a value
-  first_with : (key : K) (entries : List (K × V)) (entry : K × V) (value : V) → IsDistinct eq (keys_of entries) → lookup_entry (eq key) entries ≡ Some entry → (other : K) → found eq ((entry.0, value) ∷ remove_entry (eq key) entries) other ≡ cond (eq key other) (Some value) (found eq entries other)
+  first_with : (key : K) (entries : List (K × V)) (entry : K × V) (value : V) → IsDistinct eq (keys_of entries) → lookup_entry (eq key) entries ≡ Some entry
+      → (other : K) → found eq ((entry.0, value) ∷ remove_entry (eq key) entries) other ≡ cond (eq key other) (Some value) (found eq entries other)
   first_with key entries entry value distinct h other =
       let same : eq key entry.0 ≡ true = (Contains-lookup_entry (eq key) entries entry h).1 in
       let told : eq other entry.0 ≡ eq key other = laws.symm other entry.0 ∙ sym (laws.congr key entry.0 other same) in
-      ap (λ b. cond b (Some value) (found eq (remove_entry (eq key) entries) other)) told ∙ without (eq key other) (lookup-remove_entry laws (eq key) (λ x y e. laws.congr key x y e) other entries distinct)
+      ap (λ b. cond b (Some value) (found eq (remove_entry (eq key) entries) other)) told ∙ without (eq key other) (lookup-remove_entry laws (eq key)
+      (λ x y e. laws.congr key x y e) other entries distinct)
     where
-      without : (b : Bool) → found eq (remove_entry (eq key) entries) other ≡ cond b None (found eq entries other) → cond b (Some value) (found eq (remove_entry (eq key) entries) other) ≡ cond b (Some value) (found eq entries other)
+      without : (b : Bool) → found eq (remove_entry (eq key) entries) other ≡ cond b None (found eq entries other) → cond b (Some value)
+          (found eq (remove_entry (eq key) entries) other) ≡ cond b (Some value) (found eq entries other)
       without true e = refl
       without false e = e
 
-  length-remove_entry : (key : K) (entries : List (K × V)) (entry : K × V) → lookup_entry (eq key) entries ≡ Some entry → suc (length (remove_entry (eq key) entries)) ≡ length entries
+  length-remove_entry : (key : K) (entries : List (K × V)) (entry : K × V) → lookup_entry (eq key) entries ≡ Some entry
+      → suc (length (remove_entry (eq key) entries)) ≡ length entries
   length-remove_entry key [] entry h = cc
-  length-remove_entry key (first ∷ entries) entry h = (elim (eq key first.0) as (λ b. cond b (Some first) (lookup_entry (eq key) entries) ≡ Some entry → suc (length (cond b entries (first ∷ remove_entry (eq key) entries))) ≡ suc (length entries)) [
-    | true ↦ λ e. refl
-    | false ↦ λ e. ap suc (length-remove_entry key entries entry e)
-  ]) h
+  length-remove_entry key (first ∷ entries) entry h = (elim (eq key first.0) as (λ b. cond b (Some first) (lookup_entry (eq key) entries) ≡ Some entry
+      → suc (length (cond b entries (first ∷ remove_entry (eq key) entries))) ≡ suc (length entries)) [
+        | true ↦ λ e. refl
+        | false ↦ λ e. ap suc (length-remove_entry key entries entry e)
+      ]) h
 
   option_with : (b : Bool) (o : Option V) (value : V) → (b ≡ true → o ≡ Some value) → cond b (Some value) o ≡ o
   option_with true o value h = sym (h refl)
   option_with false o value h = refl
 
-  promoted_same : (key : K) (entries : List (K × V)) (o : Option (K × V)) → lookup_entry (eq key) entries ≡ o → IsDistinct eq (keys_of entries) → SameEntries eq entries (option_map_or (λ e. e ∷ remove_entry (eq key) entries) o entries)
+  promoted_same : (key : K) (entries : List (K × V)) (o : Option (K × V)) → lookup_entry (eq key) entries ≡ o → IsDistinct eq (keys_of entries)
+      → SameEntries eq entries (option_map_or (λ e. e ∷ remove_entry (eq key) entries) o entries)
   promoted_same key entries None h distinct = record { values = λ other. refl; number = refl }
   promoted_same key entries (Some entry) h distinct = record {
-    values = λ other. first_with key entries entry entry.1 distinct h other ∙ option_with (eq key other) (found eq entries other) entry.1 (λ e. sym (found_alike key other entries e) ∙ found_entry key entries entry h);
+    values = λ other. first_with key entries entry entry.1 distinct h other ∙ option_with (eq key other)
+        (found eq entries other) entry.1 (λ e. sym (found_alike key other entries e) ∙ found_entry key entries entry h);
     number = length-remove_entry key entries entry h;
   }
 
@@ -69,7 +78,8 @@ module _ {K V : Type 0} (eq : K → K → Bool) (laws : IsEquivalence eq) where
     after_put : Option (K × V) → List (K × V)
     after_put o = option_map_or (λ e. (e.0, value) ∷ remove_entry (eq key) entries) o ((key, value) ∷ take (cap - 1) entries)
 
-    put_present : (o : Option (K × V)) → lookup_entry (eq key) entries ≡ o → IsDistinct eq (keys_of entries) → IsSome (found eq entries key) → Puts eq entries (after_put o) key value 0
+    put_present : (o : Option (K × V)) → lookup_entry (eq key) entries ≡ o → IsDistinct eq (keys_of entries) → IsSome (found eq entries key)
+        → Puts eq entries (after_put o) key value 0
     unfolding after_put
     put_present None h distinct is = let none = found_nothing key entries h in let no : false ≡ true = subst IsSome none is in cc
     put_present (Some entry) h distinct is =
@@ -86,7 +96,8 @@ module _ {K V : Type 0} (eq : K → K → Bool) (laws : IsEquivalence eq) where
 
     -- a new key comes first
     put_new : found eq entries key ≡ None → put_entries eq (lru_cache entries cap) key value ≡ (key, value) ∷ take (cap - 1) entries
-    put_new none = ap (λ o. option_map_or (λ e. (e.0, value) ∷ remove_entry (eq key) entries) o ((key, value) ∷ take (cap - 1) entries)) (no_entry (lookup_entry (eq key) entries) refl none)
+    put_new none = ap (λ o. option_map_or (λ e. (e.0, value) ∷ remove_entry (eq key) entries) o ((key, value) ∷ take (cap - 1) entries))
+        (no_entry (lookup_entry (eq key) entries) refl none)
 
     first_new : (others : List (K × V)) (other : K) → found eq ((key, value) ∷ others) other ≡ cond (eq key other) (Some value) (found eq others other)
     first_new others other = ap (λ b. cond b (Some value) (found eq others other)) (laws.symm other key)
@@ -144,20 +155,24 @@ module _ {K V : Type 0} (eq : K → K → Bool) (laws : IsEquivalence eq) where
           values = λ other.
               ap (λ n. found eq (take n (entry ∷ next ∷ entries)) other) fewer
               ∙ ap (λ o. cond (eq other entry.0) (Some entry.1) o) (rest.1.values other)
-              ∙ turned (eq other entry.0) (eq rest.0 other) entry.1 (found eq (next ∷ entries) other) (λ e. sym (laws.congr rest.0 other entry.0 e) ∙ laws.symm rest.0 entry.0 ∙ apart);
+              ∙ turned (eq other entry.0) (eq rest.0 other) entry.1 (found eq (next ∷ entries) other) (λ e. sym (laws.congr rest.0 other entry.0 e)
+              ∙ laws.symm rest.0 entry.0 ∙ apart);
         },
       )
 
-  pub put-full : (entries : List (K × V)) (cap : ℕ) (key : K) (value : V) → IsDistinct eq (keys_of entries) → 0 < cap → length entries ≡ cap → found eq entries key ≡ None → (dropped : K) × PutsForOther eq entries (put_entries eq (lru_cache entries cap) key value) key value dropped
+  pub put-full : (entries : List (K × V)) (cap : ℕ) (key : K) (value : V) → IsDistinct eq (keys_of entries) → 0 < cap → length entries ≡ cap
+      → found eq entries key ≡ None → (dropped : K) × PutsForOther eq entries (put_entries eq (lru_cache entries cap) key value) key value dropped
   put-full entries cap key value distinct some full none =
       let last = last_key entries (omega (arith, some, full)) distinct in
       let less : cap - 1 ≡ length entries - 1 = omega (arith, full) in
-      let e : put_entries eq (lru_cache entries cap) key value ≡ (key, value) ∷ take (length entries - 1) entries = put_new entries cap key value none ∙ ap (λ n. (key, value) ∷ take n entries) less in (
+      let e : put_entries eq (lru_cache entries cap) key value ≡ (key, value) ∷ take (length entries - 1) entries = put_new entries cap key value none
+      ∙ ap (λ n. (key, value) ∷ take n entries) less in (
         last.0,
         record {
           other = last.1.among (eq key) (none_passes_from_lookup (eq key) entries none);
           had = last.1.had;
-          values = λ one. ap (λ es. found eq es one) e ∙ first_new entries cap key value (take (length entries - 1) entries) one ∙ ap (λ o. cond (eq key one) (Some value) o) (last.1.values one);
+          values = λ one. ap (λ es. found eq es one) e ∙ first_new entries cap key value (take (length entries - 1) entries) one ∙ ap (λ o. cond (eq key one)
+              (Some value) o) (last.1.values one);
           number = ap length e ∙ ap suc (length-take-le (length entries - 1) entries (omega arith)) ∙ omega (arith, some, full);
         },
       )

@@ -38,15 +38,18 @@ module _ {K V : Type 0} (eq : K → K → Bool) (laws : IsEquivalence eq) where
   unfolding IsDistinct
   distinct_with new entries distinct none = (keys_from_none (eq new) entries (none_passes_from_lookup (eq new) entries none), distinct)
 
-  among : (entries : List (K × V)) (keys : List K) (new q : K) → ((key : K) → IsSome (found eq entries key) → Contains keys key) → Contains keys new → (b : Bool) → eq q new ≡ b → b || list_any (eq q) (keys_of entries) ≡ true → IsSome (lookup (eq q) (map (with_itself eq laws) keys))
+  among : (entries : List (K × V)) (keys : List K) (new q : K) → ((key : K) → IsSome (found eq entries key) → Contains keys key) → Contains keys new → (b : Bool)
+      → eq q new ≡ b → b || list_any (eq q) (keys_of entries) ≡ true → IsSome (lookup (eq q) (map (with_itself eq laws) keys))
   among entries keys new q listed is true e h =
       subst IsSome (sym (found_alike eq laws q new (map (with_itself eq laws) keys) e)) (listed_found eq laws keys new is)
   among entries keys new q listed is false e h =
       listed_found eq laws keys q (listed q (is_some-lookup (eq q) entries ∙ h))
 
-  pub room_left : (entries : List (K × V)) (keys : List K) (new : K) → IsDistinct eq (keys_of entries) → found eq entries new ≡ None → ((key : K) → IsSome (found eq entries key) → Contains keys key) → Contains keys new → length entries < length keys
+  pub room_left : (entries : List (K × V)) (keys : List K) (new : K) → IsDistinct eq (keys_of entries) → found eq entries new ≡ None → ((key : K)
+      → IsSome (found eq entries key) → Contains keys key) → Contains keys new → length entries < length keys
   room_left entries keys new distinct none listed is =
-      let few = length-le_from_keys laws (new ∷ keys_of entries) (map (with_itself eq laws) keys) (distinct_with new entries distinct none) (λ q h. among entries keys new q listed is (eq q new) refl h) in
+      let few = length-le_from_keys laws (new ∷ keys_of entries) (map (with_itself eq laws) keys) (distinct_with new entries distinct none)
+      (λ q h. among entries keys new q listed is (eq q new) refl h) in
       omega (arith, few, length-map keys (with_itself eq laws), length-map entries (λ (e : K × V). e.0))
 
 equal_positions : IsEquivalence are_equal

@@ -31,24 +31,99 @@ returns-then-not-name_loads g c =
     let finish = c.if-not-finishes_if_said.ensures.0 refl in
     let big = c.if-not-big_finishes_if_said.ensures.0 refl in
     let replies = c.in_ok-replies_if_said.ensures.0 c.if-not-branch.false in
-    record { exact = (the.reply, refl, inr (finish, inr (big, inr (replies, inl (refl, λ h. false≢true (c.if-not-name_loads.ensures.1 (subst (λ (es : List Entry). All (NamesLoad c.args.game.now c.args.position.now.loads) es) (sym c.entries_of-entries.ensures) h))))))) }
+    record {
+      exact = (
+        the.reply,
+        refl,
+        inr (
+          finish,
+          inr (
+            big,
+            inr (
+              replies,
+              inl (
+                refl,
+                λ h.
+                    false≢true (c.if-not-name_loads.ensures.1
+                    (subst (λ (es : List Entry). All (NamesLoad c.args.game.now c.args.position.now.loads) es) (sym c.entries_of-entries.ensures) h)),
+              ),
+            ),
+          ),
+        ),
+      );
+    }
 
 pub returns-then-not-lead_to_children : goal.returns-then-not-lead_to_children
 returns-then-not-lead_to_children g c =
     let finish = c.if-not-finishes_if_said.ensures.0 refl in
     let big = c.if-not-big_finishes_if_said.ensures.0 refl in
     let replies = c.in_ok-replies_if_said.ensures.0 c.if-not-branch.false in
-    let reply = subst (λ (es : List Entry). All (NamesLoad c.args.game.now c.args.position.now.loads) es) c.entries_of-entries.ensures (c.if-not-name_loads.ensures.0 refl) in
-    record { exact = (the.child, refl, inr (finish, inr (big, inr (replies, inr (reply, inl (refl, λ h. false≢true (c.if-not-lead_to_children.ensures.exact.1 (subst (λ (es : List Entry). All (LeadsOn (g.E.EarlierPositions.positions c.args.earlier.now) c.args.position.now) es) (sym c.entries_of-entries.ensures) h)))))))) }
+    let reply =
+    subst (λ (es : List Entry). All (NamesLoad c.args.game.now c.args.position.now.loads) es) c.entries_of-entries.ensures
+    (c.if-not-name_loads.ensures.0 refl) in
+    record {
+      exact = (
+        the.child,
+        refl,
+        inr (
+          finish,
+          inr (
+            big,
+            inr (
+              replies,
+              inr (
+                reply,
+                inl (
+                  refl,
+                  λ h.
+                      false≢true (c.if-not-lead_to_children.ensures.exact.1
+                      (subst (λ (es : List Entry). All (LeadsOn (g.E.EarlierPositions.positions c.args.earlier.now) c.args.position.now) es)
+                      (sym c.entries_of-entries.ensures) h)),
+                ),
+              ),
+            ),
+          ),
+        ),
+      );
+    }
 
 pub returns-then-not-is_empty : goal.returns-then-not-is_empty
 returns-then-not-is_empty g c =
     let finish = c.if-not-finishes_if_said.ensures.0 refl in
     let big = c.if-not-big_finishes_if_said.ensures.0 refl in
     let replies = c.in_ok-replies_if_said.ensures.0 c.if-not-branch.false in
-    let reply = subst (λ (es : List Entry). All (NamesLoad c.args.game.now c.args.position.now.loads) es) c.entries_of-entries.ensures (c.if-not-name_loads.ensures.0 refl) in
-    let child = subst (λ (es : List Entry). All (LeadsOn (g.E.EarlierPositions.positions c.args.earlier.now) c.args.position.now) es) c.entries_of-entries.ensures (c.if-not-lead_to_children.ensures.exact.0 refl) in
-    record { exact = (the.root, refl, inr (finish, inr (big, inr (replies, inr (reply, inr (child, inl (refl, λ h. false≢true (c.if-not-is_empty.ensures.exact.1 (h c.if-last.true))))))))) }
+    let reply =
+    subst (λ (es : List Entry). All (NamesLoad c.args.game.now c.args.position.now.loads) es) c.entries_of-entries.ensures
+    (c.if-not-name_loads.ensures.0 refl) in
+    let child =
+    subst (λ (es : List Entry). All (LeadsOn (g.E.EarlierPositions.positions c.args.earlier.now) c.args.position.now) es)
+    c.entries_of-entries.ensures (c.if-not-lead_to_children.ensures.exact.0 refl) in
+    record {
+      exact = (
+        the.root,
+        refl,
+        inr (
+          finish,
+          inr (
+            big,
+            inr (
+              replies,
+              inr (
+                reply,
+                inr (
+                  child,
+                  inl (
+                    refl,
+                    λ h.
+                        false≢true (c.if-not-is_empty.ensures.exact.1 (h c.if-last.true)),
+                  ),
+                ),
+              ),
+            ),
+          ),
+        ),
+      );
+    }
 
 pub lead_to_children-requires-clause-sizes : goal.lead_to_children-requires-clause-sizes
 lead_to_children-requires-clause-sizes g c =
@@ -64,8 +139,12 @@ returns g c =
     let finish = c.if-not-finishes_if_said.ensures.0 refl in
     let big = c.if-not-big_finishes_if_said.ensures.0 refl in
     let replies = c.in_ok-replies_if_said.ensures.0 c.if-not-branch.false in
-    let reply = subst (λ (es : List Entry). All (NamesLoad c.args.game.now c.args.position.now.loads) es) c.entries_of-entries.ensures (c.if-not-name_loads.ensures.0 refl) in
-    let child = subst (λ (es : List Entry). All (LeadsOn (g.E.EarlierPositions.positions c.args.earlier.now) c.args.position.now) es) c.entries_of-entries.ensures (c.if-not-lead_to_children.ensures.exact.0 refl) in
+    let reply =
+    subst (λ (es : List Entry). All (NamesLoad c.args.game.now c.args.position.now.loads) es) c.entries_of-entries.ensures
+    (c.if-not-name_loads.ensures.0 refl) in
+    let child =
+    subst (λ (es : List Entry). All (LeadsOn (g.E.EarlierPositions.positions c.args.earlier.now) c.args.position.now) es)
+    c.entries_of-entries.ensures (c.if-not-lead_to_children.ensures.exact.0 refl) in
     let root = elim c.else-last.branch as (λ _. IsTrue c.args.last → IsEmptyPosition c.args.position.now) [
       | else-last-via-then-last+else-not-is_empty w ↦ λ _. w.is_empty.ensures.exact.0 w.if-not-is_empty.false
       | else-last-via-else-last w ↦ λ h. absurd (false≢true (sym w.if-last.false ∙ h))

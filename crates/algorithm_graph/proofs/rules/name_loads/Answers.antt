@@ -6,7 +6,8 @@ use Rattle.algorithm_graph.proofs.rules.name_loads.Goals as goal
 
 pub loop-entry-preserved : goal.loop-entry-preserved
 loop-entry-preserved c =
-    All-more (NamesLoad c.args.game.now c.args.loads.now) c.args.entries.now c.loop-entry.entry-index (record { size = 0; load = 0; to = 0 }) c.loop-entry-test.true c.loop-entry.invariant
+    All-more (NamesLoad c.args.game.now c.args.loads.now) c.args.entries.now c.loop-entry.entry-index
+    (record { size = 0; load = 0; to = 0 }) c.loop-entry-test.true c.loop-entry.invariant
     (c.if-not-names_load.ensures.exact.0 refl)
 
 pub returns : goal.returns

@@ -9,8 +9,8 @@ use Rattle.checker.proofs.node.judge_node.Goals as goal
 pub judge-judged-requires-clause-sizes : goal.judge-judged-requires-clause-sizes
 judge-judged-requires-clause-sizes c = rw c.of_game-sizes.ensures.value (sizes_are c.args.head.now.game.capacity)
 
-pub judge-requires-clause-sizes : goal.judge-requires-clause-sizes
-judge-requires-clause-sizes c = rw c.of_game-sizes.ensures.value (sizes_are c.args.head.now.game.capacity)
+pub judge-requires : goal.judge-requires
+judge-requires c = record { sizes = rw c.of_game-sizes.ensures.value (sizes_are c.args.head.now.game.capacity) }
 
 pub returns-in-Adversary : goal.returns-in-Adversary
 returns-in-Adversary c =

@@ -8,18 +8,30 @@ use Rattle.strategy_text.proofs.adversary.each_placement.Goals as goal
 pub returns-in_default : goal.returns-in_default
 returns-in_default c =
     let less = after_shrinks (codes "on") c.loop-words.words c.accept.new.self c.loop-words-test.ensures in
-    from_none c.new-placements.result _ _ c.new-placements.ensures.empty (many_stops (after (codes "on")) placement_at c.loop-words.placements c.loop-words.words c.accept.new.self _ c.loop-words-test.ensures c.in_default.ensures (omega (arith, less)) c.loop-words.invariant)
+    from_none c.new-placements.result _ _ c.new-placements.ensures.empty (many_stops (after (codes "on")) placement_at c.loop-words.placements c.loop-words.words c.accept.new.self
+    _ c.loop-words-test.ensures c.in_default.ensures (omega (arith, less)) c.loop-words.invariant)
 
 pub loop-words-smaller : goal.loop-words-smaller
 loop-words-smaller c =
-    omega (arith, after_shrinks (codes "on") c.loop-words.words c.accept.new.self c.loop-words-test.ensures, placement_shrinks c.accept.new.self (c.in-Some.placement, c.placement.new.words) c.in-Some.ensures)
+    omega (
+      arith,
+      after_shrinks (codes "on") c.loop-words.words c.accept.new.self c.loop-words-test.ensures,
+      placement_shrinks c.accept.new.self
+          (c.in-Some.placement, c.placement.new.words) c.in-Some.ensures,
+    )
 
 pub loop-words-preserved : goal.loop-words-preserved
 loop-words-preserved c =
-    let less : length c.placement.new.words < length c.loop-words.words = omega (arith, after_shrinks (codes "on") c.loop-words.words c.accept.new.self c.loop-words-test.ensures, placement_shrinks c.accept.new.self (c.in-Some.placement, c.placement.new.words) c.in-Some.ensures) in
-    rw c.in_ok-push.ensures.ok (many_more (after (codes "on")) placement_at c.loop-words.placements c.loop-words.words c.accept.new.self c.placement.new.words c.in-Some.placement _ c.loop-words-test.ensures c.in-Some.ensures less c.loop-words.invariant)
+    let less : length c.placement.new.words < length c.loop-words.words = omega (
+      arith,
+      after_shrinks (codes "on") c.loop-words.words c.accept.new.self c.loop-words-test.ensures,
+      placement_shrinks c.accept.new.self (c.in-Some.placement, c.placement.new.words) c.in-Some.ensures,
+    ) in
+    rw c.in_ok-push.ensures.ok (many_more (after (codes "on")) placement_at c.loop-words.placements c.loop-words.words c.accept.new.self c.placement.new.words c.in-Some.placement _
+    c.loop-words-test.ensures c.in-Some.ensures less c.loop-words.invariant)
 
 pub returns : goal.returns
 returns c =
     let stays = c.loop-words-test.ensures.1 in
-    rw stays (from_none c.new-placements.result _ _ c.new-placements.ensures.empty (many_ends (after (codes "on")) placement_at c.loop-words.placements c.loop-words.words _ c.loop-words-test.ensures.0 c.loop-words.invariant))
+    rw stays (from_none c.new-placements.result _ _ c.new-placements.ensures.empty
+    (many_ends (after (codes "on")) placement_at c.loop-words.placements c.loop-words.words _ c.loop-words-test.ensures.0 c.loop-words.invariant))

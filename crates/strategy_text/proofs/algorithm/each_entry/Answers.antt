@@ -7,7 +7,8 @@ use Rattle.strategy_text.proofs.algorithm.each_entry.Goals as goal
 pub returns-in_default : goal.returns-in_default
 returns-in_default c =
     let more = more_some c.loop-words.words (sym c.is_at_end.ensures ∙ c.loop-words-test.true) in
-    from_none c.new-entries.result _ _ c.new-entries.ensures.empty (many_stops more_words entry_at c.loop-words.entries c.loop-words.words c.loop-words.words _ more.0 c.in_default.ensures more.1 c.loop-words.invariant)
+    from_none c.new-entries.result _ _ c.new-entries.ensures.empty (many_stops more_words entry_at c.loop-words.entries c.loop-words.words c.loop-words.words _ more.0
+    c.in_default.ensures more.1 c.loop-words.invariant)
 
 pub loop-words-smaller : goal.loop-words-smaller
 loop-words-smaller c = entry_shrinks c.loop-words.words (c.in-Some.entry, c.entry.new.words) c.in-Some.ensures
@@ -16,7 +17,8 @@ pub loop-words-preserved : goal.loop-words-preserved
 loop-words-preserved c =
     let more = more_some c.loop-words.words (sym c.is_at_end.ensures ∙ c.loop-words-test.true) in
     let less = entry_shrinks c.loop-words.words (c.in-Some.entry, c.entry.new.words) c.in-Some.ensures in
-    rw c.in_ok-push.ensures.ok (many_more more_words entry_at c.loop-words.entries c.loop-words.words c.loop-words.words c.entry.new.words c.in-Some.entry _ more.0 c.in-Some.ensures less c.loop-words.invariant)
+    rw c.in_ok-push.ensures.ok (many_more more_words entry_at c.loop-words.entries c.loop-words.words c.loop-words.words c.entry.new.words c.in-Some.entry _ more.0
+    c.in-Some.ensures less c.loop-words.invariant)
 
 pub returns : goal.returns
 returns c =

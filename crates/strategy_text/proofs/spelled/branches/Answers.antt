@@ -4,7 +4,10 @@ use Rattle.strategy_text.proofs.Spaced.{writes_words, stops_words}
 use Rattle.strategy_text.proofs.spelled.branches.Goals as goal
 
 pub returns-in_err-optional_packing : goal.returns-in_err-optional_packing
-returns-in_err-optional_packing g c = stops_words c.from_residual.result _ _ (packing_words c.args.pack.now) (flat_map placement_words c.args.placements.now) c.from_residual.ensures.0 c.in_err-optional_packing.ensures
+returns-in_err-optional_packing g c =
+    stops_words c.from_residual.result _ _ (packing_words c.args.pack.now) (flat_map placement_words c.args.placements.now) c.from_residual.ensures.0
+    c.in_err-optional_packing.ensures
 
 pub returns : goal.returns
-returns g c = writes_words c.put_each.result _ _ _ (packing_words c.args.pack.now) (flat_map placement_words c.args.placements.now) c.in_ok-optional_packing.ensures c.put_each.ensures
+returns g c =
+    writes_words c.put_each.result _ _ _ (packing_words c.args.pack.now) (flat_map placement_words c.args.placements.now) c.in_ok-optional_packing.ensures c.put_each.ensures

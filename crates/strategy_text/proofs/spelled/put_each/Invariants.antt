@@ -5,4 +5,5 @@ use Rattle.strategy_text.proofs.spelled.put_each.Given as goal
 
 abbrev pub invariant-loop-value : goal.invariant-loop-value
 invariant-loop-value g l =
-    Took (standing (g.K.Sink.written l.fn.sink) (g.K.Sink.faults l.fn.sink) l.fn.buffer) (standing (g.K.Sink.written l.sink) (g.K.Sink.faults l.sink) l.buffer) (spaced (flat_map g.T.Spelled.words (take l.value-index l.list)))
+    Took (standing (g.K.Sink.written l.fn.sink) (g.K.Sink.faults l.fn.sink) l.fn.buffer) (standing (g.K.Sink.written l.sink) (g.K.Sink.faults l.sink) l.buffer)
+    (spaced (flat_map g.T.Spelled.words (take l.value-index l.list)))

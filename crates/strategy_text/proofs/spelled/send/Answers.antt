@@ -5,7 +5,11 @@ use Rattle.strategy_text.proofs.Spaced.{writes_words, stops_words}
 use Rattle.strategy_text.proofs.spelled.send.Goals as goal
 
 pub returns-in_err-put_each : goal.returns-in_err-put_each
-returns-in_err-put_each g c = stops_words c.from_residual.result _ _ (codes "send" ∷ decimal c.args.size ∷ []) (packing_words c.args.pack.now ++ flat_map placement_words c.args.placements.now) c.from_residual.ensures.0 c.in_err-put_each.ensures
+returns-in_err-put_each g c =
+    stops_words c.from_residual.result _ _ (codes "send" ∷ decimal c.args.size ∷ []) (packing_words c.args.pack.now ++ flat_map placement_words c.args.placements.now)
+    c.from_residual.ensures.0 c.in_err-put_each.ensures
 
 pub returns : goal.returns
-returns g c = writes_words c.branches.result _ _ _ (codes "send" ∷ decimal c.args.size ∷ []) (packing_words c.args.pack.now ++ flat_map placement_words c.args.placements.now) c.in_ok-put_each.ensures c.branches.ensures
+returns g c =
+    writes_words c.branches.result _ _ _ (codes "send" ∷ decimal c.args.size ∷ []) (packing_words c.args.pack.now ++ flat_map placement_words c.args.placements.now)
+    c.in_ok-put_each.ensures c.branches.ensures

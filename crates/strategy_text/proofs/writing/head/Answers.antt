@@ -9,7 +9,8 @@ ended line = line ++ 10 ∷ []
 
 pub returns-in_err-line : goal.returns-in_err-line
 returns-in_err-line g c =
-    stops_one c.from_residual.result _ _ (ended (first_line c.args.format)) _ c.from_residual.ensures.0 (rw (c.as_bytes.ensures.value, c.first_line.ensures) at c.in_err-line.ensures)
+    stops_one c.from_residual.result _ _ (ended (first_line c.args.format)) _ c.from_residual.ensures.0
+    (rw (c.as_bytes.ensures.value, c.first_line.ensures) at c.in_err-line.ensures)
 
 pub returns-in_err-line-2 : goal.returns-in_err-line-2
 unfolding game_line
@@ -21,7 +22,8 @@ returns-in_err-line-2 g c =
 pub returns-in_err-line-3 : goal.returns-in_err-line-3
 unfolding game_line
 returns-in_err-line-3 g c =
-    stops_three c.from_residual-in_err-line-3.result _ _ _ _ (ended (first_line c.args.format)) (ended (game_line c.args.game.now)) (ended (side_line c.args.side)) _ c.from_residual-in_err-line-3.ensures.0
+    stops_three c.from_residual-in_err-line-3.result _ _ _ _ (ended (first_line c.args.format)) (ended (game_line c.args.game.now)) (ended (side_line c.args.side)) _
+    c.from_residual-in_err-line-3.ensures.0
     (rw (c.as_bytes.ensures.value, c.first_line.ensures) at c.in_ok-line.ensures)
     (rw (c.m.ensures.value, c.g.ensures.value, c.t.ensures.value) at c.in_ok-line-2.ensures)
     (rw c.word.ensures.value at c.in_err-line-3.ensures)

@@ -8,7 +8,8 @@ returns-in_err-put g c =
 
 pub returns-in_err-put_each : goal.returns-in_err-put_each
 returns-in_err-put_each g c =
-    stops_others c.from_residual-in_err-put_each.result _ _ _ c.args.first.now (flat_map g.T.Spelled.words c.args.others.now) c.from_residual-in_err-put_each.ensures.0 c.in_ok-put.ensures c.in_err-put_each.ensures
+    stops_others c.from_residual-in_err-put_each.result _ _ _ c.args.first.now (flat_map g.T.Spelled.words c.args.others.now) c.from_residual-in_err-put_each.ensures.0
+    c.in_ok-put.ensures c.in_err-put_each.ensures
 
 pub returns : goal.returns
 returns g c =

@@ -7,7 +7,8 @@ returns-in_err-head g c =
 
 pub returns-in_err-nodes : goal.returns-in_err-nodes
 returns-in_err-nodes g c =
-    stops_nodes c.from_residual-in_err-nodes.result _ _ _ c.args.strategy.now c.from_residual-in_err-nodes.ensures.0 (rw (c.side.ensures.value, c.len.ensures.value) at c.in_ok-head.ensures) c.in_err-nodes.ensures
+    stops_nodes c.from_residual-in_err-nodes.result _ _ _ c.args.strategy.now c.from_residual-in_err-nodes.ensures.0
+    (rw (c.side.ensures.value, c.len.ensures.value) at c.in_ok-head.ensures) c.in_err-nodes.ensures
 
 pub returns : goal.returns
 returns g c =

@@ -5,7 +5,8 @@ use Rattle.strategy_text.proofs.writing.nodes.Goals as goal
 
 pub returns-in_err-node : goal.returns-in_err-node
 returns-in_err-node g c =
-    stops_node c.from_residual.result (nodes_of c.args.nodes.now) c.loop-number.number _ _ _ c.from_residual.ensures.0 (omega (arith, c.len-count.ensures.value)) c.loop-number.invariant c.in_err-node.ensures
+    stops_node c.from_residual.result (nodes_of c.args.nodes.now) c.loop-number.number _ _ _ c.from_residual.ensures.0 (omega (arith, c.len-count.ensures.value))
+    c.loop-number.invariant c.in_err-node.ensures
 
 pub loop-number-preserved : goal.loop-number-preserved
 loop-number-preserved g c =

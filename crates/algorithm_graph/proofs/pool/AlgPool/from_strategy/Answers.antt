@@ -1,0 +1,23 @@
+use Rattle.std.proofs.Common.{◌≡◌, ◌∙◌, sym, ap, map}
+use Rattle.algorithm_graph.specs.Nodes.{position_of}
+use Rattle.algorithm_graph.proofs.PoolLemmas.{IsPool-from_legal, each_has_position, root_of_legal}
+use Rattle.algorithm_graph.proofs.pool.AlgPool.from_strategy.Goals as goal
+
+pub positions_of-requires : goal.positions_of-requires
+positions_of-requires c =
+    let strategy = c.args.strategy in
+    let legal = rw c.in-Algorithm.is at c.requires.legal in
+    let pool = IsPool-from_legal strategy.format strategy.game c.in-Algorithm.nodes legal in
+    rw c.as_slice.ensures.value (record { each = each_has_position strategy.format strategy.game c.in-Algorithm.nodes pool })
+
+pub invariant_of-result : goal.invariant_of-result
+invariant_of-result c =
+    let strategy = c.args.strategy in
+    let legal = rw c.in-Algorithm.is at c.requires.legal in
+    (IsPool-from_legal strategy.format strategy.game c.in-Algorithm.nodes legal, c.in_ok-positions.ensures ∙ ap (map position_of) c.as_slice.ensures.value)
+
+pub returns-clause-root : goal.returns-clause-root
+returns-clause-root c =
+    let strategy = c.args.strategy in
+    let legal = rw c.in-Algorithm.is at c.requires.legal in
+    root_of_legal strategy.format strategy.game c.in-Algorithm.nodes legal
