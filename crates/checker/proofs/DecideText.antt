@@ -8,6 +8,7 @@ use Rattle.std.proofs.lemmas.List.{append-nil, length-map, length_push}
 use Rattle.std.proofs.lemmas.List.Elements.{All-nil, All-cons, All-append}
 use Rattle.port_io.specs.Lines.{ReaderState, IsLine, HasNoLf, with_lf, longest_line}
 use Rattle.port_io.proofs.NextLemmas.{with_lf-only}
+use Rattle.checker.proofs.LineLemmas.{HasNoLf-with_lf}
 use Rattle.items.specs.Game.{GameNumbers, IsGame}
 use Rattle.loads.specs.declared.position.Position.{Position}
 use Rattle.strategy_text.specs.Reading.{game_at, count_at, adversary_at, algorithm_at}
