@@ -223,8 +223,8 @@ pub exit_side : (wanted : Wanted) (format : Format) (game : GameNumbers) (fault 
 exit_side wanted format game fault old left new_left of_game r =
     conclude wanted (first_line format ∷ game_line game ∷ []) (IsWrongNext 3 IsSideLine (BreaksSide wanted)) fault old left new_left
     (λ bytes rest stood.
-        let one = first_from format (game_line game ∷ []) bytes rest stood in
-        Faultless-head wanted bytes 3 (omega arith) (λ l. (one.0, one.1, (format, one.2))) (λ l. (game, game_from (first_line format) game [] bytes rest of_game stood, of_game)) (λ l. absurd (omega arith)) (λ l. absurd (omega arith)))
+    let one = first_from format (game_line game ∷ []) bytes rest stood in
+    Faultless-head wanted bytes 3 (omega arith) (λ l. (one.0, one.1, (format, one.2))) (λ l. (game, game_from (first_line format) game [] bytes rest of_game stood, of_game)) (λ l. absurd (omega arith)) (λ l. absurd (omega arith)))
     (λ bytes rest line cause stood w. let f = refused_at (first_line format ∷ game_line game ∷ []) 3 IsSideLine (BreaksSide wanted) bytes rest line cause refl stood w in (f.0, side_fault wanted bytes cause f.1))
     r
 
@@ -234,8 +234,8 @@ pub exit_count : (wanted : Wanted) (format : Format) (game : GameNumbers) (side 
 exit_count wanted format game side fault old left new_left of_game of_side r =
     conclude wanted (first_line format ∷ game_line game ∷ side_line side ∷ []) (IsWrongNext 4 IsCountLine NoRule) fault old left new_left
     (λ bytes rest stood.
-        let one = first_from format (game_line game ∷ side_line side ∷ []) bytes rest stood in
-        Faultless-head wanted bytes 4 (omega arith) (λ l. (one.0, one.1, (format, one.2))) (λ l. (game, game_from (first_line format) game (side_line side ∷ []) bytes rest of_game stood, of_game)) (λ l. (side, side_from (first_line format) (game_line game) side [] bytes rest stood, of_side)) (λ l. absurd (omega arith)))
+    let one = first_from format (game_line game ∷ side_line side ∷ []) bytes rest stood in
+    Faultless-head wanted bytes 4 (omega arith) (λ l. (one.0, one.1, (format, one.2))) (λ l. (game, game_from (first_line format) game (side_line side ∷ []) bytes rest of_game stood, of_game)) (λ l. (side, side_from (first_line format) (game_line game) side [] bytes rest stood, of_side)) (λ l. absurd (omega arith)))
     (λ bytes rest line cause stood w. let f = refused_at (first_line format ∷ game_line game ∷ side_line side ∷ []) 4 IsCountLine NoRule bytes rest line cause refl stood w in (f.0, count_fault wanted bytes cause f.1))
     r
 
@@ -272,11 +272,11 @@ exit_node wanted head nodes fault old left new_left is judged few r =
     let stands = λ (bytes rest : List ℕ) (stood : StandFirst given bytes rest). stands_from wanted head nodes [] bytes rest is judged (subst (λ (lines : List (List ℕ)). StandFirst (lines_of_head head ++ lines) bytes rest) (sym (append-nil (node_lines 0 nodes))) stood) in
     conclude wanted given (IsWrongNext (head.start + length nodes) (IsNodeLine head (length nodes)) (IsBrokenNodeLine head (map position_of nodes))) fault old left new_left
     (λ bytes rest stood.
-        let s = stands bytes rest stood in
-        Faultless-body wanted bytes (length given + 1) head nodes s.has s.stand judged.each (λ k low past. omega (arith, place)) (λ past. absurd (omega (arith, place))) (λ past. absurd (omega (arith, place))))
+    let s = stands bytes rest stood in
+    Faultless-body wanted bytes (length given + 1) head nodes s.has s.stand judged.each (λ k low past. omega (arith, place)) (λ past. absurd (omega (arith, place))) (λ past. absurd (omega (arith, place))))
     (λ bytes rest line cause stood w.
-        let f = refused_at given (head.start + length nodes) (IsNodeLine head (length nodes)) (IsBrokenNodeLine head (map position_of nodes)) bytes rest line cause place stood w in
-        (f.0 ∙ sym place, subst (λ (i : ℕ). LineFault wanted bytes i cause) (sym place) (node_fault wanted head nodes bytes cause (stands bytes rest stood) few f.1)))
+    let f = refused_at given (head.start + length nodes) (IsNodeLine head (length nodes)) (IsBrokenNodeLine head (map position_of nodes)) bytes rest line cause place stood w in
+    (f.0 ∙ sym place, subst (λ (i : ℕ). LineFault wanted bytes i cause) (sym place) (node_fault wanted head nodes bytes cause (stands bytes rest stood) few f.1)))
     r
 
 end_fault : (wanted : Wanted) (head : Head) (bytes : List ℕ) (cause : Why) → HasHead wanted bytes head
@@ -294,11 +294,11 @@ exit_end wanted head nodes fault old left new_left is judged all r =
     let stands = λ (bytes rest : List ℕ) (stood : StandFirst given bytes rest). stands_from wanted head nodes [] bytes rest is judged (subst (λ (lines : List (List ℕ)). StandFirst (lines_of_head head ++ lines) bytes rest) (sym (append-nil (node_lines 0 nodes))) stood) in
     conclude wanted given (IsWrongNext (head.start + head.count) (λ line. line ≡ end_line) NoRule) fault old left new_left
     (λ bytes rest stood.
-        let s = stands bytes rest stood in
-        Faultless-body wanted bytes (length given + 1) head nodes s.has s.stand judged.each (λ k low past. omega (arith, all)) (λ past. absurd (omega (arith, place))) (λ past. absurd (omega (arith, place))))
+    let s = stands bytes rest stood in
+    Faultless-body wanted bytes (length given + 1) head nodes s.has s.stand judged.each (λ k low past. omega (arith, all)) (λ past. absurd (omega (arith, place))) (λ past. absurd (omega (arith, place))))
     (λ bytes rest line cause stood w.
-        let f = refused_at given (head.start + head.count) (λ line. line ≡ end_line) NoRule bytes rest line cause place stood w in
-        (f.0 ∙ sym place, subst (λ (i : ℕ). LineFault wanted bytes i cause) (sym place) (end_fault wanted head bytes cause (stands bytes rest stood).has f.1)))
+    let f = refused_at given (head.start + head.count) (λ line. line ≡ end_line) NoRule bytes rest line cause place stood w in
+    (f.0 ∙ sym place, subst (λ (i : ℕ). LineFault wanted bytes i cause) (sym place) (end_fault wanted head bytes cause (stands bytes rest stood).has f.1)))
     r
 
 past_fault : (n line : ℕ) (cause : Why) (rest : List ℕ) → IsPastEnd n (Rejected line cause) rest → (line ≡ n) × (cause ≡ why.Syntax) × (rest ≢ [])
@@ -329,8 +329,8 @@ exit_past wanted head nodes fault old left new_left is judged all r =
     conclude wanted (lines_of_text head nodes) (IsPastEnd (head.start + head.count + 1)) fault old left new_left
     (λ bytes rest stood. subst (λ (i : ℕ). Faultless wanted bytes i) (sym place) (Faultless-text wanted head nodes bytes rest is judged all stood))
     (λ bytes rest line cause stood w.
-        let p = past_fault (head.start + head.count + 1) line cause rest w in
-        let s = stands_from wanted head nodes (end_line ∷ []) bytes rest is judged stood in
-        let whole : HasWhole bytes (head.start + head.count) rest = subst (λ (i : ℕ). HasWhole bytes i rest) (omega (arith, place)) (HasWhole-from (lines_of_text head nodes) bytes rest stood) in
-        (p.0 ∙ sym place, subst (λ (i : ℕ). LineFault wanted bytes i cause) (sym place) (subst (λ (c : Why). LineFault wanted bytes (head.start + head.count + 1) c) (sym p.1) (in_body head s.has (past_syntax (rest, whole, p.2))))))
+    let p = past_fault (head.start + head.count + 1) line cause rest w in
+    let s = stands_from wanted head nodes (end_line ∷ []) bytes rest is judged stood in
+    let whole : HasWhole bytes (head.start + head.count) rest = subst (λ (i : ℕ). HasWhole bytes i rest) (omega (arith, place)) (HasWhole-from (lines_of_text head nodes) bytes rest stood) in
+    (p.0 ∙ sym place, subst (λ (i : ℕ). LineFault wanted bytes i cause) (sym place) (subst (λ (c : Why). LineFault wanted bytes (head.start + head.count + 1) c) (sym p.1) (in_body head s.has (past_syntax (rest, whole, p.2))))))
     r

@@ -100,9 +100,9 @@ pub positions_front : (bytes : List ℕ) (head : Head) (nodes : List AnyNode) (e
     → HasNodes bytes head nodes → HasPositions bytes head earlier → map position_of (take (length earlier) nodes) ≡ earlier
 positions_front bytes head nodes earlier le small stand told =
     lists_same (map position_of (take (length earlier) nodes)) earlier (omega (arith, length-map (take (length earlier) nodes) position_of, length-take (length earlier) nodes)) (λ k x y e f.
-        let g = mapped_get nodes (length earlier) k x e in
-        let low : k < length earlier = slice_get_within earlier k y f in
-        sym g.2 ∙ position_same bytes head (head.start + k) k g.0 y (omega arith) (stand k g.0 g.1) (told k y f))
+    let g = mapped_get nodes (length earlier) k x e in
+    let low : k < length earlier = slice_get_within earlier k y f in
+    sym g.2 ∙ position_same bytes head (head.start + k) k g.0 y (omega arith) (stand k g.0 g.1) (told k y f))
 
 -- the positions of nodes that stand in their lines
 pub HasPositions-from : (bytes : List ℕ) (head : Head) (nodes : List AnyNode) → HasNodes bytes head nodes → HasPositions bytes head (map position_of nodes)

@@ -81,10 +81,10 @@ pub data HeadFault (wanted : Wanted) (bytes : List ℕ) : ℕ → Why → Type 0
   first_syntax : ¬ (HasForm bytes 1 IsFirstLine) → HeadFault wanted bytes 1 why.Syntax
   game_syntax : ¬ (HasForm bytes 2 IsGameLine) → HeadFault wanted bytes 2 why.Syntax
   game_rule : (game : GameNumbers) → HasForm bytes 2 (λ line. SpellsGame line game) → ¬ (IsGame game)
-    → HeadFault wanted bytes 2 (why.Rule rules.Game)
+      → HeadFault wanted bytes 2 (why.Rule rules.Game)
   side_syntax : ¬ (HasForm bytes 3 IsSideLine) → HeadFault wanted bytes 3 why.Syntax
   side_rule : (side : Side) → HasForm bytes 3 (λ line. line ≡ side_line side) → ¬ (IsWanted wanted side)
-    → HeadFault wanted bytes 3 (why.Rule rules.Side)
+      → HeadFault wanted bytes 3 (why.Rule rules.Side)
   count_syntax : ¬ (HasForm bytes 4 IsCountLine) → HeadFault wanted bytes 4 why.Syntax
 
 -- ---- the lines after the head
@@ -98,14 +98,14 @@ HasPositions bytes head positions =
 -- form; it cannot matter, since the least faulty line wins.
 pub data BodyFault (bytes : List ℕ) (head : Head) : ℕ → Why → Type 0 where
   node_syntax : (k : ℕ) → k < head.count → ¬ (HasForm bytes (head.start + k) (IsNodeLine head k))
-    → BodyFault bytes head (head.start + k) why.Syntax
+      → BodyFault bytes head (head.start + k) why.Syntax
   node_rule : (earlier : List Position) (rule : Rule) → length earlier < head.count → HasPositions bytes head earlier
-    → HasForm bytes (head.start + length earlier) (IsBrokenNodeLine head earlier rule)
-    → BodyFault bytes head (head.start + length earlier) (why.Rule rule)
+      → HasForm bytes (head.start + length earlier) (IsBrokenNodeLine head earlier rule)
+      → BodyFault bytes head (head.start + length earlier) (why.Rule rule)
   end_syntax : ¬ (HasForm bytes (head.start + head.count) (λ line. line ≡ end_line))
-    → BodyFault bytes head (head.start + head.count) why.Syntax
+      → BodyFault bytes head (head.start + head.count) why.Syntax
   past_syntax : HasBytesPast bytes (head.start + head.count)
-    → BodyFault bytes head (head.start + head.count + 1) why.Syntax
+      → BodyFault bytes head (head.start + head.count + 1) why.Syntax
 
 -- ---- faults
 
@@ -114,7 +114,7 @@ pub data BodyFault (bytes : List ℕ) (head : Head) : ℕ → Why → Type 0 whe
 pub data LineFault (wanted : Wanted) (bytes : List ℕ) (line : ℕ) (fault : Why) : Type 0 where
   in_head : HeadFault wanted bytes line fault → LineFault wanted bytes line fault
   in_body : (head : Head) → HasHead wanted bytes head → BodyFault bytes head line fault
-    → LineFault wanted bytes line fault
+      → LineFault wanted bytes line fault
 
 -- the first fault: a line has it, and no line before that one has any
 pub record FirstFault (wanted : Wanted) (bytes : List ℕ) (line : ℕ) (fault : Why) : Type 0 where

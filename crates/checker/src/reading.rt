@@ -97,11 +97,7 @@ fn keep_nodes<S: Source>(
 }
 
 // Reads the last line.
-fn read_end<S: Source>(
-    lines: &mut LineReader,
-    source: &mut S,
-    line: u64,
-) -> Result<(), CheckFault>
+fn read_end<S: Source>(lines: &mut LineReader, source: &mut S, line: u64) -> Result<(), CheckFault>
     requires { lines.old.ending ≡ None }
     ensures count { S.faults source.old ≤ S.faults source.new }
     ensures ok { OnOk result (ReadsLines (end_line ∷ []) lines.old lines.new (S.left source.old) (S.left source.new)) }
@@ -124,11 +120,7 @@ fn is_end(found: Line) -> bool
 }
 
 // Sees that the input ends.
-fn read_past<S: Source>(
-    lines: &mut LineReader,
-    source: &mut S,
-    line: u64,
-) -> Result<(), CheckFault>
+fn read_past<S: Source>(lines: &mut LineReader, source: &mut S, line: u64) -> Result<(), CheckFault>
     requires { lines.old.ending ≡ None }
     ensures count { S.faults source.old ≤ S.faults source.new }
     ensures ok { OnOk result (ReadsEnd lines.old (S.left source.old) (S.left source.new)) }

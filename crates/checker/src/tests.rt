@@ -29,10 +29,15 @@ fn a_strategy_of_a_wanted_side_is_loaded(rt: HostRuntime) -> Result<(), Fail> {
     assert!(rt; matches!(&loaded.nodes, Nodes::Algorithm(nodes) if nodes.len() == 1));
     let mut source = CalmSource::new(OF_ALGORITHM.as_bytes());
     let fault = load(alloc, &mut source, Wanted::Only(Side::Adversary)).err();
-    assert!(rt; matches!(
-        fault,
-        Some(CheckFault::Rejected { line: 3, why: Why::Rule(Rule::Side) })
-    ));
+    assert!(rt;
+        matches!(
+            fault,
+            Some(CheckFault::Rejected {
+                line: 3,
+                why: Why::Rule(Rule::Side)
+            })
+        )
+    );
     Ok(())
 }
 

@@ -40,11 +40,15 @@ pub fn run_bench<S: Source, K: Sink>(
 
     // What each status stands for, and what was written with it.
     ensures answer { IsAnswer (record {
-        words = spelling_of words.now;
-        left = S.left source.old; new_left = S.left source.new;
-        reads_failed = S.faults source.old; new_reads_failed = S.faults source.new;
-        written = K.written sink.old; new_written = K.written sink.new;
-        writes_failed = K.faults sink.old; new_writes_failed = K.faults sink.new
+      words = spelling_of words.now;
+      left = S.left source.old;
+      new_left = S.left source.new;
+      reads_failed = S.faults source.old;
+      new_reads_failed = S.faults source.new;
+      written = K.written sink.old;
+      new_written = K.written sink.new;
+      writes_failed = K.faults sink.old;
+      new_writes_failed = K.faults sink.new;
     }) result }
     ensures no_command { SpellsNone (spelling_of words.now) → (source.new ≡ source.old) × ((result ≡ Status.Usage) ⊎
         (result ≡ Status.WriteFault) ⊎ (result ≡ Status.OutOfMemory)) }

@@ -101,7 +101,8 @@ fn strategies_of_both_sides_and_formats_are_accepted(rt: HostRuntime) -> Result<
     for pack in [" pack 1 2 / 1 on", " pack 1 1 / - on", " pack 1 / - on"] {
         second = edited(alloc, second.as_str(), pack, " on")?;
     }
-    let finishing = "stretch 1\ngame 2 3 5\nside algorithm\nnodes 1\n0 loads 0 0 items - finish\nend\n";
+    let finishing =
+        "stretch 1\ngame 2 3 5\nside algorithm\nnodes 1\n0 loads 0 0 items - finish\nend\n";
     let of_format_2 = edited(alloc, OF_ALGORITHM, "stretch 1", "stretch 2")?;
     let cases = [
         (OF_ALGORITHM, "accepted algorithm 2 2 3 nodes 5\n"),
@@ -122,15 +123,60 @@ fn strategies_of_both_sides_and_formats_are_accepted(rt: HostRuntime) -> Result<
 fn faults_of_both_sides_and_formats_are_named(rt: HostRuntime) -> Result<(), Fail> {
     let alloc = rt.alloc();
     let cases = [
-        (OF_ALGORITHM, " 2 on 0 to 1\n", "\n", "rejected line 7 rule replies\n"),
-        (OF_ALGORITHM, " 2 on 0 to 1\n", " 2 on 1 to 1\n", "rejected line 7 rule reply\n"),
-        (OF_ALGORITHM, " 1 on 0 to 2 ", " 1 on 0 to 3 ", "rejected line 9 rule child\n"),
-        (OF_ALGORITHM, "2 1 items 1 2 finish", "1 1 items 1 1 finish", "rejected line 6 rule finish\n"),
-        (WITH_BURSTS, "burst 2 2 pack 1 2 / 1 2", "burst 1 2 pack 1 2 / 1", "rejected line 5 rule burst\n"),
-        (WITH_BURSTS, "burst 2 2", "burst 2 0", "rejected line 5 rule send\n"),
-        (WITH_BURSTS, "1 send 1 on", "1 send 1 pack 1 1 / - on", "rejected line 7 rule pack\n"),
-        (WITH_BURSTS, "stretch 2", "stretch 1", "rejected line 5 syntax\n"),
-        (LEGAL, "stretch 1", "stretch 2", "rejected line 6 rule pack\n"),
+        (
+            OF_ALGORITHM,
+            " 2 on 0 to 1\n",
+            "\n",
+            "rejected line 7 rule replies\n",
+        ),
+        (
+            OF_ALGORITHM,
+            " 2 on 0 to 1\n",
+            " 2 on 1 to 1\n",
+            "rejected line 7 rule reply\n",
+        ),
+        (
+            OF_ALGORITHM,
+            " 1 on 0 to 2 ",
+            " 1 on 0 to 3 ",
+            "rejected line 9 rule child\n",
+        ),
+        (
+            OF_ALGORITHM,
+            "2 1 items 1 2 finish",
+            "1 1 items 1 1 finish",
+            "rejected line 6 rule finish\n",
+        ),
+        (
+            WITH_BURSTS,
+            "burst 2 2 pack 1 2 / 1 2",
+            "burst 1 2 pack 1 2 / 1",
+            "rejected line 5 rule burst\n",
+        ),
+        (
+            WITH_BURSTS,
+            "burst 2 2",
+            "burst 2 0",
+            "rejected line 5 rule send\n",
+        ),
+        (
+            WITH_BURSTS,
+            "1 send 1 on",
+            "1 send 1 pack 1 1 / - on",
+            "rejected line 7 rule pack\n",
+        ),
+        (
+            WITH_BURSTS,
+            "stretch 2",
+            "stretch 1",
+            "rejected line 5 syntax\n",
+        ),
+        (
+            LEGAL,
+            "stretch 1",
+            "stretch 2",
+            "rejected line 6 rule pack\n",
+        ),
         (LEGAL, "stretch 1", "stretch 3", "rejected line 1 syntax\n"),
     ];
     for (text, from, to, line) in cases {
@@ -241,7 +287,9 @@ fn a_failing_read_writes_nothing(rt: HostRuntime) -> Result<(), Fail> {
 }
 
 #[test]
-fn a_fault_in_a_line_that_was_read_is_answered_before_a_failing_read(rt: HostRuntime) -> Result<(), Fail> {
+fn a_fault_in_a_line_that_was_read_is_answered_before_a_failing_read(
+    rt: HostRuntime,
+) -> Result<(), Fail> {
     let alloc = rt.alloc();
     let words = words_of(alloc, "check")?;
     let input = edited(alloc, LEGAL, "on 2 over\n1", "on 2 to 0\n1")?;

@@ -42,11 +42,13 @@ returns-clause-ok g c =
     let left = g.S.Source.left c.args.source.now in
     let head = told_by c.in_ok-head.head in
     let r = c.in_ok-judge_nodes.ensures.ok.1 in
-    let nodes = c.in_ok-judge_nodes.ensures.ok.0 in
-    (nodes, record {
-      is_head = c.in_ok-head.ensures.legal;
-      number = r.number;
-      judged = r.judged;
-      reads = ReadsLines-then (lines_of_head head) (node_lines 0 nodes ++ end_line ∷ []) old c.read_head.new.lines c.read_end.new.lines left (g.S.Source.left c.read_head.new.source) (g.S.Source.left c.read_end.new.source) c.in_ok-head.ensures.ok
-          (ReadsLines-then (node_lines 0 nodes) (end_line ∷ []) c.read_head.new.lines c.judge_nodes.new.lines c.read_end.new.lines (g.S.Source.left c.read_head.new.source) (g.S.Source.left c.judge_nodes.new.source) (g.S.Source.left c.read_end.new.source) r.reads c.in_ok-read_end.ensures.ok);
-    })
+    let nodes = c.in_ok-judge_nodes.ensures.ok.0 in (
+      nodes,
+      record {
+        is_head = c.in_ok-head.ensures.legal;
+        number = r.number;
+        judged = r.judged;
+        reads = ReadsLines-then (lines_of_head head) (node_lines 0 nodes ++ end_line ∷ []) old c.read_head.new.lines c.read_end.new.lines left (g.S.Source.left c.read_head.new.source) (g.S.Source.left c.read_end.new.source) c.in_ok-head.ensures.ok
+            (ReadsLines-then (node_lines 0 nodes) (end_line ∷ []) c.read_head.new.lines c.judge_nodes.new.lines c.read_end.new.lines (g.S.Source.left c.read_head.new.source) (g.S.Source.left c.judge_nodes.new.source) (g.S.Source.left c.read_end.new.source) r.reads c.in_ok-read_end.ensures.ok);
+      },
+    )
