@@ -131,34 +131,55 @@ fn equal_positions_are_one_key(rt: HostRuntime) -> Result<(), Fail> {
     Ok(())
 }
 
+fn is_kept(alloc: Global, loads: &Loads, items: &Items) -> Result<bool, Fail> {
+    let packed = PackedPosition::of(alloc, loads, items)?;
+    Ok(packed.is(loads, items) && packed.items().same(items))
+}
+
+fn loads_come_back(alloc: Global, loads: &Loads) -> Result<bool, Fail> {
+    let packed = PackedPosition::of(alloc, loads, &Items::empty())?;
+    Ok(packed.loads().same(loads))
+}
+
+fn pack_alike(alloc: Global, loads: &Loads, first: &Items, second: &Items) -> Result<bool, Fail> {
+    let packed = PackedPosition::of(alloc, loads, first)?;
+    let other = PackedPosition::of(alloc, loads, second)?;
+    Ok(packed == other && packed.copy()? == other)
+}
+
 #[test]
 fn packed_positions_come_back_whole(rt: HostRuntime) -> Result<(), Fail> {
     let game = Game::new(8, 120, 240)?;
-    let mut many = [1u16; 60];
-    many[59] = 120;
-    let cases = [
-        ([0u16; 8].as_slice(), [].as_slice()),
-        (
-            [239, 120, 120, 7, 1, 0, 0, 0].as_slice(),
-            [1, 2, 2, 119, 120].as_slice(),
-        ),
-        ([120, 60, 0, 0, 0, 0, 0, 0].as_slice(), many.as_slice()),
-    ];
+    let loads = Loads::from_slice(rt.alloc(), &game, &[239, 120, 120, 7, 1, 0, 0, 0]).ok_or(
+        "refused",
+    )?;
+    let items = Items::from_slice(&game, &[1, 2, 2, 119, 120]).ok_or("refused")?;
+    let many = Items::from_slice(&game, &[1; 60]).ok_or("refused")?;
+    assert!(rt; is_kept(rt.alloc(), &loads, &Items::empty())?);
+    assert!(rt; is_kept(rt.alloc(), &loads, &items)?);
+    assert!(rt; is_kept(rt.alloc(), &loads, &many)?);
+    assert!(rt; loads_come_back(rt.alloc(), &loads)?);
+    assert!(rt; pack_alike(rt.alloc(), &loads, &many, &many)?);
+    assert!(rt; !pack_alike(rt.alloc(), &loads, &items, &many)?);
+    Ok(())
+}
+
+fn push_both(list: &mut PackedPositions, loads: &Loads, items: &Items) -> Result<(), Fail> {
+    list.push(loads, &Items::empty())?;
+    list.push(loads, items)?;
+    Ok(())
+}
+
+#[test]
+fn packed_positions_are_found_by_their_number(rt: HostRuntime) -> Result<(), Fail> {
+    let game = small_game()?;
+    let loads = Loads::from_slice(rt.alloc(), &game, &[3, 2, 2]).ok_or("refused")?;
+    let items = Items::from_slice(&game, &[1, 1, 2, 3]).ok_or("refused")?;
     let mut list = PackedPositions::new(rt.alloc());
-    for (i, (loads, items)) in cases.iter().enumerate() {
-        let loads = Loads::from_slice(rt.alloc(), &game, loads).ok_or("loads refused")?;
-        let items = Items::from_slice(&game, items).ok_or("items refused")?;
-        let packed = PackedPosition::of(rt.alloc(), &loads, &items)?;
-        assert!(rt;
-            packed.loads().same(&loads) && packed.items().same(&items) && packed.is(&loads, &items)
-        );
-        assert!(rt; packed.copy()? == packed);
-        assert!(rt; !list.is_at(i, &loads, &items));
-        list.push(&loads, &items)?;
-        assert!(rt; list.is_at(i, &loads, &items) && list.count() == i + 1);
-        assert!(rt; !list.is_at(i, &loads, &items.add(1)));
-        assert!(rt; list.get(i).ok_or("no position")? == packed.position());
-    }
-    assert!(rt; list.get(3).is_none());
+    push_both(&mut list, &loads, &items)?;
+    assert_eq!(rt; (list.len(), list.count()), (2, 2));
+    assert!(rt; list.is_at(0, &loads, &Items::empty()) && list.is_at(1, &loads, &items));
+    assert!(rt; !list.is_at(0, &loads, &items) && !list.is_at(2, &loads, &items));
+    assert!(rt; list.get(1).is_some() && list.get(2).is_none());
     Ok(())
 }
