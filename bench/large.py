@@ -1,24 +1,27 @@
 #!/usr/bin/env python3
-"""Writes a large legal strategy of the adversary of the game 2 3 4 to standard output.
+"""Writes a large legal strategy to standard output.
 
-    large.py COPIES
+    large.py KIND COPIES
 
-It has 4 * COPIES + 1 nodes: COPIES copies of each node but the root of the strategy of five nodes in
-examples/adversary-2-3-4.txt, where a reference names any copy of the node that it named there. Which copy
-that is goes by a simple rule: for the reference in node i it is copy (7919 * i) mod COPIES. With one copy it
-is that strategy itself.
+KIND is one of these:
+
+- adversary: the game 2 3 4, with 4 * COPIES + 1 nodes: COPIES copies of each node but the root of the strategy of five
+  nodes in examples/adversary-2-3-4.txt, where a reference names any copy of the node that it named there. Which copy
+  that is goes by a simple rule: for the reference in node i it is copy (7919 * i) mod COPIES. With one copy it is that
+  strategy itself.
+- algorithm: the game 2 2 3, made in the same way of examples/algorithm-2-2-3.txt.
+- items: the game 8 120 240 of the algorithm, with COPIES nodes of 800 items each and the root.
 """
 
 import sys
 
 
-def lines(copies):
-    """The lines of the strategy, in their order."""
+def adversary(copies):
+    """The lines of the strategy of the adversary, in their order."""
 
     def copy(node):
         return node * 7919 % copies
 
-    yield "stretch 1"
     yield "game 2 3 4"
     yield "side adversary"
     yield f"nodes {4 * copies + 1}"
@@ -35,15 +38,55 @@ def lines(copies):
         )
     root = 4 * copies
     yield f"{root} loads 0 0 items - send 1 pack 1 / - on 0 to {3 * copies + copy(root)}"
-    yield "end"
+
+
+def algorithm(copies):
+    """The lines of the strategy of the algorithm, in their order."""
+
+    def copy(node):
+        return node * 7919 % copies
+
+    yield "game 2 2 3"
+    yield "side algorithm"
+    yield f"nodes {4 * copies + 1}"
+    for i in range(copies):
+        yield f"{i} loads 2 0 items 1 1 finish"
+    for i in range(copies, 2 * copies):
+        yield f"{i} loads 2 1 items 1 2 finish"
+    for i in range(2 * copies, 3 * copies):
+        yield f"{i} loads 1 0 items 1 reply 1 on 1 to {copy(i)} 2 on 0 to {copies + copy(i)}"
+    for i in range(3 * copies, 4 * copies):
+        yield f"{i} loads 2 0 items 2 finish"
+    root = 4 * copies
+    yield (
+        f"{root} loads 0 0 items - reply"
+        f" 1 on 0 to {2 * copies + copy(root)} 2 on 0 to {3 * copies + copy(root)}"
+    )
+
+
+def items(copies):
+    """The lines of a strategy of the algorithm with many items a node, in their order."""
+    yield "game 8 120 240"
+    yield "side algorithm"
+    yield f"nodes {copies + 1}"
+    loads = " ".join(["100"] * 8)
+    ones = " ".join(["1"] * 800)
+    for i in range(copies):
+        yield f"{i} loads {loads} items {ones} finish"
+    yield f"{copies} loads 0 0 0 0 0 0 0 0 items - finish"
+
+
+KINDS = {"adversary": adversary, "algorithm": algorithm, "items": items}
 
 
 def main():
-    copies = int(sys.argv[1])
+    kind, copies = sys.argv[1], int(sys.argv[2])
     if copies < 1:
         sys.exit("COPIES is at least 1")
-    for line in lines(copies):
+    sys.stdout.write("stretch 1\n")
+    for line in KINDS[kind](copies):
         sys.stdout.write(line + "\n")
+    sys.stdout.write("end\n")
 
 
 if __name__ == "__main__":

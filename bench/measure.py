@@ -38,7 +38,10 @@ def main():
         counts.append(run(["wc", "-l"], path)[2])
     print("stretch check", *(f"{seconds:.3f}" for seconds in checks), "seconds")
     print("wc -l        ", *(f"{seconds:.3f}" for seconds in counts), "seconds")
+    size = os.path.getsize(path) / 1e6
+    nodes = int(line.split()[-1])
     print(f"ratio of the least {min(checks) / min(counts):.1f}")
+    print(f"rate of the least {size / min(checks):.1f} MB a second, {nodes / min(checks):,.0f} nodes a second")
     print(f"peak memory of a check {memory:.0f} MiB")
 
 

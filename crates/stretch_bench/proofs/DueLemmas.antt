@@ -28,15 +28,15 @@ use Rattle.stretch_bench.specs.Answer.{Run, IsAnswer, IsStopped}
 use Rattle.stretch_bench.specs.Words.{Spells, SpellsNone}
 use Rattle.stretch_bench.specs.Lines.{accepted_line, adversary_accepted}
 use Rattle.stretch_bench.specs.Due.{IsDue}
-use Rattle.stretch_bench.specs.Written.{WritesFirst, HasNumbers}
-use Rattle.stretch_bench.proofs.Fronts.{same_line}
+use Rattle.stretch_bench.specs.Written.{WritesFirst}
+use Rattle.stretch_bench.proofs.Fronts.{HasSmallNumbers, same_line}
 
 -- the numbers of a legal strategy are small
 small_nodes : (format : Format) (game : GameNumbers) (sizes : List ℕ) (nodes : Nodes) → AreLegalNodes format game sizes nodes → IsGame game × (length (nodes_of nodes) ≤ most_nodes)
 small_nodes format game sizes (sides.Adversary list) legal = (legal.of_game, omega (arith, legal.high, length-map list of_adversary))
 small_nodes format game sizes (sides.Algorithm list) legal = (legal.of_game, omega (arith, legal.high, length-map list of_algorithm))
 
-legal_numbers : (accepted : Accepted) (left new_left : Option (List ℕ)) → Accepts Either accepted left new_left → HasNumbers accepted
+legal_numbers : (accepted : Accepted) (left new_left : Option (List ℕ)) → Accepts Either accepted left new_left → HasSmallNumbers accepted
 legal_numbers accepted left new_left stands =
     let strategy = stands.strategy in
     let small = small_nodes strategy.format strategy.game (sizes_of strategy.game) strategy.nodes stands.loads.spells.legal in
@@ -62,18 +62,18 @@ usage_due words left new_left Unpackable text due none = absurd due
 
 -- behind an accepted line stands a legal strategy
 pub stands_behind : (words : List (List ℕ)) (left new_left : Option (List ℕ)) (status : Status) (text : List ℕ) (accepted : Accepted) (more : List ℕ)
-    → IsDue words left new_left status text → HasNumbers accepted → text ≡ accepted_line accepted ++ more → Accepts Either accepted left new_left
-stands_behind words left new_left Done text accepted more due numbers e =
-    subst (λ a. Accepts Either a left new_left) (same_line due.accepted accepted more (legal_numbers due.accepted left new_left due.accepts) numbers (sym due.line ∙ e)) due.accepts
-stands_behind words left new_left Rejected text accepted more due numbers e =
+    → IsDue words left new_left status text → text ≡ accepted_line accepted ++ more → Accepts Either accepted left new_left
+stands_behind words left new_left Done text accepted more due e =
+    subst (λ a. Accepts Either a left new_left) (same_line due.accepted accepted more (legal_numbers due.accepted left new_left due.accepts) (sym due.line ∙ e)) due.accepts
+stands_behind words left new_left Rejected text accepted more due e =
     absurd (let differ : 114 ≡ 97 = ap (λ l. get_or l 0 0) (sym due.line ∙ e) in omega arith)
-stands_behind words left new_left Usage text accepted more due numbers e =
+stands_behind words left new_left Usage text accepted more due e =
     absurd (let differ : 117 ≡ 97 = ap (λ l. get_or l 0 0) (sym due.line ∙ e) in omega arith)
-stands_behind words left new_left Undecided text accepted more due numbers e = absurd due
-stands_behind words left new_left ReadFault text accepted more due numbers e = absurd due
-stands_behind words left new_left WriteFault text accepted more due numbers e = absurd due
-stands_behind words left new_left OutOfMemory text accepted more due numbers e = absurd due
-stands_behind words left new_left Unpackable text accepted more due numbers e = absurd due
+stands_behind words left new_left Undecided text accepted more due e = absurd due
+stands_behind words left new_left ReadFault text accepted more due e = absurd due
+stands_behind words left new_left WriteFault text accepted more due e = absurd due
+stands_behind words left new_left OutOfMemory text accepted more due e = absurd due
+stands_behind words left new_left Unpackable text accepted more due e = absurd due
 
 -- what was written first is the front of what was appended
 first_of : (old new : Option (List ℕ)) (text bytes : List ℕ) → new ≡ append_known old text → WritesFirst old new bytes → (more : List ℕ) × (text ≡ bytes ++ more)
@@ -96,20 +96,20 @@ none_written known accepted first =
 
 -- the text was written whole, as a piece of the same bytes
 pub behind_whole : (words : List (List ℕ)) (left new_left : Option (List ℕ)) (status : Status) (text piece : List ℕ) (old new : Option (List ℕ)) (accepted : Accepted)
-    → IsDue words left new_left status text → piece ≡ text → new ≡ append_known old piece → HasNumbers accepted → WritesFirst old new (accepted_line accepted)
+    → IsDue words left new_left status text → piece ≡ text → new ≡ append_known old piece → WritesFirst old new (accepted_line accepted)
     → Accepts Either accepted left new_left
-behind_whole words left new_left status text piece old new accepted due same whole numbers first =
+behind_whole words left new_left status text piece old new accepted due same whole first =
     let found = first_of old new piece (accepted_line accepted) whole first in
-    stands_behind words left new_left status text accepted found.0 due numbers (sym same ∙ found.1)
+    stands_behind words left new_left status text accepted found.0 due (sym same ∙ found.1)
 
 -- a front of the text was written
 pub behind_front : (words : List (List ℕ)) (left new_left : Option (List ℕ)) (status : Status) (text piece : List ℕ) (old new : Option (List ℕ)) (accepted : Accepted)
-    → IsDue words left new_left status text → piece ≡ text → AppendsSome old new piece → HasNumbers accepted → WritesFirst old new (accepted_line accepted)
+    → IsDue words left new_left status text → piece ≡ text → AppendsSome old new piece → WritesFirst old new (accepted_line accepted)
     → Accepts Either accepted left new_left
-behind_front words left new_left status text piece old new accepted due same some numbers first =
+behind_front words left new_left status text piece old new accepted due same some first =
     let n = some.0 in
     let found = first_of old new (take n piece) (accepted_line accepted) some.2 first in
-    stands_behind words left new_left status text accepted (found.0 ++ drop n piece) due numbers
+    stands_behind words left new_left status text accepted (found.0 ++ drop n piece) due
     (sym same ∙ sym (take-append-drop n piece) ∙ ap (λ l. l ++ drop n piece) found.1 ∙ append_assoc (accepted_line accepted) found.0 (drop n piece))
 
 -- where all bytes were read, they are the text of the accepted strategy

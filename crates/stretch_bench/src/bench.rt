@@ -11,7 +11,7 @@ ghost use Rattle.stretch_bench.specs.declared.command.Command.TheVariants.{Check
 ghost use Rattle.stretch_bench.specs.Answer.{IsAnswer, IsStopped};
 ghost use Rattle.stretch_bench.specs.Lines.{accepted_line, adversary_accepted};
 ghost use Rattle.stretch_bench.specs.Words.{spelling_of, Spells, SpellsNone};
-ghost use Rattle.stretch_bench.specs.Written.{WritesFirst, HasNumbers};
+ghost use Rattle.stretch_bench.specs.Written.{WritesFirst};
 
 use crate::due::{Stop, due_of};
 use crate::status::Status;
@@ -60,12 +60,12 @@ pub fn run_bench<S: Source, K: Sink>(
         (result ≡ Status.Done) ↔ IsLegalText Either bytes) }
 
     // A legal strategy stands after an accepted line that was written, whatever the status.
-    ensures accepted { (accepted : Accepted) → HasNumbers accepted → WritesFirst (K.written sink.old)
+    ensures accepted { (accepted : Accepted) → WritesFirst (K.written sink.old)
         (K.written sink.new) (accepted_line accepted) → Accepts Either accepted (S.left source.old)
         (S.left source.new) }
 
     // Where it is the adversary's, every deterministic online algorithm of the game is forced to the target.
-    ensures forced { (game : GameNumbers) (nodes : ℕ) → HasNumbers (adversary_accepted game nodes) → WritesFirst
+    ensures forced { (game : GameNumbers) (nodes : ℕ) → WritesFirst
         (K.written sink.old) (K.written sink.new) (accepted_line (adversary_accepted game nodes)) → ForcesEvery game }
 {
     let due = match due_of(alloc, words, source) {

@@ -4,35 +4,35 @@ use Rattle.stretch_bench.proofs.DueLemmas.{usage_due, none_written, behind_whole
 use Rattle.stretch_bench.proofs.bench.run_bench.Goals as goal
 
 pub returns-in-Err-Read-clause-accepted : goal.returns-in-Err-Read-clause-accepted
-returns-in-Err-Read-clause-accepted g c accepted numbers first = absurd (none_written _ accepted first)
+returns-in-Err-Read-clause-accepted g c accepted first = absurd (none_written _ accepted first)
 
 pub returns-in-Err-Read-clause-forced : goal.returns-in-Err-Read-clause-forced
-returns-in-Err-Read-clause-forced g c game nodes numbers first = absurd (none_written _ (adversary_accepted game nodes) first)
+returns-in-Err-Read-clause-forced g c game nodes first = absurd (none_written _ (adversary_accepted game nodes) first)
 
 pub returns-in-Err-Memory-clause-accepted : goal.returns-in-Err-Memory-clause-accepted
-returns-in-Err-Memory-clause-accepted g c accepted numbers first = absurd (none_written _ accepted first)
+returns-in-Err-Memory-clause-accepted g c accepted first = absurd (none_written _ accepted first)
 
 pub returns-in-Err-Memory-clause-forced : goal.returns-in-Err-Memory-clause-forced
-returns-in-Err-Memory-clause-forced g c game nodes numbers first = absurd (none_written _ (adversary_accepted game nodes) first)
+returns-in-Err-Memory-clause-forced g c game nodes first = absurd (none_written _ (adversary_accepted game nodes) first)
 
 pub returns-in-Ok-put_all-clause-no_command : goal.returns-in-Ok-put_all-clause-no_command
 returns-in-Ok-put_all-clause-no_command g c none = ((c.due_of.ensures.no_command none).0, inl (usage_due _ _ _ _ _ c.in-Ok.ensures.due none))
 
 pub returns-in-Ok-put_all-clause-accepted : goal.returns-in-Ok-put_all-clause-accepted
-returns-in-Ok-put_all-clause-accepted g c accepted numbers first =
-    behind_whole _ _ _ _ _ _ _ _ accepted c.in-Ok.ensures.due c.as_bytes.ensures.value c.in-Ok-put_all.ensures.ok numbers first
+returns-in-Ok-put_all-clause-accepted g c accepted first =
+    behind_whole _ _ _ _ _ _ _ _ accepted c.in-Ok.ensures.due c.as_bytes.ensures.value c.in-Ok-put_all.ensures.ok first
 
 pub returns-in-Ok-put_all-clause-forced : goal.returns-in-Ok-put_all-clause-forced
-returns-in-Ok-put_all-clause-forced g c game nodes numbers first =
-    accepted_forces game nodes _ _ (behind_whole _ _ _ _ _ _ _ _ (adversary_accepted game nodes) c.in-Ok.ensures.due c.as_bytes.ensures.value c.in-Ok-put_all.ensures.ok numbers first)
+returns-in-Ok-put_all-clause-forced g c game nodes first =
+    accepted_forces game nodes _ _ (behind_whole _ _ _ _ _ _ _ _ (adversary_accepted game nodes) c.in-Ok.ensures.due c.as_bytes.ensures.value c.in-Ok-put_all.ensures.ok first)
 
 pub returns-clause-accepted : goal.returns-clause-accepted
-returns-clause-accepted g c accepted numbers first =
-    behind_front _ _ _ _ _ _ _ _ accepted c.in-Ok.ensures.due c.as_bytes.ensures.value c.in-Err.ensures.err numbers first
+returns-clause-accepted g c accepted first =
+    behind_front _ _ _ _ _ _ _ _ accepted c.in-Ok.ensures.due c.as_bytes.ensures.value c.in-Err.ensures.err first
 
 pub returns-clause-forced : goal.returns-clause-forced
-returns-clause-forced g c game nodes numbers first =
-    accepted_forces game nodes _ _ (behind_front _ _ _ _ _ _ _ _ (adversary_accepted game nodes) c.in-Ok.ensures.due c.as_bytes.ensures.value c.in-Err.ensures.err numbers first)
+returns-clause-forced g c game nodes first =
+    accepted_forces game nodes _ _ (behind_front _ _ _ _ _ _ _ _ (adversary_accepted game nodes) c.in-Ok.ensures.due c.as_bytes.ensures.value c.in-Err.ensures.err first)
 
 pub returns-in-Err-Read-clause-exact : goal.returns-in-Err-Read-clause-exact
 returns-in-Err-Read-clause-exact g c check = stopped_any _ _ tt
