@@ -1,5 +1,6 @@
 -- The end of a play: a load reached the target, and a packing of the items.
-use Rattle.std.proofs.Common.{◌≡◌, ℕ, zero, suc, ◌+◌, ◌-◌, ◌/◌, ◌<◌, ◌≤◌, Option, List, [], ◌∷◌, ◌++◌, Some, None, length, get_or, map, take, replicate, sum, false, refl, ap, sym, ◌∙◌, subst, Contains, inl, inr, ◌⊎◌, ⊎_elim, eqb, cond, arith, append_assoc}
+use Rattle.std.proofs.Common.{◌≡◌, ℕ, zero, suc, ◌+◌, ◌-◌, ◌/◌, ◌<◌, ◌≤◌, Option, List, [], ◌∷◌, ◌++◌, Some, None, map, take, replicate, sum, refl, ap}
+use Rattle.std.proofs.Common.{sym, ◌∙◌, subst, Contains, inl, inr, ⊎_elim, eqb, arith, append_assoc}
 use Rattle.std.specs.Prelude.{Any}
 use Rattle.std.specs.List.{All, slice_get, concat, flat_map, range_with_len}
 use Rattle.std.proofs.lemmas.List.{append-nil, replicate-append-replicate}
@@ -7,7 +8,7 @@ use Rattle.std.specs.Prelude.{IfSome, option_map}
 use Rattle.std.proofs.lemmas.Grind.{flat_map-append}
 use Rattle.std.specs.Option.{option_and_then, option_or, unwrap_or}
 use Rattle.std.proofs.lemmas.Bool.{cases_lt, cases_eq, cond-true, cond-false, eq-eqb, ne_eqb}
-use Rattle.std.proofs.lemmas.List.Elements.{All-append, All-weaker, All-contains, All-nil, All-cons, All-head, All-tail}
+use Rattle.std.proofs.lemmas.List.Elements.{All-contains, All-nil, All-cons, All-head, All-tail}
 use Rattle.std.proofs.lemmas.List.Sums.{sum_by-set, sum_by-cons}
 use Rattle.std.proofs.lemmas.Option.{none-some, same_Some}
 use Rattle.std.proofs.Math.Nat.{div-eq-sub-div}
@@ -20,27 +21,27 @@ use Rattle.packing_witness.specs.Edits.{without}
 use Rattle.packing_witness.proofs.PackableLemmas.{IsPacking-Same, Packable-part, sum-packing-le}
 use Rattle.packing_witness.proofs.PackingLemmas.{IsPacking-without_last, without_some}
 use Rattle.loads.specs.After.{after}
-use Rattle.loads.specs.Position.{StandsAt, position}
+use Rattle.loads.specs.Position.{position}
 use Rattle.loads.specs.declared.position.Position.{Position}
 use Rattle.online_play.specs.Algorithm.{IsAlgorithm, placed, run}
 use Rattle.online_play.specs.Laws.{ComesTo}
 use Rattle.strategy_text.specs.declared.node.AdvNode.{AdvNode}
-use Rattle.strategy_text.specs.declared.node.Format.{Format}
 use Rattle.strategy_text.specs.declared.node.Placement.{Placement}
 use Rattle.strategy_text.specs.declared.node.Step.{Step}
 use Rattle.strategy_text.specs.declared.node.Step.TheVariants.{Send, Burst}
 use Rattle.strategy_text.specs.declared.node.Then.{Then}
 use Rattle.strategy_text.specs.declared.node.Then.TheVariants.{Over, To}
 use Rattle.adversary_graph.specs.Judging.{node_at}
-use Rattle.adversary_graph.specs.Legal.{EachFollows}
 use Rattle.adversary_graph.specs.Nodes.{position_of, sent_items, sent_size, packing_of, placements_of}
-use Rattle.adversary_graph.specs.Play.{End, IsLost, Play, play, play_to, play_with, end_at, end_by_step, end_of, end_packing, first_child, child_of, goes_on, load_hit, next_at, beyond, without_all}
+use Rattle.adversary_graph.specs.Play.{End, IsLost, Play, play, play_to, play_with, end_at, end_by_step, end_of, end_packing, first_child, child_of, goes_on, load_hit, next_at}
+use Rattle.adversary_graph.specs.Play.{beyond, without_all}
 use Rattle.adversary_graph.specs.Playing.{GoesOn, IsStep, StandsReady}
 use Rattle.adversary_graph.specs.Pools.{Pool, IsPool, IsRoot}
 use Rattle.adversary_graph.specs.Rules.{IsLongEnough, IsOver, LeadsTo, most_below_target}
+use Rattle.adversary_graph.proofs.PoolLemmas.{rules_of}
 use Rattle.adversary_graph.proofs.RuleLemmas.{sizes_are_sizes, game_volume}
-use Rattle.adversary_graph.proofs.WonLemmas.{Met, met, earlier_node, sent_sizes, not_all_over}
-use Rattle.adversary_graph.proofs.PlayLemmas.{root_ready, send_step, burst_step, Hits, hits_at, ready_packable, rules_at, reaches, stays_reached, run_placed, bin_in_run, times_packable}
+use Rattle.adversary_graph.proofs.WonLemmas.{earlier_node, sent_sizes, not_all_over}
+use Rattle.adversary_graph.proofs.PlayLemmas.{root_ready, send_step, burst_step, Hits, hits_at, ready_packable, reaches, stays_reached, run_placed, bin_in_run}
 
 -- ---- a burst takes a load to the target
 
@@ -76,7 +77,8 @@ module _ (game : GameNumbers) (answer : List ℕ → ℕ) (algorithm : IsAlgorit
       let same : game.target - 1 - hit - size ≡ game.target - 1 - (hit + size) = omega arith in
       let second : (game.target - 1 - hit - size) / size ≡ (game.target - 1 - (hit + size)) / size = ap (λ x. x / size) same in
       let moved = sum_by-set room (run game answer history) (answer (history ++ size ∷ [])) (hit + size) 0 (bin_in_run game answer algorithm history size once) in
-      let after : most_below_target game size (run game answer (history ++ size ∷ [])) ≡ most_below_target game size (placed (run game answer history) (answer (history ++ size ∷ [])) size) =
+      let after : most_below_target game size (run game answer (history ++ size ∷ [])) ≡ most_below_target game size (placed (run game answer history) (answer
+      (history ++ size ∷ [])) size) =
       ap (most_below_target game size) (run_placed game answer algorithm history size once) in
       burst_reaches low n (history ++ size ∷ []) (omega (arith, most, moved, after, first, second)) rest)
       (λ reached. still_reached n (history ++ size ∷ []) rest (reaches game answer algorithm history size once reached))
@@ -107,7 +109,8 @@ module _ (pool : Pool) (is_pool : IsPool pool) (answer : List ℕ → ℕ) (algo
   after_one : (number : ℕ) (history : List ℕ) (size : ℕ) (placements : List Placement) (next : Then) (go : ℕ → List ℕ → Option End) (end : End)
       → (h : Hits pool.game answer pool.nodes number history size placements) → h.next ≡ next
       → (pool.game.target ≤ load_hit pool.game answer history size + size → EndFacts pool.game answer pool.nodes (end_at (history ++ size ∷ []) number))
-      → ((child : ℕ) → StandsReady pool.game answer pool.nodes child (history ++ size ∷ []) → go child (history ++ size ∷ []) ≡ Some end → EndFacts pool.game answer pool.nodes end)
+      → ((child : ℕ) → StandsReady pool.game answer pool.nodes child (history ++ size ∷ []) → go child (history ++ size ∷ []) ≡ Some end
+      → EndFacts pool.game answer pool.nodes end)
       → goes_on go number (history ++ size ∷ []) (Some next) ≡ Some end → EndFacts pool.game answer pool.nodes end
   after_one number history size placements Over go end h is over on e =
       let reached = subst (λ (next : Then). IsOver next) (sym is) tt in
@@ -128,7 +131,7 @@ module _ (pool : Pool) (is_pool : IsPool pool) (answer : List ℕ → ℕ) (algo
       (λ child. on child (history ++ size ∷ []))
       (subst (λ (next : Option Then). goes_on go number (history ++ size ∷ []) next ≡ Some end) h.is ends)
   end_at_step (Burst times size pack) number history node go end is e at on ends =
-      let m = rules_at pool is_pool answer algorithm number node e in
+      let m = rules_of pool is_pool number node e in
       let send : Contains (sizes_of pool.game) size = subst (λ (step : Step). Contains (sizes_of pool.game) (sent_size step)) is m.send in
       let low = (All-contains (IsSize pool.game.capacity) (sizes_of pool.game) size (sizes_are_sizes pool.game) send).low in
       let long : most_below_target pool.game size node.loads < times = subst (λ (step : Step). IsLongEnough pool.game node.loads step) is m.burst in
@@ -139,7 +142,8 @@ module _ (pool : Pool) (is_pool : IsPool pool) (answer : List ℕ → ℕ) (algo
       (subst (λ (step : Step). EndFacts pool.game answer pool.nodes (end_at (history ++ sent_items step) number)) is
       (end_facts number history node e at (subst (λ (step : Step). Any (λ load. pool.game.target ≤ load) (run pool.game answer (history ++ sent_items step))) (sym is) reached)))
 
-  pub ends_lost : (n number : ℕ) (history : List ℕ) (end : End) → StandsReady pool.game answer pool.nodes number history → end_of pool.game answer pool.nodes n number history ≡ Some end
+  pub ends_lost : (n number : ℕ) (history : List ℕ) (end : End) → StandsReady pool.game answer pool.nodes number history
+      → end_of pool.game answer pool.nodes n number history ≡ Some end
       → EndFacts pool.game answer pool.nodes end
   unfolding end_of
   ends_lost zero number history end ready e = absurd (none-some end e)
@@ -171,7 +175,8 @@ module _ (pool : Pool) (is_pool : IsPool pool) (answer : List ℕ → ℕ) (algo
   step_at (Burst times size pack) number history node is e at =
       (None, history ++ replicate times size, burst_step pool is_pool answer algorithm number history node times size pack e is)
 
-  pub has_end : (n number : ℕ) (history : List ℕ) → number < n → StandsReady pool.game answer pool.nodes number history → (end : End) × (end_of pool.game answer pool.nodes n number history ≡ Some end)
+  pub has_end : (n number : ℕ) (history : List ℕ) → number < n → StandsReady pool.game answer pool.nodes number history
+      → (end : End) × (end_of pool.game answer pool.nodes n number history ≡ Some end)
   unfolding end_of
   has_end zero number history l ready = absurd (omega arith)
   has_end (suc n) number history l ready =
@@ -209,16 +214,12 @@ abbrev pub HasEndPacking : GameNumbers → List AdvNode → ℕ → ℕ → List
 HasEndPacking game nodes n number items = (bins : List (List ℕ)) × (end_packing nodes n number ≡ Some bins) × PacksEnough game items bins
 
 module _ (pool : Pool) (is_pool : IsPool pool) where
-  rules_of : (number : ℕ) (node : AdvNode) → slice_get pool.nodes number ≡ Some node → Met pool.format pool.game (sizes_of pool.game) (map position_of (take number pool.nodes)) node
-  unfolding EachFollows
-  rules_of number node e = met pool.format pool.game (sizes_of pool.game) (map position_of (take number pool.nodes)) false node (is_pool.follow number node e)
-
   -- a packing that a node shows
   own_packing : (loads items : List ℕ) (step : Step) (number n : ℕ) (bins : List (List ℕ)) → slice_get pool.nodes number ≡ Some (node_at (position loads items) step)
       → packing_of step ≡ Some bins → HasEndPacking pool.game pool.nodes (suc n) number (items ++ sent_items step)
   unfolding end_packing
   own_packing loads items step number n bins e shown =
-      let m = rules_of number (node_at (position loads items) step) e in
+      let m = rules_of pool is_pool number (node_at (position loads items) step) e in
       let packs = λ (pack : Option (List (List ℕ))). IfSome pack (λ bins. IsPacking pool.game bins (items ++ sent_items step)) in
       let own = λ (node : AdvNode). option_or (packing_of node.step) (option_and_then (end_packing pool.nodes n) (first_child (placements_of node.step))) in
       let later = option_and_then (end_packing pool.nodes n) (first_child (placements_of step)) in (
@@ -240,9 +241,10 @@ module _ (pool : Pool) (is_pool : IsPool pool) where
   end_packing_by loads items (Burst times size bins) number n e before = own_packing loads items (Burst times size bins) number n bins e refl
   end_packing_by loads items (Send size None placements) number n e before =
       let here = position loads items in
-      let m = rules_of number (node_at here (Send size None placements)) e in
+      let m = rules_of pool is_pool number (node_at here (Send size None placements)) e in
       let earlier = map position_of (take number pool.nodes) in
-      let found = first_child_found (λ placement. LeadsTo earlier placement.next (after here placement.load size)) placements m.child (not_all_over pool.game pool.format loads items size placements m.pack) in
+      let found = first_child_found (λ placement. LeadsTo earlier placement.next (after here placement.load size)) placements m.child
+      (not_all_over pool.game pool.format loads items size placements m.pack) in
       let node = earlier_node pool.nodes number found.1 (after here found.0 size) found.3 in
       let ends = before found.1 node.0 node.2 node.1 in
       let own = λ (node : AdvNode). option_or (packing_of node.step) (option_and_then (end_packing pool.nodes n) (first_child (placements_of node.step))) in (
@@ -265,13 +267,15 @@ module _ (pool : Pool) (is_pool : IsPool pool) where
   no_packing loads items (Burst times size bins) number e none = absurd (none-some bins (sym none))
   no_packing loads items (Send size None placements) number e none =
       let here = position loads items in
-      let m = rules_of number (node_at here (Send size None placements)) e in
+      let m = rules_of pool is_pool number (node_at here (Send size None placements)) e in
       let earlier = map position_of (take number pool.nodes) in
-      let found = first_child_found (λ placement. LeadsTo earlier placement.next (after here placement.load size)) placements m.child (not_all_over pool.game pool.format loads items size placements m.pack) in
+      let found = first_child_found (λ placement. LeadsTo earlier placement.next (after here placement.load size)) placements m.child
+      (not_all_over pool.game pool.format loads items size placements m.pack) in
       let node = earlier_node pool.nodes number found.1 (after here found.0 size) found.3 in
       (found.1, found.2, node.2)
 
-  pub has_end_packing : (n number : ℕ) (node : AdvNode) → number < n → slice_get pool.nodes number ≡ Some node → HasEndPacking pool.game pool.nodes n number (node.items ++ sent_items node.step)
+  pub has_end_packing : (n number : ℕ) (node : AdvNode) → number < n → slice_get pool.nodes number ≡ Some node
+      → HasEndPacking pool.game pool.nodes n number (node.items ++ sent_items node.step)
   has_end_packing zero number node l e = absurd (omega arith)
   has_end_packing (suc n) number node l e =
       end_packing_by node.loads node.items node.step number n e (λ child next below found. has_end_packing n child next (omega (arith, below, l)) found)
@@ -325,12 +329,19 @@ Same_beyond game bins whole items together sizes enough = λ x.
     (λ low. let none = count_no_size game.capacity x whole sizes (inl low) in omega (arith, none, enough x, parts, count_several-below f x 1 game.capacity low))
     (λ low. ⊎_elim
     (λ high. omega (arith, together x, enough x, parts, count_several f x 1 game.capacity low (omega (arith, high))))
-    (λ high. let none = count_no_size game.capacity x whole sizes (inr (omega (arith, high))) in omega (arith, none, enough x, parts, count_several-above f x 1 game.capacity (omega (arith, high))))
+    (λ high. let none = count_no_size game.capacity x whole sizes (inr (omega (arith, high))) in omega (
+      arith,
+      none,
+      enough x,
+      parts,
+      count_several-above f x 1 game.capacity (omega (arith, high)),
+    ))
     (cases_lt x (1 + game.capacity)))
     (cases_lt x 1)
 
 -- what is taken out of a packing leaves a packing
-pub packing_without_all : (game : GameNumbers) (xs items whole : List ℕ) (bins : List (List ℕ)) → IsPacking game bins whole → Same whole (items ++ xs) → IsPacking game (without_all xs bins) items
+pub packing_without_all : (game : GameNumbers) (xs items whole : List ℕ) (bins : List (List ℕ)) → IsPacking game bins whole → Same whole (items ++ xs)
+    → IsPacking game (without_all xs bins) items
 packing_without_all game [] items whole bins p same = IsPacking-Same game bins whole items (λ x. omega (arith, same x, count-append x items [])) p
 packing_without_all game (x ∷ xs) items whole bins p same =
     let last = IsPacking-Same game bins whole ((items ++ xs) ++ x ∷ [])
@@ -349,7 +360,8 @@ end_packing_holds game items sent bins enough same =
 
 -- ---- the loops of the packing of a play
 
-pub packed_here : (nodes : List AdvNode) (n number : ℕ) (node : AdvNode) (bins : List (List ℕ)) → number < n → slice_get nodes number ≡ Some node → packing_of node.step ≡ Some bins
+pub packed_here : (nodes : List AdvNode) (n number : ℕ) (node : AdvNode) (bins : List (List ℕ)) → number < n → slice_get nodes number ≡ Some node
+    → packing_of node.step ≡ Some bins
     → end_packing nodes n number ≡ Some bins
 unfolding end_packing
 packed_here nodes zero number node bins l e shown = absurd (omega arith)
@@ -364,14 +376,19 @@ unfolding end_packing
 packed_later nodes zero number child node l e none first below = absurd (omega arith)
 packed_later nodes (suc n) number child node l e none first below =
     let own = λ (node : AdvNode). option_or (packing_of node.step) (option_and_then (end_packing nodes n) (first_child (placements_of node.step))) in
-    let later = option_and_then (end_packing nodes n) (first_child (placements_of node.step)) in
-    (n, omega (arith, below, l), ap (option_and_then own) e ∙ ap (λ (pack : Option (List (List ℕ))). option_or pack later) none ∙ ap (option_and_then (end_packing nodes n)) first)
+    let later = option_and_then (end_packing nodes n) (first_child (placements_of node.step)) in (
+      n,
+      omega (arith, below, l),
+      ap (option_and_then own) e ∙ ap (λ (pack : Option (List (List ℕ))). option_or pack later) none
+          ∙ ap (option_and_then (end_packing nodes n)) first,
+    )
 
 pub without_all-append : (xs ys : List ℕ) (bins : List (List ℕ)) → without_all (xs ++ ys) bins ≡ without_all ys (without_all xs bins)
 without_all-append [] ys bins = refl
 without_all-append (x ∷ xs) ys bins = without_all-append xs ys (unwrap_or (without x bins) bins)
 
-pub without_more : (n size : ℕ) (bins : List (List ℕ)) → without_all (replicate (n + 1) size) bins ≡ unwrap_or (without size (without_all (replicate n size) bins)) (without_all (replicate n size) bins)
+pub without_more : (n size : ℕ) (bins : List (List ℕ)) → without_all (replicate (n + 1) size) bins ≡ unwrap_or (without size (without_all (replicate n size) bins))
+    (without_all (replicate n size) bins)
 without_more n size bins =
     ap (λ (xs : List ℕ). without_all xs bins) (sym (replicate-append-replicate n 1 size)) ∙ without_all-append (replicate n size) (size ∷ []) bins
 
@@ -387,7 +404,8 @@ beyond_more f i bins =
     let next : 1 + i ≡ i + 1 = omega arith in
     let last : i + 1 ≡ suc i = omega arith in
     ap (λ (xs : List ℕ). without_all (flat_map each xs) bins) (ap (range_with_len 1) last ∙ range_push 1 i ∙ ap (λ (x : ℕ). range_with_len 1 i ++ x ∷ []) next)
-    ∙ ap (λ (xs : List ℕ). without_all xs bins) (flat_map-append each (range_with_len 1 i) ((i + 1) ∷ []) ∙ ap (λ (xs : List ℕ). flat_map each (range_with_len 1 i) ++ xs) (append-nil (each (i + 1))))
+    ∙ ap (λ (xs : List ℕ). without_all xs bins) (flat_map-append each (range_with_len 1 i) ((i + 1) ∷ [])
+    ∙ ap (λ (xs : List ℕ). flat_map each (range_with_len 1 i) ++ xs) (append-nil (each (i + 1))))
     ∙ without_all-append (flat_map each (range_with_len 1 i)) (each (i + 1)) bins
 
 count-le-sum : (most x : ℕ) (xs : List ℕ) → All (IsSize most) xs → count x xs ≤ sum xs

@@ -1,33 +1,33 @@
 -- Plays: one step of a play from a node that the items led to, and the end of a play.
-use Rattle.std.proofs.Common.{◌≡◌, ◌≢◌, ℕ, zero, suc, ◌+◌, ◌-◌, ◌<◌, ◌≤◌, Bool, Option, List, [], ◌∷◌, ◌++◌, Some, None, length, get_or, set, map, take, replicate, sum, true, false, refl, ap, sym, ◌∙◌, subst, Contains, inl, inr, ◌⊎◌, ⊎_elim, eqb, cond, arith, append_assoc}
+use Rattle.std.proofs.Common.{◌≡◌, ◌≢◌, ℕ, zero, suc, ◌+◌, ◌<◌, ◌≤◌, Option, List, [], ◌∷◌, ◌++◌, Some, None, length, get_or, map, take, replicate}
+use Rattle.std.proofs.Common.{refl, ap, sym, ◌∙◌, subst, Contains, inl, inr, eqb, arith, append_assoc}
 use Rattle.std.specs.Prelude.{Any}
 use Rattle.std.specs.List.{All, slice_get}
 use Rattle.std.specs.Option.{option_and_then}
-use Rattle.std.proofs.lemmas.Bool.{cases_lt, cases_eq, cond-true, cond-false, eq-eqb, ne_eqb}
+use Rattle.std.proofs.lemmas.Bool.{cases_eq, cond-true, cond-false, eq-eqb, ne_eqb}
 use Rattle.std.proofs.lemmas.List.{replicate-append-replicate, get_or-set_other, get_or_default, length-set}
-use Rattle.std.proofs.lemmas.List.Elements.{All-contains, All-head, All-tail, Contains-get_or}
+use Rattle.std.proofs.lemmas.List.Elements.{All-head, All-tail, Contains-get_or}
 use Rattle.std.proofs.lemmas.List.Quantifiers.{any-set}
 use Rattle.std.proofs.lemmas.List.Sums.{sum_by-append}
-use Rattle.std.proofs.lemmas.Option.{none-some, same_Some}
+use Rattle.std.proofs.lemmas.Option.{same_Some}
 use Rattle.items.specs.Game.{GameNumbers, IsGame}
-use Rattle.items.specs.Multiset.{Same, IsSize, count, put_ascending, sizes_of}
+use Rattle.items.specs.Multiset.{Same, count, sizes_of}
 use Rattle.items.specs.Packable.{Packable}
-use Rattle.items.proofs.MultisetLemmas.{count-append, Same-push_put, sum_by-Same}
+use Rattle.items.proofs.MultisetLemmas.{count-append, Same-push_put}
 use Rattle.items.proofs.SameLemmas.{Same-append, Same-sym}
-use Rattle.packing_witness.proofs.PackableLemmas.{Packable-part, Packable-Same, Packable-front}
+use Rattle.packing_witness.proofs.PackableLemmas.{Packable-part, Packable-Same}
 use Rattle.loads.specs.After.{after}
 use Rattle.loads.specs.Loads.{loads_after}
-use Rattle.loads.specs.Position.{StandsAt, IsEmptyPosition}
-use Rattle.loads.specs.Wins.{empty_position}
+use Rattle.loads.specs.Position.{StandsAt}
 use Rattle.loads.specs.declared.position.Position.{Position}
 use Rattle.items.proofs.MemberLemmas.{Contains-tail, Contains-Same}
 use Rattle.loads.proofs.DistinctLemmas.{Contains-distinct}
 use Rattle.loads.proofs.LoadsLemmas.{Same-loads_after}
-use Rattle.online_play.specs.Algorithm.{IsAlgorithm, bins_of, placed, run}
+use Rattle.online_play.specs.Algorithm.{IsAlgorithm, placed, run}
 use Rattle.online_play.specs.Laws.{ComesTo}
 use Rattle.online_play.proofs.PlayLemmas.{sum_small, run-le-sum}
-use Rattle.online_play.proofs.RunLemmas.{run-push, length-run, bins_of-push}
-use Rattle.online_play.proofs.WonLemmas.{ComesTo-empty, run-nil}
+use Rattle.online_play.proofs.RunLemmas.{run-push, length-run}
+use Rattle.online_play.proofs.WonLemmas.{ComesTo-empty, empty_is}
 use Rattle.strategy_text.specs.declared.node.AdvNode.{AdvNode}
 use Rattle.strategy_text.specs.declared.node.Placement.{Placement}
 use Rattle.strategy_text.specs.declared.node.Step.{Step}
@@ -36,13 +36,14 @@ use Rattle.strategy_text.specs.declared.node.Then.{Then}
 use Rattle.strategy_text.specs.declared.node.Then.TheVariants.{Over, To}
 use Rattle.adversary_graph.specs.Judging.{LeadsOn}
 use Rattle.adversary_graph.specs.Legal.{EachFollows}
-use Rattle.adversary_graph.specs.Nodes.{position_of, sent_items, sent_size}
+use Rattle.adversary_graph.specs.Nodes.{position_of, sent_items}
 use Rattle.adversary_graph.specs.Play.{End, end_at, end_by_step, end_of, goes_on, load_hit, next_at, child_of}
-use Rattle.adversary_graph.specs.Playing.{GoesOn, IsCourse, IsStep, StandsReady}
+use Rattle.adversary_graph.specs.Playing.{GoesOn, IsStep, StandsReady}
 use Rattle.adversary_graph.specs.Pools.{Pool, IsPool, IsRoot}
-use Rattle.adversary_graph.specs.Rules.{IsOverAtTarget, LeadsTo, most_below_target}
+use Rattle.adversary_graph.specs.Rules.{IsOverAtTarget, LeadsTo}
+use Rattle.adversary_graph.proofs.PoolLemmas.{rules_of}
 use Rattle.adversary_graph.proofs.RuleLemmas.{sizes_are_sizes}
-use Rattle.adversary_graph.proofs.WonLemmas.{Met, met, earlier_node, packable_node, one_less, root_position}
+use Rattle.adversary_graph.proofs.WonLemmas.{Met, earlier_node, packable_node}
 
 -- ---- one more item
 
@@ -68,7 +69,8 @@ module _ (game : GameNumbers) (answer : List ℕ → ℕ) (algorithm : IsAlgorit
       omega (arith, total, load, sum_by-append (λ x. x) history (size ∷ []))
 
   -- the item leads to the position after it
-  pub leads_after : (position : Position) → ComesTo game answer history position → ComesTo game answer (history ++ size ∷ []) (after position (load_hit game answer history size) size)
+  pub leads_after : (position : Position) → ComesTo game answer history position → ComesTo game answer (history ++ size ∷ []) (after position
+      (load_hit game answer history size) size)
   leads_after position at = record {
     packable = packable;
     loads = subst (λ (loads : List ℕ). Same loads (loads_after position.loads (load_hit game answer history size) size)) (sym run_placed)
@@ -112,7 +114,8 @@ next_found P load (placement ∷ placements) all c = elim (cases_eq load placeme
     subst (λ l. P (record { load = l; next = placement.next })) (sym e) (All-head P placement placements all),
   )
   | inr n ↦
-      let later = next_found P load placements (All-tail P placement placements all) (Contains-tail load placement.load (map (λ (placement : Placement). placement.load) placements) n c) in
+      let later = next_found P load placements (All-tail P placement placements all) (Contains-tail load placement.load (map (λ
+      (placement : Placement). placement.load) placements) n c) in
       (later.0, cond-false (eqb load placement.load) (Some placement.next) (next_at load placements) (ne_eqb load placement.load n) ∙ later.1, later.2)
 ]
 
@@ -124,10 +127,6 @@ pub record Hits (game : GameNumbers) (answer : List ℕ → ℕ) (nodes : List A
   pub ready : (child : ℕ) → next ≡ To child → (child < number) × StandsReady game answer nodes child (history ++ size ∷ [])
 
 module _ (pool : Pool) (is_pool : IsPool pool) (answer : List ℕ → ℕ) (algorithm : IsAlgorithm pool.game answer) where
-  pub rules_at : (number : ℕ) (node : AdvNode) → slice_get pool.nodes number ≡ Some node → Met pool.format pool.game (sizes_of pool.game) (map position_of (take number pool.nodes)) node
-  unfolding EachFollows
-  rules_at number node e = met pool.format pool.game (sizes_of pool.game) (map position_of (take number pool.nodes)) false node (is_pool.follow number node e)
-
   -- what a node sends can come
   pub ready_packable : (number : ℕ) (history : List ℕ) (node : AdvNode) → slice_get pool.nodes number ≡ Some node → ComesTo pool.game answer history (position_of node)
       → Packable pool.game (history ++ sent_items node.step)
@@ -155,8 +154,15 @@ module _ (pool : Pool) (is_pool : IsPool pool) (answer : List ℕ → ℕ) (algo
         over = found.2.0;
         ready = λ child is.
             let stands : StandsAt earlier child (after here load size) = subst (λ (next : Then). LeadsTo earlier next (after here load size)) is found.2.1 in
-            let node = earlier_node pool.nodes number child (after here load size) stands in
-            (node.2, (node.0, node.1, subst (λ (p : Position). ComesTo game answer (history ++ size ∷ []) p) (sym node.3) (leads_after game answer algorithm history size packable here at)));
+            let node = earlier_node pool.nodes number child (after here load size) stands in (
+              node.2,
+              (
+                node.0,
+                node.1,
+                subst (λ (p : Position). ComesTo game answer (history ++ size ∷ []) p) (sym node.3)
+                    (leads_after game answer algorithm history size packable here at),
+              ),
+            );
       }
 
   pub hits_at : (number : ℕ) (history : List ℕ) (node : AdvNode) (size : ℕ) (pack : Option (List (List ℕ))) (placements : List Placement)
@@ -164,7 +170,8 @@ module _ (pool : Pool) (is_pool : IsPool pool) (answer : List ℕ → ℕ) (algo
       → Hits pool.game answer pool.nodes number history size placements
   hits_at number history node size pack placements e is at =
       hits_by number history node.loads node.items size pack placements
-      (subst (λ (step : Step). Met pool.format pool.game (sizes_of pool.game) (map position_of (take number pool.nodes)) (record { loads = node.loads; items = node.items; step = step })) is (rules_at number node e))
+      (subst (λ (step : Step). Met pool.format pool.game (sizes_of pool.game) (map position_of (take number pool.nodes))
+      (record { loads = node.loads; items = node.items; step = step })) is (rules_of pool is_pool number node e))
       (subst (λ (step : Step). Packable pool.game (history ++ sent_items step)) is (ready_packable number history node e at))
       at
 
@@ -182,8 +189,10 @@ module _ (pool : Pool) (is_pool : IsPool pool) (answer : List ℕ → ℕ) (algo
       let h = hits_at number history node size pack placements e is at in (
         node,
         e,
-        λ end. subst (λ (step : Step). GoesOn pool.game answer pool.nodes number (option_and_then child_of (next_at (load_hit pool.game answer history size) placements)) (history ++ size ∷ []) end (end_by_step pool.game answer end number history step)) (sym is)
-            (subst (λ (next : Option Then). GoesOn pool.game answer pool.nodes number (option_and_then child_of next) (history ++ size ∷ []) end (goes_on end number (history ++ size ∷ []) next)) (sym h.is)
+        λ end. subst (λ (step : Step). GoesOn pool.game answer pool.nodes number (option_and_then child_of (next_at (load_hit pool.game answer history size) placements))
+            (history ++ size ∷ []) end (end_by_step pool.game answer end number history step)) (sym is)
+            (subst (λ (next : Option Then). GoesOn pool.game answer pool.nodes number (option_and_then child_of next) (history ++ size ∷ []) end (goes_on end number
+            (history ++ size ∷ []) next)) (sym h.is)
             (goes_by number history size placements h.next end h.ready)),
       )
 
@@ -214,8 +223,12 @@ goes_to_end game answer nodes (suc n) number history items l step =
 -- before the first item
 pub root_ready : (pool : Pool) (answer : List ℕ → ℕ) (root : ℕ) → IsPool pool → IsRoot pool.nodes root → StandsReady pool.game answer pool.nodes root []
 unfolding EachFollows
-root_ready pool answer root p r =
-    (r.0, r.1, subst (λ (position : Position). ComesTo pool.game answer [] position) (sym (root_position pool.game (position_of r.0) (p.follow root r.0 r.1).0.one_each r.2)) (ComesTo-empty pool.game answer))
+root_ready pool answer root p r = (
+  r.0,
+  r.1,
+  subst (λ (position : Position). ComesTo pool.game answer [] position) (sym (empty_is pool.game (position_of r.0)
+      (p.follow root r.0 r.1).0.one_each r.2.loads r.2.items)) (ComesTo-empty pool.game answer),
+)
 
 -- ---- a size several times
 
@@ -224,10 +237,17 @@ replicate-le x size zero n l = omega arith
 replicate-le x size (suc i) zero l = absurd (omega arith)
 replicate-le x size (suc i) (suc n) l = omega (arith, replicate-le x size i n (omega arith))
 
-pub times_packable : (game : GameNumbers) (history : List ℕ) (i times size : ℕ) → i < times → Packable game (history ++ replicate times size) → Packable game ((history ++ replicate i size) ++ size ∷ [])
+pub times_packable : (game : GameNumbers) (history : List ℕ) (i times size : ℕ) → i < times → Packable game (history ++ replicate times size)
+    → Packable game ((history ++ replicate i size) ++ size ∷ [])
 times_packable game history i times size l packable =
     Packable-part game ((history ++ replicate i size) ++ size ∷ []) (history ++ replicate times size)
-    (λ x. omega (arith, count-append x (history ++ replicate i size) (size ∷ []), count-append x history (replicate i size), count-append x history (replicate times size), replicate-le x size (suc i) times l))
+    (λ x. omega (
+      arith,
+      count-append x (history ++ replicate i size) (size ∷ []),
+      count-append x history (replicate i size),
+      count-append x history (replicate times size),
+      replicate-le x size (suc i) times l,
+    ))
     packable
 
 pub times_more : (history : List ℕ) (i size : ℕ) → (history ++ replicate i size) ++ size ∷ [] ≡ history ++ replicate (i + 1) size

@@ -1,5 +1,6 @@
 -- Pools: a node that comes next, the positions of the nodes, and legal strategies from pools and to pools.
-use Rattle.std.proofs.Common.{◌≡◌, ℕ, zero, suc, ◌+◌, ◌<◌, ◌≤◌, Bool, IsTrue, false, List, [], ◌∷◌, ◌++◌, Some, None, length, get_or, ◌-◌, take, map, arith, refl, ap, sym, subst, true, ◌∙◌, inl, inr, ◌⊎◌, ⊎_elim, eqb}
+use Rattle.std.proofs.Common.{◌≡◌, ℕ, zero, suc, ◌+◌, ◌<◌, ◌≤◌, Bool, IsTrue, false, List, [], ◌∷◌, ◌++◌, Some, None, length, get_or, ◌-◌, take, map, arith, refl, ap, sym, subst}
+use Rattle.std.proofs.Common.{true, ◌∙◌, inl, inr, ◌⊎◌, ⊎_elim, eqb}
 use Rattle.std.specs.List.{All, slice_get}
 use Rattle.std.proofs.lemmas.Bool.{eqb-true, eq-eqb}
 use Rattle.std.proofs.lemmas.List.{take-append-le, length-take-le, map-append, length-append}
@@ -14,20 +15,26 @@ use Rattle.loads.specs.declared.position.Position.{Position}
 use Rattle.strategy_text.specs.declared.node.AdvNode.{AdvNode}
 use Rattle.strategy_text.specs.declared.node.Format.{Format}
 use Rattle.strategy_text.specs.declared.node.Step.TheVariants.{Burst}
-use Rattle.strategy_text.specs.Spelling.{most_nodes}
 use Rattle.adversary_graph.specs.Judging.{HasPosition, node_at}
 use Rattle.adversary_graph.specs.Legal.{EachFollows, EachMeetsRules, IsLegal}
 use Rattle.adversary_graph.specs.Nodes.{position_of, IsOfFormat}
 use Rattle.adversary_graph.specs.Pools.{Pool, IsPool, MayComeNext, IsRoot, nodes_up_to, pool_of}
 use Rattle.adversary_graph.specs.Rules.{MeetsRules}
 use Rattle.adversary_graph.proofs.RuleLemmas.{multiset_from_items, sizes_are_sizes}
-use Rattle.adversary_graph.proofs.WonLemmas.{EachFollows-from_legal, slice_get-take, mapped}
+use Rattle.adversary_graph.proofs.WonLemmas.{EachFollows-from_legal, Met, mapped, met, slice_get-take}
 
 -- a node that meets its rules has loads and items of the game
 pub HasPosition-from_rules : (format : Format) (game : GameNumbers) (earlier : List Position) (last : Bool) (node : AdvNode)
     → IsGame game → MeetsRules format game (sizes_of game) earlier last node → HasPosition game node
 HasPosition-from_rules format game earlier last node g m =
     record { loads = m.0; items = multiset_from_items game (sizes_of game) node.loads node.items g (sizes_are_sizes game) m.0 m.1.0 }
+
+-- the rules that a node of a pool meets
+pub rules_of : (pool : Pool) → IsPool pool → (number : ℕ) (node : AdvNode) → slice_get pool.nodes number ≡ Some node
+    → Met pool.format pool.game (sizes_of pool.game) (map position_of (take number pool.nodes)) node
+unfolding EachFollows
+rules_of pool p number node e =
+    met pool.format pool.game (sizes_of pool.game) (map position_of (take number pool.nodes)) false node (p.follow number node e)
 
 -- a rule that speaks of the last node alone
 with_root : (format : Format) (game : GameNumbers) (sizes : List ℕ) (earlier : List Position) (last : Bool) (node : AdvNode)
@@ -67,7 +74,10 @@ IsPool-push pool node p next =
       few = omega (arith, length-append pool.nodes (node ∷ []), next.room);
       formed = All-push (λ (n : AdvNode). IsOfFormat pool.format n.step) pool.nodes node p.formed next.formed;
       follow = λ k other e. ⊎_elim
-          (λ here. subst (λ earlier. rules earlier other) (sym (take-append-le k pool.nodes (node ∷ []) (omega (arith, slice_get_within pool.nodes k other here)))) (p.follow k other here))
+          (λ here. subst (λ earlier. rules earlier other) (sym (take-append-le k pool.nodes (node ∷ []) (omega (
+            arith,
+            slice_get_within pool.nodes k other here,
+          )))) (p.follow k other here))
           (λ last. subst (λ n. rules (take n (pool.nodes ++ node ∷ [])) other) (sym last.0)
           (subst (λ earlier. rules earlier other) (sym (take-append_seam pool.nodes (node ∷ [])))
           (subst (λ n. rules pool.nodes n) last.1 next.follows)))
@@ -97,7 +107,10 @@ IsLegal-from_pool pool root p r =
           let same : node ≡ r.0 = same_Some node r.0 (sym h.0 ∙ ap (slice_get pool.nodes) k_is ∙ r.1) in
           subst (λ (n : AdvNode). IsEmptyPosition (position_of n)) (sym same) r.2 in
           with_root pool.format pool.game sizes (map position_of (take k (take (root + 1) pool.nodes))) last node
-          (subst (λ earlier. MeetsRules pool.format pool.game sizes (map position_of earlier) false node) (sym (take-take pool.nodes k (root + 1) (omega (arith, h.1)))) (p.follow k node h.0))
+          (subst (λ earlier. MeetsRules pool.format pool.game sizes (map position_of earlier) false node) (sym (take-take pool.nodes k (root + 1) (omega (
+            arith,
+            h.1,
+          )))) (p.follow k node h.0))
           empty;
     }
 
@@ -127,7 +140,8 @@ root_of_legal format game nodes legal =
     (get_or nodes k none, here, (legal.each k (get_or nodes k none) here).1.1.1.1.1.1.1.1.0 is_last)
 
 -- a root by its position
-node_with_position : (nodes : List AdvNode) (i : ℕ) (p : Position) → slice_get (map position_of nodes) i ≡ Some p → (node : AdvNode) × (slice_get nodes i ≡ Some node) × (position_of node ≡ p)
+node_with_position : (nodes : List AdvNode) (i : ℕ) (p : Position) → slice_get (map position_of nodes) i ≡ Some p
+    → (node : AdvNode) × (slice_get nodes i ≡ Some node) × (position_of node ≡ p)
 node_with_position nodes i p e = mapped position_of (slice_get nodes i) p (sym (slice_get-map position_of nodes i) ∙ e)
 
 pub root_from_position : (nodes : List AdvNode) (i : ℕ) (p : Position) → slice_get (map position_of nodes) i ≡ Some p → IsEmptyPosition p → IsRoot nodes i

@@ -1,5 +1,6 @@
 -- A node that meets its rules has a position from which the adversary wins.
-use Rattle.std.proofs.Common.{◌≡◌, ℕ, zero, suc, ◌+◌, ◌-◌, ◌/◌, ◌<◌, ◌≤◌, Bool, IsTrue, false, Option, List, [], ◌∷◌, ◌++◌, Some, None, length, get_or, take, map, replicate, true, arith, refl, ap, sym, ◌∙◌, subst, sum_by, Contains, inl, inr, ◌⊎◌, ⊎_elim, eqb}
+use Rattle.std.proofs.Common.{◌≡◌, ℕ, zero, suc, ◌+◌, ◌-◌, ◌/◌, ◌<◌, ◌≤◌, Bool, IsTrue, false, Option, List, [], ◌∷◌, ◌++◌, Some, None, length, get_or, take, map, replicate}
+use Rattle.std.proofs.Common.{true, arith, refl, ap, sym, ◌∙◌, subst, sum_by, Contains, inl, inr, ◌⊎◌, ⊎_elim, eqb}
 use Rattle.std.specs.List.{All, slice_get}
 use Rattle.std.specs.Option.{option_map}
 use Rattle.std.proofs.Math.Nat.{div-eq-sub-div}
@@ -16,12 +17,12 @@ use Rattle.packing_witness.proofs.PackableLemmas.{Packable-from_packing, Packabl
 use Rattle.loads.specs.After.{after}
 use Rattle.loads.specs.Loads.{loads_after}
 use Rattle.loads.specs.Position.{position, StandsAt, IsEmptyPosition}
-use Rattle.loads.specs.Wins.{Wins, IsWon, empty_position}
+use Rattle.loads.specs.Wins.{Wins, IsWon}
 use Rattle.loads.specs.declared.position.Position.{Position}
 use Rattle.loads.proofs.DistinctLemmas.{Contains-distinct}
 use Rattle.loads.proofs.LoadsLemmas.{sum_by-loads_after}
 use Rattle.online_play.specs.Algorithm.{ForcesEvery}
-use Rattle.online_play.proofs.WonLemmas.{won_game_forces}
+use Rattle.online_play.proofs.WonLemmas.{Wins-more_items, empty_is, won_game_forces}
 use Rattle.strategy_text.specs.declared.node.AdvNode.{AdvNode}
 use Rattle.strategy_text.specs.declared.node.Format.{Format}
 use Rattle.strategy_text.specs.declared.node.Format.TheVariants.{One, Two}
@@ -40,20 +41,6 @@ use Rattle.std.proofs.lemmas.Cmp.{nat_eq_equiv}
 use Rattle.std.proofs.lemmas.Map.Views.{list_any-from_Contains}
 
 -- ---- wins
-
--- what is won with some items is won with more
-pub Wins-more : (game : GameNumbers) (allowed : List ℕ → ℕ → Bool) (m n : ℕ) (p : Position) → m ≤ n → Wins game allowed m p → Wins game allowed n p
-unfolding Wins
-Wins-more game allowed zero n p l w = absurd w
-Wins-more game allowed (suc m) zero p l w = absurd (omega arith)
-Wins-more game allowed (suc m) (suc n) p l w = (
-  w.0,
-  record {
-    allows = w.1.allows;
-    may_come = w.1.may_come;
-    each_load = λ load c. ⊎_elim (λ reached. inl reached) (λ next. inr (Wins-more game allowed m n (after p load w.0) (omega arith) next)) (w.1.each_load load c);
-  },
-)
 
 -- after one item of a burst one item less can come
 pub one_less : (game : GameNumbers) (size load : ℕ) (loads : List ℕ) → 1 ≤ size → Contains loads load → load + size < game.target
@@ -74,11 +61,20 @@ burst_wins game allowed size may low (suc n) p most packable = (
   size,
   record {
     allows = may p.items;
-    may_come = Packable-part game (p.items ++ size ∷ []) (p.items ++ replicate (suc n) size) (λ x. omega (arith, count-append x p.items (size ∷ []), count-append x p.items (size ∷ replicate n size))) packable;
+    may_come = Packable-part game (p.items ++ size ∷ []) (p.items ++ replicate (suc n) size) (λ x. omega (
+      arith,
+      count-append x p.items (size ∷ []),
+      count-append x p.items (size ∷ replicate n size),
+    )) packable;
     each_load = λ load c. ⊎_elim
         (λ below. inr (burst_wins game allowed size may low n (after p load size) (omega (arith, one_less game size load p.loads low c below))
         (Packable-Same game (p.items ++ replicate (suc n) size) (put_ascending size p.items ++ replicate n size)
-        (λ x. omega (arith, count-append x p.items (size ∷ replicate n size), count-append x (put_ascending size p.items) (replicate n size), count-put_ascending x size p.items)) packable)))
+        (λ x. omega (
+          arith,
+          count-append x p.items (size ∷ replicate n size),
+          count-append x (put_ascending size p.items) (replicate n size),
+          count-put_ascending x size p.items,
+        )) packable)))
         (λ reached. inl reached)
         (cases_lt (load + size) game.target);
   },
@@ -137,7 +133,8 @@ sent_sizes game sizes loads items (Send size pack placements) z a s =
     All-append (IsSize game.capacity) items (size ∷ []) (All-weaker (Contains sizes) (IsSize game.capacity) (λ x c. All-contains (IsSize game.capacity) sizes x z c) items a)
     (All-replicate (IsSize game.capacity) 1 size (All-contains (IsSize game.capacity) sizes size z s))
 sent_sizes game sizes loads items (Burst number size pack) z a s =
-    All-append (IsSize game.capacity) items (replicate number size) (All-weaker (Contains sizes) (IsSize game.capacity) (λ x c. All-contains (IsSize game.capacity) sizes x z c) items a)
+    All-append (IsSize game.capacity) items (replicate number size) (All-weaker (Contains sizes) (IsSize game.capacity) (λ x c. All-contains
+    (IsSize game.capacity) sizes x z c) items a)
     (All-replicate (IsSize game.capacity) number size (All-contains (IsSize game.capacity) sizes size z s))
 
 -- what a node without a packing leads to
@@ -171,7 +168,8 @@ pub record Met (format : Format) (game : GameNumbers) (sizes : List ℕ) (earlie
   pub over : All (IsOverAtTarget game (sent_size node.step)) (placements_of node.step)
   pub child : All (λ placement. LeadsTo earlier placement.next (after (position_of node) placement.load (sent_size node.step))) (placements_of node.step)
 
-pub met : (format : Format) (game : GameNumbers) (sizes : List ℕ) (earlier : List Position) (last : Bool) (node : AdvNode) → MeetsRules format game sizes earlier last node → Met format game sizes earlier node
+pub met : (format : Format) (game : GameNumbers) (sizes : List ℕ) (earlier : List Position) (last : Bool) (node : AdvNode) → MeetsRules format game sizes earlier last node
+    → Met format game sizes earlier node
 met format game sizes earlier last node m = record {
   items = m.1.0.allowed;
   send = m.1.1.0;
@@ -204,7 +202,8 @@ sent_by nodes = sum_by (λ node. length (sent_items node.step)) nodes
 sent_by-cons : (first : AdvNode) (nodes : List AdvNode) (k : ℕ) → sent_by (take (suc k) (first ∷ nodes)) ≡ length (sent_items first.step) + sent_by (take k nodes)
 sent_by-cons first nodes k = sum_by-cons (λ (node : AdvNode). length (sent_items node.step)) first (take k nodes)
 
-sent_by-take : (nodes : List AdvNode) (k : ℕ) (node : AdvNode) → slice_get nodes k ≡ Some node → sent_by (take (suc k) nodes) ≡ sent_by (take k nodes) + length (sent_items node.step)
+sent_by-take : (nodes : List AdvNode) (k : ℕ) (node : AdvNode) → slice_get nodes k ≡ Some node
+    → sent_by (take (suc k) nodes) ≡ sent_by (take k nodes) + length (sent_items node.step)
 sent_by-take [] k node e = absurd (none-some node e)
 sent_by-take (first ∷ nodes) zero node e =
     let count : (AdvNode → ℕ) = λ node. length (sent_items node.step) in
@@ -243,16 +242,17 @@ wins_step format game sizes loads items (Send size pack placements) earlier n z 
         allows = is_one sizes items size m.send;
         may_come = packable;
         each_load = λ load c.
-            let h = picked P placements load (λ k d l. (m.over k d l, m.child k d l)) (subst (λ (xs : List ℕ). Contains xs load) (sym m.placements) (Contains-distinct load loads c)) in
+            let h = picked P placements load (λ k d l. (m.over k d l, m.child k d l)) (subst (λ (xs : List ℕ). Contains xs load) (sym m.placements)
+            (Contains-distinct load loads c)) in
             let next = next_won game allowed n size h.0.load h.0.next (position loads items) earlier h.1.0 h.1.1 before in
             subst (λ l. (game.target ≤ l + size) ⊎ Wins game allowed n (after (position loads items) l size)) h.2 next;
       },
     ) in
-    Wins-more game allowed (suc n) (n + 1) (position loads items) (omega arith) won
+    Wins-more_items game allowed (suc n) (n + 1) (position loads items) (omega arith) won
 wins_step format game sizes loads items (Burst number size pack) earlier n z m packable before =
     let low = All-contains (IsSize game.capacity) sizes size z m.send in
     let won = burst_wins game (is_one_of sizes) size (λ items. is_one sizes items size m.send) low.low number (position loads items) m.burst packable in
-    Wins-more game (is_one_of sizes) number (n + length (replicate number size)) (position loads items) (omega (arith, length-replicate number size)) won
+    Wins-more_items game (is_one_of sizes) number (n + length (replicate number size)) (position loads items) (omega (arith, length-replicate number size)) won
 
 pub wins_node : (format : Format) (game : GameNumbers) (sizes : List ℕ) (nodes : List AdvNode) → All (IsSize game.capacity) sizes → EachFollows format game sizes nodes
     → (bound k : ℕ) (node : AdvNode) → k < bound → slice_get nodes k ≡ Some node → Wins game (is_one_of sizes) (sent_by (take (suc k) nodes)) (position_of node)
@@ -266,7 +266,7 @@ wins_node format game sizes nodes z follows (suc bound) k node l e =
     let before = λ (child : ℕ) (p : Position) (stands : StandsAt earlier child p).
     let h = earlier_node nodes k child p stands in
     let won = wins_node format game sizes nodes z follows bound child h.0 (omega (arith, h.2, l)) h.1 in
-    let more = Wins-more game allowed (sent_by (take (suc child) nodes)) (sent_by (take k nodes)) (position_of h.0) (sent_by-le nodes (suc child) k h.2) won in
+    let more = Wins-more_items game allowed (sent_by (take (suc child) nodes)) (sent_by (take k nodes)) (position_of h.0) (sent_by-le nodes (suc child) k h.2) won in
     subst (λ (q : Position). Wins game allowed (sent_by (take k nodes)) q) h.3 more in
     let won = wins_step format game sizes node.loads node.items node.step earlier (sent_by (take k nodes)) z m packable before in
     subst (λ n. Wins game allowed n (position_of node)) (sym (sent_by-take nodes k node e)) won
@@ -279,27 +279,19 @@ not_last : (format : Format) (game : GameNumbers) (sizes : List ℕ) (earlier : 
 not_last format game sizes earlier last node m =
     (m.0, (m.1.0, (m.1.1.0, (m.1.1.1.0, (m.1.1.1.1.0, (m.1.1.1.1.1.0, (m.1.1.1.1.1.1.0, (m.1.1.1.1.1.1.1.0, ((λ e. absurd (false≢true e)), tt)))))))))
 
-pub EachFollows-from_legal : (format : Format) (game : GameNumbers) (sizes : List ℕ) (nodes : List AdvNode) → IsLegal format game sizes nodes → EachFollows format game sizes nodes
+pub EachFollows-from_legal : (format : Format) (game : GameNumbers) (sizes : List ℕ) (nodes : List AdvNode) → IsLegal format game sizes nodes
+    → EachFollows format game sizes nodes
 unfolding EachFollows EachMeetsRules
 EachFollows-from_legal format game sizes nodes legal k node e =
     not_last format game sizes (map position_of (take k nodes)) (eqb (k + 1) (length nodes)) node (legal.each k node e)
 
 pub legal_nodes_are_won : (format : Format) (game : GameNumbers) (sizes : List ℕ) (nodes : List AdvNode) → All (IsSize game.capacity) sizes
     → IsLegal format game sizes nodes → All (λ node. IsWon game (is_one_of sizes) (position_of node)) nodes
-legal_nodes_are_won format game sizes nodes z legal k d l =
-    (sent_by (take (suc k) nodes), wins_node format game sizes nodes z (EachFollows-from_legal format game sizes nodes legal) (suc k) k (get_or nodes k d) (omega arith) (slice_get-get_or nodes k d l))
-
-zeros : (xs : List ℕ) → All (λ x. x ≡ 0) xs → xs ≡ replicate (length xs) 0
-zeros [] all = refl
-zeros (x ∷ xs) all =
-    let first : x ≡ 0 = all 0 x (omega arith) in
-    subst (λ y. y ∷ xs ≡ 0 ∷ replicate (length xs) 0) (sym first) (ap (λ (ys : List ℕ). 0 ∷ ys) (zeros xs (λ k d l. all (suc k) d (omega (arith, l)))))
-
--- the empty position of a game has a load of 0 for each bin
-pub root_position : (game : GameNumbers) (p : Position) → length p.loads ≡ game.bins → IsEmptyPosition p → p ≡ empty_position game
-root_position game p n empty =
-    let loads : p.loads ≡ replicate game.bins 0 = subst (λ k. p.loads ≡ replicate k 0) n (zeros p.loads empty.loads) in
-    subst (λ (xs : List ℕ). position p.loads xs ≡ empty_position game) (sym empty.items) (ap (λ (xs : List ℕ). position xs []) loads)
+legal_nodes_are_won format game sizes nodes z legal k d l = (
+  sent_by (take (suc k) nodes),
+  wins_node format game sizes nodes z (EachFollows-from_legal format game sizes nodes legal) (suc k) k (get_or nodes k d) (omega arith)
+      (slice_get-get_or nodes k d l),
+)
 
 pub legal_strategy_forces : (format : Format) (game : GameNumbers) (nodes : List AdvNode) → IsLegal format game (sizes_of game) nodes → ForcesEvery game
 unfolding EachMeetsRules
@@ -313,4 +305,5 @@ legal_strategy_forces format game nodes legal =
     let rules = legal.each k node here in
     let root : IsEmptyPosition (position_of node) = rules.1.1.1.1.1.1.1.1.0 is_last in
     let won = legal_nodes_are_won format game (sizes_of game) nodes (sizes_are_sizes game) legal k none last in
-    won_game_forces game (is_one_of (sizes_of game)) (subst (λ (p : Position). IsWon game (is_one_of (sizes_of game)) p) (root_position game (position_of node) rules.0.one_each root) won)
+    won_game_forces game (is_one_of (sizes_of game)) (subst (λ (p : Position). IsWon game (is_one_of (sizes_of game)) p) (empty_is game
+    (position_of node) rules.0.one_each root.loads root.items) won)

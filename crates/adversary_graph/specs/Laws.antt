@@ -27,9 +27,9 @@ LegalStrategiesForceEvery =
     (format : Format) (game : GameNumbers) (nodes : List AdvNode)
     → IsLegal format game (sizes_of game) nodes → ForcesEvery game
 
--- against each algorithm the play from a root of a pool has an end, and the algorithm loses it: the items can be packed,
--- as the packing shows, and a load reaches the target
+-- against each algorithm the play from a root of a pool has an end, and the algorithm loses it
 abbrev pub PlaysAreLost : Type 0
 PlaysAreLost =
     (pool : Pool) (root : ℕ) (answer : List ℕ → ℕ) → IsPool pool → IsRoot pool.nodes root
-    → IsAlgorithm pool.game answer → (lost : Play) × (play pool.game pool.nodes root answer ≡ Some lost) × IsLost pool.game lost
+    → IsAlgorithm pool.game answer
+    → (lost : Play) × (play pool.game pool.nodes root answer ≡ Some lost) × IsLost pool.game lost

@@ -1,4 +1,4 @@
-use Rattle.std.specs.Prelude.{◌≡◌, ◌==◌, ℕ, zero, suc, ◌+◌, ◌-◌, ◌≤◌, List, [], ◌∷◌, ◌++◌, if◌then◌else◌}
+use Rattle.std.specs.Prelude.{◌==◌, ℕ, zero, suc, ◌+◌, ◌-◌, ◌≤◌, List, [], ◌∷◌, ◌++◌, if◌then◌else◌}
 use Rattle.std.specs.Prelude.{Option, Some, None, option_map, replicate, slice_get, slice_index, Any}
 use Rattle.std.specs.List.{concat, flat_map}
 use Rattle.std.specs.Option.{option_and_then, option_or, unwrap_or}
@@ -115,7 +115,7 @@ abbrev pub play : GameNumbers → List AdvNode → ℕ → (List ℕ → ℕ) �
 play game nodes root answer =
     option_and_then (play_to game answer nodes) (end_of game answer nodes (root + 1) root [])
 
--- a play on which the algorithm loses: the items are packable, the packing is one of them, and a load reaches the target
+-- a play that the algorithm loses: the items are packable, the packing is one of them, and a load reaches the target
 pub record IsLost (game : GameNumbers) (play : Play) : Type 0 where
   pub packable : Packable game play.items
   pub packed : IsPacking game play.packing play.items

@@ -1,4 +1,5 @@
-use Rattle.std.specs.Prelude.{◌≡◌, ℕ, ◌+◌, ◌<◌, ◌≤◌, List, [], ◌∷◌, ◌++◌, Some, length, map, take, slice_get, false, All}
+use Rattle.std.specs.Prelude.{◌≡◌, ℕ, ◌+◌, ◌<◌, ◌≤◌, List, Some, length, map, take, slice_get, false}
+use Rattle.std.specs.Prelude.{All}
 use Rattle.items.specs.Game.{GameNumbers, IsGame}
 use Rattle.items.specs.Multiset.{sizes_of}
 use Rattle.loads.specs.Position.{IsEmptyPosition}

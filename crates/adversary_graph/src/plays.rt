@@ -1,13 +1,14 @@
 //! Plays of the adversary's nodes against a player.
 
-ghost use Rattle.std.specs.Prelude.{◌≡◌, ◌<◌, ◌≤◌, ◌+◌, ◌++◌, ◌∷◌, [], ℕ, List, Option, Some, None, OnOk, IfOk, length, replicate};
+ghost use Rattle.std.specs.Prelude.{◌≡◌, ◌<◌, ◌≤◌, ◌+◌, ◌++◌, ◌∷◌, [], ℕ, List, Option, Some, None, OnOk, IfOk, length};
+ghost use Rattle.std.specs.Prelude.{replicate};
 ghost use Rattle.std.specs.List.{concat};
 ghost use Rattle.std.specs.Option.{option_and_then, unwrap_or};
 ghost use Rattle.packing_witness.specs.Edits.{without};
 ghost use Rattle.items.specs.Multiset.{count};
 ghost use Rattle.items.specs.Packable.{IsPacking, Packable};
 ghost use Rattle.adversary_graph.specs.Nodes.{placements_of};
-ghost use Rattle.adversary_graph.specs.Play.{IsLost, beyond, child_of, end_of, end_packing, first_child};
+ghost use Rattle.adversary_graph.specs.Play.{IsLost, beyond, child_of, end_at, end_of, end_packing, first_child};
 ghost use Rattle.adversary_graph.specs.Play.{load_hit, next_at, play, without_all};
 ghost use Rattle.adversary_graph.specs.Pools.{IsRoot};
 ghost use Rattle.adversary_graph.specs.Playing.{IsCourse, IsEnd, IsStep, ShowsEndPacking, StandsReady, play_of};
@@ -32,7 +33,8 @@ pub fn refute<O: Online>(
     player: &O,
 ) -> Result<Transcript, AllocError>
     requires root { IsRoot pool.now.nodes root }
-    ensures played { IfOk result (λ transcript. play pool.now.game pool.now.nodes root (O.answer player.now pool.now.game) ≡ Some (play_of transcript)) }
+    ensures played { let answer = O.answer player.now pool.now.game in
+        IfOk result (λ transcript. play pool.now.game pool.now.nodes root answer ≡ Some (play_of transcript)) }
     ensures lost { IfOk result (λ transcript. IsLost pool.now.game (play_of transcript)) }
 {
     pool_is_legal(pool);
@@ -74,7 +76,8 @@ impl Course {
         requires packable { Packable game.now (self.old.items ++ size ∷ []) }
         ensures sent { OnOk result (self.new.items ≡ self.old.items ++ size ∷ []) }
         ensures course { OnOk result (IsCourse game.now (O.answer player.now game.now) self.new) }
-        ensures load { IfOk result (λ load. load ≡ load_hit game.now (O.answer player.now game.now) self.old.items size) }
+        ensures load { let answer = O.answer player.now game.now in
+            IfOk result (λ load. load ≡ load_hit game.now answer self.old.items size) }
     {
         game_is_legal(game);
         self.items.push(size)?;
@@ -116,8 +119,9 @@ fn play_on<O: Online>(
     requires none { course.old.items ≡ [] }
     requires course { IsCourse pool.now.game (O.answer player.now pool.now.game) course.old }
     ensures course { OnOk result (IsCourse pool.now.game (O.answer player.now pool.now.game) course.new) }
-    ensures end { IfOk result (λ number. end_of pool.now.game (O.answer player.now pool.now.game) pool.now.nodes (root + 1) root []
-        ≡ Some (record { items = course.new.items; number = number })) }
+    ensures end { let answer = O.answer player.now pool.now.game in
+        IfOk result (λ number. end_of pool.now.game answer pool.now.nodes (root + 1) root []
+        ≡ Some (end_at course.new.items number)) }
 {
     pool_is_legal(pool);
     let mut number = root;
@@ -137,9 +141,11 @@ fn play_step<O: Online>(
     course: &mut Course,
 ) -> Result<Option<u32>, AllocError>
     requires course { IsCourse pool.now.game (O.answer player.now pool.now.game) course.old }
-    requires ready { StandsReady pool.now.game (O.answer player.now pool.now.game) pool.now.nodes number course.old.items }
+    requires ready { let answer = O.answer player.now pool.now.game in
+        StandsReady pool.now.game answer pool.now.nodes number course.old.items }
     ensures course { OnOk result (IsCourse pool.now.game (O.answer player.now pool.now.game) course.new) }
-    ensures step { IfOk result (λ next. IsStep pool.now.game (O.answer player.now pool.now.game) pool.now.nodes number course.old.items next course.new.items) }
+    ensures step { let answer = O.answer player.now pool.now.game in
+        IfOk result (λ next. IsStep pool.now.game answer pool.now.nodes number course.old.items next course.new.items) }
 {
     pool_is_legal(pool);
     let game = pool.game();
@@ -183,7 +189,8 @@ fn child_of(next: Then) -> Option<u32>
 // A packing of a play's items: the end packing of the node of this number without what that has beyond the items.
 fn packing_for(pool: &AdvPool, number: u32, items: &Nums) -> Result<Packing, AllocError>
     requires end { IsEnd pool.now number items.now }
-    ensures made { IfOk result (λ packing. (bins : List (List ℕ)) × (end_packing pool.now.nodes (number + 1) number ≡ Some bins)
+    ensures made { IfOk result (λ packing.
+        (bins : List (List ℕ)) × (end_packing pool.now.nodes (number + 1) number ≡ Some bins)
         × (packing ≡ without_all (beyond pool.now.game (concat bins) items.now) bins)) }
     ensures packed { IfOk result (λ packing. IsPacking pool.now.game packing items.now) }
 {
@@ -254,11 +261,11 @@ fn without_beyond(game: &Game, bins: &Packing, items: &[u16]) -> Result<Packing,
 }
 
 // The bins when an item is taken out so often.
-fn without_times(bins: Packing, size: u16, times: usize) -> Result<Packing, AllocError>
-    ensures { IfOk result (λ packing. packing ≡ without_all (replicate times size) bins) }
+fn without_times(bins: Packing, size: u16, number: usize) -> Result<Packing, AllocError>
+    ensures { IfOk result (λ packing. packing ≡ without_all (replicate number size) bins) }
 {
     let mut packing = bins;
-    for _i in 0..times {
+    for _i in 0..number {
         packing = without_one(packing, size)?;
     }
     Ok(packing)

@@ -301,7 +301,8 @@ fn leads_to_children<E: EarlierPositions>(
     requires all { AreItems position.now.items (sent_items step.now) all.now }
     requires placed { PlacesEachLoad position.now.loads step.now }
     requires over { All (IsOverAtTarget game.now (sent_size step.now)) (placements_of step.now) }
-    ensures { IsTrue result ↔ All (LeadsOn (E.positions earlier.now) position.now (sent_size step.now)) (placements_of step.now) }
+    ensures { IsTrue result
+        ↔ All (LeadsOn (E.positions earlier.now) position.now (sent_size step.now)) (placements_of step.now) }
 {
     match step {
         Step::Send {

@@ -18,7 +18,6 @@ use Rattle.strategy_text.specs.declared.node.AlgNode.{AlgNode}
 use Rattle.strategy_text.specs.declared.node.Format.{Format}
 use Rattle.strategy_text.specs.declared.node.Act.{Act}
 use Rattle.strategy_text.specs.declared.node.Act.TheVariants.{Finish, Big, Reply}
-use Rattle.strategy_text.specs.Spelling.{most_nodes}
 use Rattle.algorithm_graph.specs.Judging.{HasPosition, node_at}
 use Rattle.algorithm_graph.specs.Legal.{EachFollows, EachMeetsRules, IsLegal}
 use Rattle.algorithm_graph.specs.Nodes.{position_of, IsOfFormat}

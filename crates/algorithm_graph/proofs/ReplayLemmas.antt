@@ -1,9 +1,8 @@
 -- The loads of a replay are those of the run of the replies.
-use Rattle.std.proofs.Common.{◌≡◌, ℕ, ◌+◌, ◌-◌, ◌<◌, List, [], ◌∷◌, ◌++◌, length, get_or, take, sym, ap, ◌∙◌, subst, arith}
-use Rattle.std.specs.Prelude.{fold}
+use Rattle.std.proofs.Common.{◌≡◌, ℕ, ◌-◌, ◌<◌, List, [], ◌∷◌, ◌++◌, length, get_or, sym, ap, ◌∙◌, subst, arith}
 use Rattle.std.proofs.lemmas.List.{append_assoc, append-nil, get_or_at, length-append, take_at}
 use Rattle.std.proofs.lemmas.List.Sums.{fold_push}
-use Rattle.items.specs.Game.{GameNumbers, IsGame}
+use Rattle.items.specs.Game.{GameNumbers}
 use Rattle.online_play.specs.Algorithm.{placed, run}
 use Rattle.online_play.proofs.RunLemmas.{run-push}
 use Rattle.online_play.proofs.WonLemmas.{run-nil}

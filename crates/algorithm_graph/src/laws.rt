@@ -1,6 +1,7 @@
 //! Laws of the algorithm's strategies, as contracts of functions that do nothing.
 
-ghost use Rattle.algorithm_graph.specs.Laws.{RepliesAreAnAlgorithm, RunsAreReplays, LegalRepliesKeepBelow};
+ghost use Rattle.algorithm_graph.specs.Laws.{RepliesAreAnAlgorithm, RunsAreReplays};
+ghost use Rattle.algorithm_graph.specs.Laws.{LegalReplaysStayBelow, LegalRepliesKeepBelow};
 
 /// The replies of nodes to a game are an online algorithm of it, and its run is their replay.
 pub fn replies_are_an_algorithm()
@@ -8,7 +9,9 @@ pub fn replies_are_an_algorithm()
     ensures run { RunsAreReplays }
 {}
 
-/// The replies of a legal strategy keep every load below the target, on every packable list of items.
+/// The replies of a legal strategy keep every load below the target, on every packable list of items. Where the items
+/// that may come have listed sizes, the replay keeps every load below the target on the packable lists of these.
 pub fn legal_replies_keep_every_load_below()
     ensures below { LegalRepliesKeepBelow }
+    ensures listed { LegalReplaysStayBelow }
 {}

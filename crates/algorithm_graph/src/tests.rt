@@ -1,9 +1,14 @@
+ghost use Rattle.std.specs.Prelude.{◌≡◌};
+ghost use Rattle.strategy_text.specs.declared.node.Format.TheVariants.{Two};
+
 use super::*;
 use items::{Game, Items, Nums};
 use loads::{Loads, Position, Positions};
+use online_play::{Actual, loads_after};
+use reachable_loads::Reach;
 use std::alloc::{AllocError, Global};
 use std::test::Fail;
-use strategy_text::{Act, AlgNode, Entries, Entry, Rule};
+use strategy_text::{Act, AlgNode, Entries, Entry, Format, Rule};
 
 // What a node does: it finishes, it keeps so many bins for big items, or it replies, each entry as its size, load and
 // child.
@@ -220,5 +225,112 @@ fn the_last_node_alone_is_the_root(rt: HostRuntime) -> Result<(), Fail> {
             want
         );
     }
+    Ok(())
+}
+
+// Puts a node at the end of a pool of format 2; whether it meets its rules there.
+fn put(
+    alloc: Global,
+    pool: &mut AlgPool,
+    loads: &[u16],
+    items: &[u16],
+    does: Does<'_>,
+) -> Result<bool, AllocError>
+    requires { pool.old.format ≡ Two }
+    ensures { pool.new.format ≡ Two }
+{
+    let node = AlgNode {
+        loads: Nums::from_slice(alloc, loads)?,
+        items: Nums::from_slice(alloc, items)?,
+        act: act_of(alloc, does)?,
+    };
+    let game = pool.game();
+    if pool.len() >= 4_000_000_000 {
+        return Ok(false);
+    }
+    let fault = node_fault(alloc, &game, pool.positions(), false, &node)?;
+    match fault {
+        Some(_) => Ok(false),
+        None => {
+            pool.push(node)?;
+            Ok(true)
+        }
+    }
+}
+
+// A strategy for two bins of capacity 2 and target 3, one of whose nodes keeps no bin for big items; whether each node
+// met its rules.
+fn small_strategy(alloc: Global, pool: &mut AlgPool) -> Result<bool, AllocError>
+    requires { pool.old.format ≡ Two }
+    ensures { pool.new.format ≡ Two }
+{
+    Ok(
+        put(alloc, pool, &[2, 0], &[1, 1], Does::Finish)?
+            && put(alloc, pool, &[2, 1], &[1, 2], Does::Finish)?
+            && put(
+                alloc,
+                pool,
+                &[1, 0],
+                &[1],
+                Does::Reply(&[(1, 1, 0), (2, 0, 1)]),
+            )?
+            && put(alloc, pool, &[2, 2], &[2, 2], Does::Big(0))?
+            && put(
+                alloc,
+                pool,
+                &[2, 0],
+                &[2],
+                Does::Reply(&[(1, 0, 1), (2, 0, 3)]),
+            )?
+            && put(
+                alloc,
+                pool,
+                &[0, 0],
+                &[],
+                Does::Reply(&[(1, 0, 2), (2, 0, 4)]),
+            )?,
+    )
+}
+
+// The loads by bin number after a player placed each item of a list; None where the list is not packable.
+fn loads_of(
+    alloc: Global,
+    game: &Game,
+    player: &FileAlgorithm,
+    history: &[u16],
+) -> Result<Option<Actual>, AllocError> {
+    let mut reach = Reach::start(alloc, game)?;
+    for size in history {
+        if *size < 1 || *size > game.g() {
+            return Ok(None);
+        }
+        let more = reach.add(*size)?;
+        reach = more;
+    }
+    if !reach.packable() {
+        return Ok(None);
+    }
+    Ok(Some(loads_after(game, player, history)))
+}
+
+#[test]
+fn a_file_answers_its_replies(rt: HostRuntime) -> Result<(), Fail> {
+    let game = Game::new(2, 2, 3)?;
+    let mut pool = AlgPool::new(rt.alloc(), &game, Format::Two);
+    assert!(rt; small_strategy(rt.alloc(), &mut pool)?);
+    assert!(rt; pool.is_root(5) && !pool.is_root(4));
+    let player = FileAlgorithm::new(pool, 5);
+    let cases = [
+        (game, [1, 2, 1].as_slice(), [2, 2]),
+        (game, [2, 2].as_slice(), [2, 2]),
+        (game, [1, 1, 1].as_slice(), [2, 1]),
+        (game, [].as_slice(), [0, 0]),
+        (Game::new(2, 3, 4)?, [1, 1].as_slice(), [2, 0]),
+    ];
+    for (game, items, loads) in cases {
+        let actual = loads_of(rt.alloc(), &game, &player, items)?.ok_or("not packable")?;
+        assert_eq!(rt; actual.as_slice(), loads.as_slice());
+    }
+    assert!(rt; loads_of(rt.alloc(), &game, &player, &[1, 1, 2, 1])?.is_none());
     Ok(())
 }

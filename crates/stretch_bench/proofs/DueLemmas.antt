@@ -13,11 +13,13 @@ use Rattle.strategy_text.specs.Text.{of_adversary, of_algorithm, nodes_of, side_
 use Rattle.strategy_text.specs.declared.node.Format.{Format}
 use Rattle.strategy_text.specs.declared.node.Nodes.{Nodes}
 use Rattle.strategy_text.specs.declared.node.Nodes.TheVariants as sides
-use Rattle.strategy_text.specs.declared.node.Side.TheVariants.{Adversary}
+use Rattle.strategy_text.specs.declared.node.Side.TheVariants.{Adversary, Algorithm}
 use Rattle.adversary_graph.proofs.WonLemmas.{legal_strategy_forces}
+use Rattle.algorithm_graph.proofs.BelowLemmas.{legal_replies_keep_below}
+use Rattle.algorithm_graph.proofs.ReplayLemmas.{replies_are_an_algorithm}
 use Rattle.checker.specs.Head.{AreLegalNodes}
 use Rattle.checker.specs.declared.fault.Accepted.{Accepted}
-use Rattle.checker.specs.Accepted.{Accepts}
+use Rattle.checker.specs.Accepted.{Accepts, Loads}
 use Rattle.checker.specs.FirstFault.{FirstFault, IsLegalText}
 use Rattle.checker.specs.declared.fault.Wanted.TheVariants.{Either}
 use Rattle.checker.proofs.LegalText.{legal_text_has_no_fault}
@@ -26,7 +28,8 @@ use Rattle.stretch_bench.specs.declared.status.Status.{Status}
 use Rattle.stretch_bench.specs.declared.status.Status.TheVariants.{Done, Rejected, Usage, Undecided, ReadFault, WriteFault, OutOfMemory, Unpackable}
 use Rattle.stretch_bench.specs.Answer.{Run, IsAnswer, IsStopped}
 use Rattle.stretch_bench.specs.Words.{Spells, SpellsNone}
-use Rattle.stretch_bench.specs.Lines.{accepted_line, adversary_accepted}
+use Rattle.stretch_bench.specs.Lines.{accepted_line, adversary_accepted, algorithm_accepted}
+use Rattle.stretch_bench.specs.Replying.{Replying}
 use Rattle.stretch_bench.specs.Due.{IsDue}
 use Rattle.stretch_bench.specs.Written.{WritesFirst}
 use Rattle.stretch_bench.proofs.Fronts.{HasSmallNumbers, same_line}
@@ -165,3 +168,25 @@ pub accepted_forces : (game : GameNumbers) (nodes : ℕ) (left new_left : Option
 accepted_forces game nodes left new_left stands =
     let strategy = stands.strategy in
     subst ForcesEvery (sym stands.game) (adversary_forces strategy.format strategy.game strategy.nodes stands.loads.spells.legal (sym stands.side))
+
+-- the replies of a legal strategy of the algorithm keep every load below the target
+strategy_replies : (format : Format) (game : GameNumbers) (number : ℕ) (nodes : Nodes) (left new_left : Option (List ℕ))
+    → Loads Either (record { format = format; game = game; nodes = nodes }) left new_left → number ≡ length (nodes_of nodes) → side_of nodes ≡ Algorithm
+    → Replying game number left new_left
+strategy_replies format game number (sides.Adversary list) left new_left loads e side = absurd cc
+strategy_replies format game number (sides.Algorithm list) left new_left loads e side =
+    record {
+      format = format;
+      nodes = list;
+      number_of_nodes = e ∙ length-map list of_algorithm;
+      loads = loads;
+      algorithm = replies_are_an_algorithm game list (loads.spells.legal.of_game);
+      keeps = legal_replies_keep_below format game list loads.spells.legal;
+    }
+
+pub accepted_replies : (game : GameNumbers) (nodes : ℕ) (left new_left : Option (List ℕ)) → Accepts Either (algorithm_accepted game nodes) left new_left
+    → Replying game nodes left new_left
+accepted_replies game nodes left new_left stands =
+    let strategy = stands.strategy in
+    subst (λ g. Replying g nodes left new_left) (sym stands.game)
+    (strategy_replies strategy.format strategy.game nodes strategy.nodes left new_left stands.loads stands.number (sym stands.side))

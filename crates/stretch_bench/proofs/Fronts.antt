@@ -1,8 +1,8 @@
 -- A line tells the numbers in it.
-use Rattle.std.proofs.Common.{◌≡◌, ◌≢◌, ◌==◌, ◌<◌, ◌≤◌, ◌+◌, ◌*◌, ◌/◌, ◌%◌, ◌^◌, inl, inr, false, ℕ, zero, suc, ⊎_elim, length, List, [], ◌∷◌, ◌++◌, get_or, drop, decimal, refl, ap, sym, arith}
+use Rattle.std.proofs.Common.{◌≡◌, ◌≢◌, ◌==◌, ◌<◌, ◌≤◌, ◌+◌, ◌*◌, ◌/◌, ◌%◌, ◌^◌, inl, inr, false, ℕ, zero, suc, ⊎_elim, length, List, [], ◌∷◌, ◌++◌, get_or, drop, decimal, refl, ap, sym, subst, arith}
 use Rattle.std.proofs.lemmas.Fmt.{decimal_injective, length-decimal-le}
 use Rattle.std.proofs.lemmas.Bool.{cases_Bool, cases_lt, eqb-true}
-use Rattle.std.specs.Fmt.{digits_onto, digit_glyph}
+use Rattle.std.specs.Fmt.{digits, digits_onto, digit_glyph}
 use Rattle.std.specs.Prelude.{nat_lt}
 use Rattle.items.specs.Game.{numbers}
 use Rattle.strategy_text.specs.declared.node.Side.{Side}
@@ -15,10 +15,6 @@ use Rattle.strategy_text.specs.Text.{side_word}
 abbrev pub Lacks : ℕ → List ℕ → Type 0
 Lacks x [] = Unit {0}
 Lacks x (y ∷ ys) = (y ≢ x) × Lacks x ys
-
-lacks_more : (x y : ℕ) (ys : List ℕ) → Lacks x ys → y ≢ x → Lacks x (ys ++ y ∷ [])
-lacks_more x y [] none other = (other, tt)
-lacks_more x y (z ∷ zs) none other = (none.0, lacks_more x y zs none.1 other)
 
 -- the digits of any number are at least 48
 glyph_high : (d : ℕ) → 48 ≤ digit_glyph false d
@@ -37,8 +33,13 @@ onto_lacks x (suc k) n rest low none =
       | inr e ↦ rw e (onto_lacks x k (n / 10) (glyph ∷ rest) low here)
     ]
 
+-- what `decimal` is
+onto_decimal : (n : ℕ) → digits_onto 64 10 false n [] ≡ decimal n
+unfolding digits
+onto_decimal n = refl
+
 decimal_lacks : (x n : ℕ) → x < 48 → Lacks x (decimal n)
-decimal_lacks x n low = onto_lacks x 64 n [] low tt
+decimal_lacks x n low = subst (Lacks x) (onto_decimal n) (onto_lacks x 64 n [] low tt)
 
 -- ---- large numbers have many digits
 
@@ -72,7 +73,7 @@ onto_long (suc j) (suc k) n rest low many = elim (cases_Bool (n / 10 == 0)) [
 
 decimal_long : (n : ℕ) → 2 ^ 64 ≤ n → 20 ≤ length (decimal n)
 unfolding tens
-decimal_long n large = omega (arith, onto_long 19 64 n [] (omega arith) (omega arith))
+decimal_long n large = omega (arith, onto_long 19 64 n [] (omega arith) (omega arith), ap length (onto_decimal n))
 
 -- a number of few digits is told by them
 decimal_same : (m n : ℕ) → m < 10000000000 → decimal m ≡ decimal n → m ≡ n
@@ -93,11 +94,11 @@ one_front x (a ∷ as') (b ∷ bs) rest other more p q e =
     let front : as' ≡ bs = tails.0 in
     (cc, tails.1)
 
-number_front : (x m n : ℕ) (rest other more : List ℕ) → x < 48 → m < 2 ^ 64 → n < 2 ^ 64 → decimal m ++ x ∷ rest ≡ (decimal n ++ x ∷ other) ++ more
+number_front : (x m n : ℕ) (rest other more : List ℕ) → x < 48 → m < 10000000000 → decimal m ++ x ∷ rest ≡ (decimal n ++ x ∷ other) ++ more
     → (m ≡ n) × (rest ≡ other ++ more)
-number_front x m n rest other more low fits same e =
-    let parts = one_front x (decimal m) (decimal n) rest other more (decimal_lacks x m low fits) (decimal_lacks x n low same) e in
-    (decimal_injective m n fits same parts.0, parts.1)
+number_front x m n rest other more low small e =
+    let parts = one_front x (decimal m) (decimal n) rest other more (decimal_lacks x m low) (decimal_lacks x n low) e in
+    (decimal_same m n small parts.0, parts.1)
 
 side_front : (s r : Side) (rest other more : List ℕ) → side_word s ++ 32 ∷ rest ≡ (side_word r ++ 32 ∷ other) ++ more → (s ≡ r) × (rest ≡ other ++ more)
 side_front Adversary Adversary rest other more e = (refl, ap (drop 10) e)

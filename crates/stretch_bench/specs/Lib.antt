@@ -4,3 +4,4 @@ pub mod Due
 pub mod Written
 pub mod Answer
 pub mod Codes
+pub mod Replying

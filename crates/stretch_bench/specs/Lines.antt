@@ -4,7 +4,7 @@ use Rattle.checker.specs.declared.fault.Accepted.{Accepted}
 use Rattle.checker.specs.declared.fault.Why.{Why}
 use Rattle.checker.specs.declared.fault.Why.TheVariants as why
 use Rattle.items.specs.Game.{GameNumbers}
-use Rattle.strategy_text.specs.declared.node.Side.TheVariants.{Adversary}
+use Rattle.strategy_text.specs.declared.node.Side.TheVariants.{Adversary, Algorithm}
 use Rattle.strategy_text.specs.Rules.{rule_word}
 use Rattle.strategy_text.specs.Text.{side_word}
 
@@ -22,6 +22,10 @@ accepted_line accepted =
 -- a legal strategy of the adversary for this game was read, with so many nodes
 abbrev pub adversary_accepted : GameNumbers → ℕ → Accepted
 adversary_accepted game nodes = record { game = game; side = Adversary; nodes = nodes }
+
+-- and one of the algorithm
+abbrev pub algorithm_accepted : GameNumbers → ℕ → Accepted
+algorithm_accepted game nodes = record { game = game; side = Algorithm; nodes = nodes }
 
 -- what is wrong with a line
 abbrev pub why_words : Why → List (List ℕ)

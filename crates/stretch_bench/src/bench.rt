@@ -9,7 +9,8 @@ ghost use Rattle.checker.specs.Accepted.{Accepts};
 ghost use Rattle.checker.specs.FirstFault.{IsLegalText};
 ghost use Rattle.stretch_bench.specs.declared.command.Command.TheVariants.{Check};
 ghost use Rattle.stretch_bench.specs.Answer.{IsAnswer, IsStopped};
-ghost use Rattle.stretch_bench.specs.Lines.{accepted_line, adversary_accepted};
+ghost use Rattle.stretch_bench.specs.Lines.{accepted_line, adversary_accepted, algorithm_accepted};
+ghost use Rattle.stretch_bench.specs.Replying.{Replying};
 ghost use Rattle.stretch_bench.specs.Words.{spelling_of, Spells, SpellsNone};
 ghost use Rattle.stretch_bench.specs.Written.{WritesFirst};
 
@@ -67,6 +68,10 @@ pub fn run_bench<S: Source, K: Sink>(
     // Where it is the adversary's, every deterministic online algorithm of the game is forced to the target.
     ensures forced { (game : GameNumbers) (nodes : ℕ) → WritesFirst
         (K.written sink.old) (K.written sink.new) (accepted_line (adversary_accepted game nodes)) → ForcesEvery game }
+
+    // Where it is the algorithm's, its replies keep every load below the target on every packable list of items.
+    ensures kept { (game : GameNumbers) (nodes : ℕ) → WritesFirst (K.written sink.old) (K.written sink.new)
+        (accepted_line (algorithm_accepted game nodes)) → Replying game nodes (S.left source.old) (S.left source.new) }
 {
     let due = match due_of(alloc, words, source) {
         Ok(due) => due,

@@ -1,5 +1,5 @@
-use Rattle.std.proofs.Common.{◌≡◌, ◌<◌, None, Some, ◌∙◌, refl, sym, subst, length, arith}
-use Rattle.std.proofs.lemmas.Option.{same_Some, slice_get_within}
+use Rattle.std.proofs.Common.{◌≡◌, ◌<◌, ◌∙◌, refl, sym, length, arith}
+use Rattle.std.proofs.lemmas.Option.{same_Some}
 use Rattle.adversary_graph.proofs.EndLemmas.{no_packing, packed_here, packed_later}
 use Rattle.adversary_graph.proofs.plays.packed_node.Goals as goal
 

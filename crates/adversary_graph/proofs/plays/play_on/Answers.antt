@@ -1,4 +1,4 @@
-use Rattle.std.proofs.Common.{◌<◌, ◌+◌, None, ◌∙◌, arith, refl}
+use Rattle.std.proofs.Common.{◌+◌, None, ◌∙◌, arith, refl}
 use Rattle.adversary_graph.proofs.PlayLemmas.{goes_to_child, goes_to_end, root_ready}
 use Rattle.adversary_graph.proofs.plays.play_on.Goals as goal
 

@@ -2,7 +2,7 @@ use Rattle.std.proofs.Common.{◌++◌, subst}
 use Rattle.items.specs.Packable.{Packable}
 use Rattle.strategy_text.specs.declared.node.Step.{Step}
 use Rattle.adversary_graph.specs.Nodes.{sent_items}
-use Rattle.adversary_graph.proofs.PlayLemmas.{burst_step, ready_at, ready_packable, send_step}
+use Rattle.adversary_graph.proofs.PlayLemmas.{ready_at, ready_packable, send_step}
 use Rattle.adversary_graph.proofs.plays.play_step.Goals as goal
 
 pub send-requires-clause-packable : goal.send-requires-clause-packable

@@ -1,4 +1,4 @@
-use Rattle.std.proofs.Common.{◌+◌, ◌∙◌, [], sym}
+use Rattle.std.proofs.Common.{◌+◌, ◌∙◌, []}
 use Rattle.adversary_graph.specs.Play.{end_at}
 use Rattle.adversary_graph.proofs.EndLemmas.{ends_lost}
 use Rattle.adversary_graph.proofs.PlayLemmas.{root_ready}

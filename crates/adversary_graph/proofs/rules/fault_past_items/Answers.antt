@@ -58,4 +58,31 @@ returns-then-not-is_empty g c =
     let placements = c.if-not-places_each_load.ensures.0 refl in
     let over = c.if-not-is_over_at_target.ensures.0 refl in
     let child = c.if-not-leads_to_children.ensures.0 refl in
-    record { exact = (the.root, refl, inr (send, inr (burst, inr (pack, inr (placements, inr (over, inr (child, inl (refl, λ h. false≢true (c.if-not-is_empty.ensures.exact.1 (h c.if-last.true)))))))))) }
+    record {
+      exact = (
+        the.root,
+        refl,
+        inr (
+          send,
+          inr (
+            burst,
+            inr (
+              pack,
+              inr (
+                placements,
+                inr (
+                  over,
+                  inr (
+                    child,
+                    inl (
+                      refl,
+                      λ h. false≢true (c.if-not-is_empty.ensures.exact.1 (h c.if-last.true)),
+                    ),
+                  ),
+                ),
+              ),
+            ),
+          ),
+        ),
+      );
+    }

@@ -1,6 +1,7 @@
 use Rattle.std.proofs.Common.{inl}
-use Rattle.stretch_bench.specs.Lines.{adversary_accepted}
-use Rattle.stretch_bench.proofs.DueLemmas.{usage_due, none_written, behind_whole, behind_front, exact_due, stopped_any, answer_due, accepted_forces}
+use Rattle.stretch_bench.specs.Lines.{adversary_accepted, algorithm_accepted}
+use Rattle.stretch_bench.proofs.DueLemmas.{usage_due, none_written, behind_whole, behind_front, exact_due, stopped_any, answer_due, accepted_forces, accepted_replies}
+use Rattle.stretch_bench.specs.declared.status.Status.TheVariants.{ReadFault, WriteFault, OutOfMemory}
 use Rattle.stretch_bench.proofs.bench.run_bench.Goals as goal
 
 pub returns-in-Err-Read-clause-accepted : goal.returns-in-Err-Read-clause-accepted
@@ -9,11 +10,17 @@ returns-in-Err-Read-clause-accepted g c accepted first = absurd (none_written _ 
 pub returns-in-Err-Read-clause-forced : goal.returns-in-Err-Read-clause-forced
 returns-in-Err-Read-clause-forced g c game nodes first = absurd (none_written _ (adversary_accepted game nodes) first)
 
+pub returns-in-Err-Read-clause-kept : goal.returns-in-Err-Read-clause-kept
+returns-in-Err-Read-clause-kept g c game nodes first = absurd (none_written _ (algorithm_accepted game nodes) first)
+
 pub returns-in-Err-Memory-clause-accepted : goal.returns-in-Err-Memory-clause-accepted
 returns-in-Err-Memory-clause-accepted g c accepted first = absurd (none_written _ accepted first)
 
 pub returns-in-Err-Memory-clause-forced : goal.returns-in-Err-Memory-clause-forced
 returns-in-Err-Memory-clause-forced g c game nodes first = absurd (none_written _ (adversary_accepted game nodes) first)
+
+pub returns-in-Err-Memory-clause-kept : goal.returns-in-Err-Memory-clause-kept
+returns-in-Err-Memory-clause-kept g c game nodes first = absurd (none_written _ (algorithm_accepted game nodes) first)
 
 pub returns-in-Ok-put_all-clause-no_command : goal.returns-in-Ok-put_all-clause-no_command
 returns-in-Ok-put_all-clause-no_command g c none = ((c.due_of.ensures.no_command none).0, inl (usage_due _ _ _ _ _ c.in-Ok.ensures.due none))
@@ -26,6 +33,10 @@ pub returns-in-Ok-put_all-clause-forced : goal.returns-in-Ok-put_all-clause-forc
 returns-in-Ok-put_all-clause-forced g c game nodes first =
     accepted_forces game nodes _ _ (behind_whole _ _ _ _ _ _ _ _ (adversary_accepted game nodes) c.in-Ok.ensures.due c.as_bytes.ensures.value c.in-Ok-put_all.ensures.ok first)
 
+pub returns-in-Ok-put_all-clause-kept : goal.returns-in-Ok-put_all-clause-kept
+returns-in-Ok-put_all-clause-kept g c game nodes first =
+    accepted_replies game nodes _ _ (behind_whole _ _ _ _ _ _ _ _ (algorithm_accepted game nodes) c.in-Ok.ensures.due c.as_bytes.ensures.value c.in-Ok-put_all.ensures.ok first)
+
 pub returns-clause-accepted : goal.returns-clause-accepted
 returns-clause-accepted g c accepted first =
     behind_front _ _ _ _ _ _ _ _ accepted c.in-Ok.ensures.due c.as_bytes.ensures.value c.in-Err.ensures.err first
@@ -34,14 +45,18 @@ pub returns-clause-forced : goal.returns-clause-forced
 returns-clause-forced g c game nodes first =
     accepted_forces game nodes _ _ (behind_front _ _ _ _ _ _ _ _ (adversary_accepted game nodes) c.in-Ok.ensures.due c.as_bytes.ensures.value c.in-Err.ensures.err first)
 
+pub returns-clause-kept : goal.returns-clause-kept
+returns-clause-kept g c game nodes first =
+    accepted_replies game nodes _ _ (behind_front _ _ _ _ _ _ _ _ (algorithm_accepted game nodes) c.in-Ok.ensures.due c.as_bytes.ensures.value c.in-Err.ensures.err first)
+
 pub returns-in-Err-Read-clause-exact : goal.returns-in-Err-Read-clause-exact
-returns-in-Err-Read-clause-exact g c check = stopped_any _ _ tt
+returns-in-Err-Read-clause-exact g c check = stopped_any _ ReadFault tt
 
 pub returns-in-Err-Memory-clause-exact : goal.returns-in-Err-Memory-clause-exact
-returns-in-Err-Memory-clause-exact g c check = stopped_any _ _ tt
+returns-in-Err-Memory-clause-exact g c check = stopped_any _ OutOfMemory tt
 
 pub returns-in-Ok-put_all-clause-exact : goal.returns-in-Ok-put_all-clause-exact
 returns-in-Ok-put_all-clause-exact g c check = exact_due _ _ _ _ _ c.in-Ok.ensures.due check
 
 pub returns-clause-exact : goal.returns-clause-exact
-returns-clause-exact g c check = stopped_any _ _ tt
+returns-clause-exact g c check = stopped_any _ WriteFault tt

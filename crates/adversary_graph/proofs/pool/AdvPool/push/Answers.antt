@@ -1,4 +1,4 @@
-use Rattle.std.proofs.Common.{◌≡◌, ◌++◌, ◌∷◌, [], List, map, false, sym, ap, ◌∙◌}
+use Rattle.std.proofs.Common.{◌++◌, ◌∷◌, [], List, map, false, sym, ap, ◌∙◌}
 use Rattle.loads.specs.declared.position.Position.{Position}
 use Rattle.adversary_graph.specs.Nodes.{position_of}
 use Rattle.adversary_graph.specs.Pools.{pool_of}

@@ -1,4 +1,4 @@
-use Rattle.std.proofs.Common.{◌≡◌, ◌∙◌, sym, ap, map}
+use Rattle.std.proofs.Common.{◌∙◌, ap, map}
 use Rattle.algorithm_graph.specs.Nodes.{position_of}
 use Rattle.algorithm_graph.proofs.PoolLemmas.{IsPool-from_legal, each_has_position, root_of_legal}
 use Rattle.algorithm_graph.proofs.pool.AlgPool.from_strategy.Goals as goal
