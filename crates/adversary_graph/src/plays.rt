@@ -24,8 +24,8 @@ use std::alloc::{AllocError, Global};
 use strategy_text::{Placement, Step, Then};
 
 /// The play of a pool's nodes against a player, from the root of this number on. The player loses: the items can be
-/// packed, as the packing shows, and one of the loads reaches the target. Asks the player once for each item; the
-/// cost besides is linear in the items times the bins.
+/// packed, as the packing shows, and one of the loads reaches the target. Asks the player and looks a node up once for
+/// each item at most. A packing that is not the last node's own costs a copy of it for each item taken out.
 pub fn refute<O: Online>(
     alloc: Global,
     pool: &AdvPool,
