@@ -2,6 +2,7 @@
 #![tactic(auto)]
 
 mod answered;
+pub mod laws;
 mod lines;
 mod words;
 
