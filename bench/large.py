@@ -7,8 +7,8 @@ KIND is one of these:
 
 - adversary: the game 2 3 4, with 4 * COPIES + 1 nodes: COPIES copies of each node but the root of the strategy of five
   nodes in examples/adversary-2-3-4.txt, where a reference names any copy of the node that it named there. Which copy
-  that is goes by a simple rule: for the reference in node i it is copy (7919 * i) mod COPIES. With one copy it is that
-  strategy itself.
+  that is goes by a simple rule: for the reference in node i it is copy (7919 * i) mod COPIES, and the root's is the last
+  node before it. With one copy it is that strategy itself.
 - algorithm: the game 2 2 3, made in the same way of examples/algorithm-2-2-3.txt.
 - items: the game 8 120 240 of the algorithm, with COPIES nodes of 800 items each and the root.
 """
@@ -37,7 +37,7 @@ def adversary(copies):
             f" on 1 to {copies + copy(i)} on 0 to {2 * copies + copy(i)}"
         )
     root = 4 * copies
-    yield f"{root} loads 0 0 items - send 1 pack 1 / - on 0 to {3 * copies + copy(root)}"
+    yield f"{root} loads 0 0 items - send 1 pack 1 / - on 0 to {root - 1}"
 
 
 def algorithm(copies):
@@ -60,7 +60,7 @@ def algorithm(copies):
     root = 4 * copies
     yield (
         f"{root} loads 0 0 items - reply"
-        f" 1 on 0 to {2 * copies + copy(root)} 2 on 0 to {3 * copies + copy(root)}"
+        f" 1 on 0 to {2 * copies + copy(root)} 2 on 0 to {root - 1}"
     )
 
 
@@ -79,14 +79,19 @@ def items(copies):
 KINDS = {"adversary": adversary, "algorithm": algorithm, "items": items}
 
 
+def lines(kind, copies):
+    """All lines of the strategy, without their line feeds."""
+    yield "stretch 1"
+    yield from KINDS[kind](copies)
+    yield "end"
+
+
 def main():
     kind, copies = sys.argv[1], int(sys.argv[2])
     if copies < 1:
         sys.exit("COPIES is at least 1")
-    sys.stdout.write("stretch 1\n")
-    for line in KINDS[kind](copies):
+    for line in lines(kind, copies):
         sys.stdout.write(line + "\n")
-    sys.stdout.write("end\n")
 
 
 if __name__ == "__main__":

@@ -1,10 +1,11 @@
 #!/usr/bin/env python3
 """Times a check of a strategy file beside a count of its lines, and says how much memory each took.
 
-    measure.py PROGRAM FILE LINE TIMES
+    measure.py PROGRAM FILE LINE TIMES [YARDSTICK]
 
-PROGRAM is the built program, FILE the strategy, LINE the answer that is due, without its line feed, and
-TIMES how often each command is run, in turns. It ends with status 1 where a check gives another answer.
+PROGRAM is the built program, FILE the strategy, LINE the answer that is due, without its line feed, and TIMES how often
+each command is run, in turns. YARDSTICK is another checker, which reads a strategy from standard input: it is run beside
+the program where it is given, and the ratios are told. It ends with status 1 where a check gives another answer.
 """
 
 import os
@@ -40,22 +41,32 @@ def peak(command, path):
 
 
 def main():
-    program, path, line, times = sys.argv[1:]
+    program, path, line, times, *others = sys.argv[1:]
     due = line.encode() + b"\n"
-    checks, counts = [], []
+    checks = {"stretch check": [program, "check"]}
+    if others:
+        checks["yardstick"] = [others[0]]
+    least = {name: [] for name in [*checks, "wc -l"]}
     for _ in range(int(times)):
-        status, written, seconds = run([program, "check"], path)
-        if status != 0 or written != due:
-            sys.exit(f"status {status}, and it wrote {written!r} in place of {due!r}")
-        checks.append(seconds)
-        counts.append(run(["wc", "-l"], path)[2])
-    print("stretch check", *(f"{seconds:.3f}" for seconds in checks), "seconds")
-    print("wc -l        ", *(f"{seconds:.3f}" for seconds in counts), "seconds")
+        for name, command in checks.items():
+            status, written, seconds = run(command, path)
+            if status != 0 or written != due:
+                sys.exit(f"{name}: status {status}, and it wrote {written!r} in place of {due!r}")
+            least[name].append(seconds)
+        least["wc -l"].append(run(["wc", "-l"], path)[2])
+    for name, all_seconds in least.items():
+        print(f"{name:<14}", *(f"{seconds:.3f}" for seconds in all_seconds), "seconds")
     size = os.path.getsize(path) / 1e6
     nodes = int(line.split()[-1])
-    print(f"ratio of the least {min(checks) / min(counts):.1f}")
-    print(f"rate of the least {size / min(checks):.1f} MB a second, {nodes / min(checks):,.0f} nodes a second")
-    print(f"peak memory of a check {peak([program, 'check'], path):.1f} MiB")
+    taken = min(least["stretch check"])
+    print(f"rate of the least {size / taken:.1f} MB a second, {nodes / taken:,.0f} nodes a second")
+    print(f"time {taken / min(least['wc -l']):.1f} times that of wc -l")
+    held = {name: peak(command, path) for name, command in checks.items()}
+    print("peak memory " + ", ".join(f"{name} {most:.1f} MiB" for name, most in held.items()))
+    if others:
+        time_ratio = taken / min(least["yardstick"])
+        print(f"beside the yardstick: {time_ratio:.2f} times its time, "
+              f"{held['stretch check'] / held['yardstick']:.2f} times its memory")
 
 
 if __name__ == "__main__":
