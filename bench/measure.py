@@ -4,8 +4,9 @@
     measure.py PROGRAM FILE LINE TIMES [YARDSTICK]
 
 PROGRAM is the built program, FILE the strategy, LINE the answer that is due, without its line feed, and TIMES how often
-each command is run, in turns. YARDSTICK is another checker, which reads a strategy from standard input: it is run beside
-the program where it is given, and the ratios are told. It ends with status 1 where a check gives another answer.
+each command is run, in turns. The seconds are those of the processor, which other work on the machine disturbs least.
+YARDSTICK is another checker, which reads a strategy from standard input: it is run beside the program where it is
+given, and the ratios are told. It ends with status 1 where a check gives another answer.
 """
 
 import os
@@ -15,14 +16,13 @@ import time
 
 
 def run(command, path):
-    """How a command ends and what it writes for a file, and the seconds that it takes."""
+    """How a command ends and what it writes for a file, and the seconds of the processor that it takes."""
     with open(path, "rb") as file:
-        start = time.perf_counter()
         child = subprocess.Popen(command, stdin=file, stdout=subprocess.PIPE)
         written = child.stdout.read()
-        child.wait()
-        seconds = time.perf_counter() - start
-    return child.returncode, written, seconds
+        _, status, used = os.wait4(child.pid, 0)
+        child.returncode = os.waitstatus_to_exitcode(status)
+    return child.returncode, written, used.ru_utime + used.ru_stime
 
 
 def peak(command, path):
@@ -55,16 +55,16 @@ def main():
             least[name].append(seconds)
         least["wc -l"].append(run(["wc", "-l"], path)[2])
     for name, all_seconds in least.items():
-        print(f"{name:<14}", *(f"{seconds:.3f}" for seconds in all_seconds), "seconds")
+        print(f"{name:<14}", *(f"{seconds:.3f}" for seconds in all_seconds), "seconds of the processor")
     size = os.path.getsize(path) / 1e6
     nodes = int(line.split()[-1])
     taken = min(least["stretch check"])
     print(f"rate of the least {size / taken:.1f} MB a second, {nodes / taken:,.0f} nodes a second")
-    print(f"time {taken / min(least['wc -l']):.1f} times that of wc -l")
+    print(f"time {taken / max(min(least['wc -l']), 1e-6):.1f} times that of wc -l")
     held = {name: peak(command, path) for name, command in checks.items()}
     print("peak memory " + ", ".join(f"{name} {most:.1f} MiB" for name, most in held.items()))
     if others:
-        time_ratio = taken / min(least["yardstick"])
+        time_ratio = taken / max(min(least["yardstick"]), 1e-6)
         print(f"beside the yardstick: {time_ratio:.2f} times its time, "
               f"{held['stretch check'] / held['yardstick']:.2f} times its memory")
 
