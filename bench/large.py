@@ -7,7 +7,7 @@ KIND is one of these:
 
 - adversary: the game 2 3 4, with 4 * COPIES + 1 nodes: COPIES copies of each node but the root of the strategy of five
   nodes in examples/adversary-2-3-4.txt, where a reference names any copy of the node that it named there. Which copy
-  that is goes by a simple rule: for the reference in node i it is copy (7919 * i) mod COPIES, and the root's is the last
+  that is goes by a simple rule: for the reference in node i it is copy (7919 * i) mod COPIES, and the root leads to the
   node before it. With one copy it is that strategy itself.
 - algorithm: the game 2 2 3, made in the same way of examples/algorithm-2-2-3.txt.
 - items: the game 8 120 240 of the algorithm, with COPIES nodes of 800 items each and the root.
