@@ -1,31 +1,30 @@
 -- What the bits of a plane tell of the loads that are reached.
-use Rattle.std.proofs.Common.{◌≡◌, ◌≢◌, ◌↔◌, ℕ, zero, suc, ◌+◌, ◌-◌, ◌*◌, ◌/◌, ◌%◌, ◌^◌, ◌<◌, ◌≤◌, cond, eqb, List, [], ◌∷◌, ◌++◌}
-use Rattle.std.proofs.Common.{length, get_or, set, take, drop, sum, replicate, refl, sym, ap, ◌∙◌, subst, inl, inr, ◌⊎◌, ⊎_elim, arith}
+use Rattle.std.proofs.Common.{◌≡◌, ◌↔◌, ℕ, zero, suc, ◌+◌, ◌-◌, ◌*◌, ◌/◌, ◌%◌, ◌^◌, ◌<◌, ◌≤◌, cond, eqb, List, [], ◌∷◌, ◌++◌}
+use Rattle.std.proofs.Common.{length, get_or, set, take, drop, sum, replicate, refl, sym, ap, ◌∙◌, subst, inl, inr, arith}
 use Rattle.std.specs.Prelude.{All, Contains, IsTrue, bit_and}
 use Rattle.std.specs.Int.{bit_at, trailing_zeros, w64}
-use Rattle.std.specs.List.{sum_by}
 use Rattle.std.proofs.lemmas.Bool.{cases_lt, cases_eq, eqb-true, eq-eqb}
-use Rattle.std.proofs.lemmas.List.{get_or_default, length-set, length-take-le, length-drop, length-replicate, get_or-replicate}
+use Rattle.std.proofs.lemmas.List.{length-set, length-take-le, length-drop, length-replicate, get_or-replicate}
 use Rattle.std.proofs.lemmas.List.{get_or-set_same, get_or-set_other, ext_get_or, length_push, get_or_append_left, get_or-append_right}
-use Rattle.std.proofs.lemmas.List.Sums.{sum_by-cons, sum_by-le, get_or-le-sum_by}
+use Rattle.std.proofs.lemmas.List.Sums.{sum_by-cons, sum_by-le}
 use Rattle.std.proofs.lemmas.List.Elements.{All-from_get_or, All-tail, All-take, All-drop, All-contains, Contains-get_or}
 use Rattle.std.proofs.lemmas.Nat.{mul-add-lt, mul-le}
-use Rattle.std.proofs.lemmas.Nat.Bits.{bit_at-zero, bit_at-pow_same, bit_at-pow_other, bit_at-trailing_zeros, bit_at-lt, shr_and_one}
-use Rattle.std.proofs.Math.Nat.{one-le-pow, div-add-mod}
+use Rattle.std.proofs.lemmas.Nat.Bits.{bit_at-zero, bit_at-pow_same, bit_at-pow_other, bit_at-trailing_zeros, shr_and_one}
+use Rattle.std.proofs.Math.Nat.{one-le-pow}
 use Rattle.items.specs.Game.{GameNumbers, IsGame}
 use Rattle.items.specs.Multiset.{Same, count}
-use Rattle.items.specs.Packable.{IsAssignment, Packable}
-use Rattle.items.proofs.MultisetLemmas.{count-sum_by, length-Same}
-use Rattle.items.proofs.SameLemmas.{Same-refl, Same-sym, Same-trans}
+use Rattle.items.specs.Packable.{Packable}
+use Rattle.items.proofs.MultisetLemmas.{count-sum_by}
+use Rattle.items.proofs.SameLemmas.{Same-refl, Same-trans}
 use Rattle.loads.specs.Descending.{IsDescending, put_descending, take_out}
 use Rattle.loads.proofs.DescendingLemmas.{IsDescending-put, IsDescending-nil, Contains-here}
 use Rattle.loads.proofs.CountLemmas.{sum_by-put, sum_by-take_out, Contains-Same}
-use Rattle.reach_planes.specs.Reached.{ItemsSent, sent, totals, HasTotals, AreLoadsOf, IsReached, IsLeastLoad}
+use Rattle.reach_planes.specs.Reached.{ItemsSent, sent, totals, HasTotals, IsReached, IsLeastLoad}
 use Rattle.reach_planes.specs.Words.{IsSet}
-use Rattle.reach_planes.specs.Layout.{IsStart, IsPlaneOf, AreDigits, ArePlanes, IsLeastBit, NoBits, word_at, row_of, rows_of, halves_of, digits_of, digit_sum, held_total}
+use Rattle.reach_planes.specs.Layout.{IsStart, IsPlaneOf, AreDigits, ArePlanes, IsLeastBit, NoBits, word_at, row_of, rows_of, halves_of, digits_of}
 use Rattle.items.proofs.AssignmentLemmas.{IsAssignment-nil}
-use Rattle.reach_planes.proofs.AssignmentLemmas.{length-totals, get_or-totals, front_and_last, totals-nil}
-use Rattle.reach_planes.proofs.TotalsLemmas.{length-HasTotals, All-HasTotals, HasTotals-Same, last_of_start, sum_end, sum-HasTotals}
+use Rattle.reach_planes.proofs.AssignmentLemmas.{length-totals, front_and_last, totals-nil}
+use Rattle.reach_planes.proofs.TotalsLemmas.{length-HasTotals, All-HasTotals, HasTotals-Same, last_of_start, sum_end}
 use Rattle.reach_planes.proofs.RowLemmas.{length-digits_of, All-digits_of, row_of-digits_of, sum-digits_of, row_of-zeros, zeros-row_of}
 use Rattle.reach_planes.proofs.PlaneLemmas.{place_of, row-lt, place-lt}
 

@@ -1,14 +1,14 @@
 -- What each pass over the words of a plane does to its bits.
-use Rattle.std.proofs.Common.{◌≡◌, ◌↔◌, ℕ, zero, suc, ◌+◌, ◌-◌, ◌*◌, ◌/◌, ◌%◌, ◌^◌, ◌<◌, ◌≤◌, List, [], ◌∷◌}
+use Rattle.std.proofs.Common.{◌≡◌, ◌↔◌, ℕ, ◌+◌, ◌-◌, ◌*◌, ◌/◌, ◌%◌, ◌<◌, ◌≤◌, List}
 use Rattle.std.proofs.Common.{length, get_or, set, refl, sym, ap, ◌∙◌, subst, inl, inr, ◌⊎◌, ⊎_elim, arith}
-use Rattle.std.specs.Prelude.{bit_and, bit_or}
+use Rattle.std.specs.Prelude.{bit_and}
 use Rattle.std.specs.Int.{bit_at}
-use Rattle.std.proofs.lemmas.Bool.{cases_lt, cases_eq}
+use Rattle.std.proofs.lemmas.Bool.{cases_lt}
 use Rattle.std.proofs.lemmas.List.{get_or-set_same, get_or-set_other}
 use Rattle.std.proofs.lemmas.Nat.{mul-add-lt}
 use Rattle.std.proofs.Math.Nat.{mul-le-mul_right}
 use Rattle.reach_planes.specs.Words.{IsSet, AreJoined, moved}
-use Rattle.reach_planes.specs.Layout.{IsPlace, IsKept, IsPutInFirst, IsPutInBin, word_at}
+use Rattle.reach_planes.specs.Layout.{IsKept, IsPutInFirst, IsPutInBin, word_at}
 use Rattle.reach_planes.proofs.BitLemmas.{set_or, set_and, set_moved, set_up_to, HasMovedBit}
 
 -- the ones of a mask are those from a bit on

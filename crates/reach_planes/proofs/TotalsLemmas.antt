@@ -1,23 +1,23 @@
 -- Totals of assignments, and what one more item does to them.
-use Rattle.std.proofs.Common.{◌≡◌, ℕ, zero, suc, ◌+◌, ◌-◌, ◌*◌, ◌<◌, ◌≤◌, cond, eqb, List, [], ◌∷◌, ◌++◌, length}
-use Rattle.std.proofs.Common.{get_or, set, sum, map, replicate, refl, sym, ap, ◌∙◌, subst, arith, inl, inr, ◌⊎◌}
+use Rattle.std.proofs.Common.{◌≡◌, ℕ, ◌+◌, ◌-◌, ◌<◌, ◌≤◌, cond, eqb, List, [], ◌∷◌, ◌++◌, length}
+use Rattle.std.proofs.Common.{get_or, set, sum, refl, sym, ap, ◌∙◌, subst, arith, inl, inr, ◌⊎◌}
 use Rattle.std.specs.Prelude.{All, Contains}
 use Rattle.std.specs.List.{range_with_len, sum_by}
-use Rattle.std.proofs.lemmas.Bool.{cases_eq, cases_lt, eq-eqb, ne_eqb, cond-true, cond-false}
-use Rattle.std.proofs.lemmas.List.{get_or-set_same, get_or-set_other, length-set, get_or_default, length_push}
-use Rattle.std.proofs.lemmas.List.{get_or_append_left, get_or-append_right, set-append_left, set-append_right, nil_from_length}
+use Rattle.std.proofs.lemmas.Bool.{cases_lt}
+use Rattle.std.proofs.lemmas.List.{get_or-set_same, length-set, get_or_default, length_push}
+use Rattle.std.proofs.lemmas.List.{get_or_append_left, get_or-append_right, set-append_left, set-append_right}
 use Rattle.std.proofs.lemmas.List.Sums.{sum_by-cons, sum_by-set, sum-map, sum_by-append}
 use Rattle.std.proofs.lemmas.List.Elements.{All-head, All-tail, All-from_get_or, Contains-get_or}
 use Rattle.items.specs.Game.{GameNumbers}
 use Rattle.items.specs.Multiset.{IsSize, Same}
-use Rattle.items.specs.Packable.{IsAssignment, bin_total}
-use Rattle.items.proofs.AssignmentLemmas.{IsAssignment-nil, sum-mark, sum_none}
+use Rattle.items.specs.Packable.{bin_total}
+use Rattle.items.proofs.AssignmentLemmas.{sum-mark, sum_none}
 use Rattle.items.proofs.MultisetLemmas.{count-sum_by, length-Same, sum-Same}
 use Rattle.items.proofs.SameLemmas.{Same-sym, Same-trans}
 use Rattle.loads.proofs.CountLemmas.{Contains-Same}
 use Rattle.reach_planes.specs.Reached.{totals, HasTotals}
 use Rattle.reach_planes.specs.Layout.{IsStart}
-use Rattle.reach_planes.proofs.AssignmentLemmas.{length-totals, get_or-totals, totals-push, IsAssignment-push, PutsLast, puts_last, totals-nil}
+use Rattle.reach_planes.proofs.AssignmentLemmas.{length-totals, get_or-totals, totals-push, IsAssignment-push, PutsLast, puts_last}
 
 -- totals that differ from given loads in their order alone are as many as the bins and fit
 pub length-HasTotals : (game : GameNumbers) (items loads : List ℕ) → HasTotals game items loads → length loads ≡ game.bins

@@ -1,6 +1,6 @@
 -- What serves private contracts alone: words of 64 bits, shifted and joined.
-use Rattle.std.specs.Prelude.{◌≡◌, ◌↔◌, ℕ, ◌+◌, ◌-◌, ◌*◌, ◌/◌, ◌%◌, ◌^◌, ◌<◌, ◌≤◌}
-use Rattle.std.specs.Prelude.{◌⊎◌, List, length, slice_index, bit_and, bit_or}
+use Rattle.std.specs.Prelude.{◌≡◌, ℕ, ◌+◌, ◌*◌, ◌/◌, ◌%◌, ◌^◌, ◌<◌, ◌≤◌}
+use Rattle.std.specs.Prelude.{◌⊎◌, List, slice_index, bit_and, bit_or}
 use Rattle.std.specs.Int.{bit_at}
 
 -- a bit of a word of the list is 1

@@ -1,4 +1,4 @@
-use Rattle.std.proofs.Common.{◌↔◌, ◌≡◌, ◌≤◌, ◌<◌, ◌-◌, ℕ, length, get_or, arith, sym, subst}
+use Rattle.std.proofs.Common.{arith, subst}
 use Rattle.reach_planes.proofs.PassLemmas.{IsKeptUpTo-more, IsOnesFrom}
 use Rattle.reach_planes.proofs.rows.keep_half.Goals as goal
 

@@ -1,4 +1,4 @@
-use Rattle.std.proofs.Common.{◌≡◌, ◌≤◌, ◌<◌, ◌%◌, ◌+◌, ◌-◌, ◌*◌, ◌^◌, ◌∙◌, ◌++◌, ◌∷◌, [], List, ℕ, length, ap, sym, subst, suc, arith}
+use Rattle.std.proofs.Common.{◌≡◌, ◌≤◌, ◌<◌, ◌%◌, ◌+◌, ◌-◌, ◌*◌, ◌^◌, ◌∙◌, length, ap, sym, subst, suc, arith}
 use Rattle.std.proofs.Math.Nat.{pow-suc}
 use Rattle.reach_planes.specs.Layout.{IsKept, IsPutInFirst, IsPutInBin, halves_of, rows_of}
 use Rattle.reach_planes.proofs.PlaneLemmas.{HasBlocks, has_blocks, IsMoved, IsMoved-more, IsPlaneOf-more}

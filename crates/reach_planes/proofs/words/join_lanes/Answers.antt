@@ -1,4 +1,3 @@
-use Rattle.std.proofs.Common.{arith}
 use Rattle.std.proofs.lemmas.Simd.{length-chunk}
 use Rattle.reach_planes.proofs.LaneLemmas.{AreJoined-lanes}
 use Rattle.reach_planes.proofs.words.join_lanes.Goals as goal

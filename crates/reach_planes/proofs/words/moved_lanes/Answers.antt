@@ -1,4 +1,4 @@
-use Rattle.std.proofs.Common.{◌≡◌, ◌∙◌, ℕ, ap, get_or, arith}
+use Rattle.std.proofs.Common.{◌∙◌, ℕ, ap, get_or}
 use Rattle.reach_planes.specs.Words.{moved}
 use Rattle.reach_planes.proofs.LaneLemmas.{at_lane, length_lanes}
 use Rattle.reach_planes.proofs.words.moved_lanes.Goals as goal

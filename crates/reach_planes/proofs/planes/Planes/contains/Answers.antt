@@ -1,8 +1,8 @@
-use Rattle.std.proofs.Common.{◌≡◌, ◌↔◌, ◌∙◌, ◌<◌, ◌≤◌, ◌-◌, ◌∷◌, ap, sym, subst, get_or, take, drop, length, sum, arith, ℕ, List}
-use Rattle.std.specs.Prelude.{All, IsTrue}
+use Rattle.std.proofs.Common.{◌≡◌, ◌↔◌, ◌∙◌, ◌≤◌, ◌-◌, ◌∷◌, ap, sym, subst, get_or, take, drop, length, sum, arith}
+use Rattle.std.specs.Prelude.{All}
 use Rattle.std.proofs.lemmas.Bool.{eqb-true}
 use Rattle.items.specs.Game.{GameNumbers}
-use Rattle.reach_planes.specs.Reached.{ItemsSent, sent, HasTotals}
+use Rattle.reach_planes.specs.Reached.{ItemsSent, HasTotals}
 use Rattle.reach_planes.specs.Layout.{AreDigits, IsStart}
 use Rattle.reach_planes.proofs.TotalsLemmas.{sum-HasTotals}
 use Rattle.reach_planes.proofs.LoadLemmas.{AreDigits-between, sum_fits, contains_where}

@@ -1,4 +1,4 @@
-use Rattle.std.proofs.Common.{◌≡◌, ◌∙◌, ◌<◌, ◌+◌, ◌*◌, ◌/◌, ap, subst, arith, ℕ, List}
+use Rattle.std.proofs.Common.{◌≡◌, ◌<◌, ◌+◌, ◌*◌, ◌/◌, ap, subst, arith, ℕ}
 use Rattle.std.specs.Int.{trailing_zeros, w64}
 use Rattle.items.specs.Packable.{Packable}
 use Rattle.reach_planes.specs.Reached.{ItemsSent, IsLeastLoad}

@@ -1,7 +1,7 @@
-use Rattle.std.proofs.Common.{◌≡◌, ◌∙◌, ◌<◌, ◌+◌, ◌*◌, ◌-◌, ◌++◌, ◌∷◌, [], ap, sym, subst, get_or, length, arith, ℕ, List}
+use Rattle.std.proofs.Common.{◌≡◌, ◌∙◌, ◌<◌, ◌+◌, ◌-◌, ◌++◌, ◌∷◌, [], ap, sym, subst, get_or, length, arith, ℕ, List}
 use Rattle.std.proofs.lemmas.List.{get_or_default}
 use Rattle.items.specs.Game.{GameNumbers}
-use Rattle.reach_planes.specs.Reached.{ItemsSent, sent, HasTotals}
+use Rattle.reach_planes.specs.Reached.{ItemsSent, HasTotals}
 use Rattle.reach_planes.specs.Layout.{IsStart, rows_of, digits_of}
 use Rattle.reach_planes.proofs.LoadLemmas.{AreLoadsAt, loads_at}
 use Rattle.reach_planes.proofs.planes.Planes.loads_of.Goals as goal

@@ -1,6 +1,5 @@
-use Rattle.std.proofs.Common.{◌≡◌, ◌∙◌, ◌<◌, ◌*◌, ◌+◌, ap, sym, subst, get_or, length, arith, ℕ, List}
+use Rattle.std.proofs.Common.{◌≡◌, ◌∙◌, ◌<◌, ◌*◌, ◌+◌, ap, sym, length, arith}
 use Rattle.std.proofs.lemmas.List.{get_or_default}
-use Rattle.reach_planes.specs.Reached.{ItemsSent}
 use Rattle.reach_planes.specs.Layout.{row_of, rows_of}
 use Rattle.reach_planes.proofs.LoadLemmas.{marks_seen, marks_within}
 use Rattle.reach_planes.proofs.planes.Planes.marks.Goals as goal

@@ -1,11 +1,10 @@
-use Rattle.std.proofs.Common.{◌≡◌, ◌∙◌, ◌<◌, ◌+◌, ◌*◌, ◌-◌, ◌/◌, ◌∷◌, ap, sym, subst, get_or, length, arith, ℕ, List}
+use Rattle.std.proofs.Common.{◌≡◌, ◌∙◌, ◌<◌, ◌+◌, ◌*◌, ◌-◌, ◌/◌, ◌∷◌, ap, sym, subst, get_or, length, arith, ℕ}
 use Rattle.std.specs.Int.{trailing_zeros, w64}
 use Rattle.std.proofs.lemmas.List.{get_or_default}
-use Rattle.items.specs.Game.{GameNumbers}
 use Rattle.items.specs.Packable.{Packable}
-use Rattle.reach_planes.specs.Reached.{ItemsSent, HasTotals}
+use Rattle.reach_planes.specs.Reached.{ItemsSent}
 use Rattle.reach_planes.specs.Layout.{NoBits, rows_of, halves_of, IsStart, digits_of, word_at}
-use Rattle.reach_planes.proofs.LoadLemmas.{NoBits-words, start_at_lowest, word_within, IsStartAt, not_packable_from_bits}
+use Rattle.reach_planes.proofs.LoadLemmas.{NoBits-words, start_at_lowest, word_within, not_packable_from_bits}
 use Rattle.reach_planes.proofs.planes.Planes.some_loads.Goals as goal
 use Rattle.reach_planes.proofs.planes.Planes.some_loads.Goals.{In-Some}
 
