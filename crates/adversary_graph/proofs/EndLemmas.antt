@@ -17,6 +17,7 @@ use Rattle.items.specs.Multiset.{Same, IsSize, count, put_ascending, sizes_of}
 use Rattle.items.specs.Packable.{Packable, IsPacking}
 use Rattle.items.proofs.MultisetLemmas.{count-append, count-put_ascending, sum_by-Same}
 use Rattle.items.proofs.SameLemmas.{Same-append, count_no_size}
+use Rattle.items.proofs.SizesLemmas.{sizes_are_sizes}
 use Rattle.packing_witness.specs.Edits.{without}
 use Rattle.packing_witness.proofs.PackableLemmas.{IsPacking-Same, Packable-part, sum-packing-le}
 use Rattle.packing_witness.proofs.PackingLemmas.{IsPacking-without_last, without_some}
@@ -39,7 +40,7 @@ use Rattle.adversary_graph.specs.Playing.{GoesOn, IsStep, StandsReady}
 use Rattle.adversary_graph.specs.Pools.{Pool, IsPool, IsRoot}
 use Rattle.adversary_graph.specs.Rules.{IsLongEnough, IsOver, LeadsTo, most_below_target}
 use Rattle.adversary_graph.proofs.PoolLemmas.{rules_of}
-use Rattle.adversary_graph.proofs.RuleLemmas.{sizes_are_sizes, game_volume}
+use Rattle.adversary_graph.proofs.RuleLemmas.{game_volume}
 use Rattle.adversary_graph.proofs.WonLemmas.{earlier_node, sent_sizes, not_all_over}
 use Rattle.adversary_graph.proofs.PlayLemmas.{root_ready, send_step, burst_step, Hits, hits_at, ready_packable, reaches, stays_reached, run_placed, bin_in_run}
 

@@ -21,6 +21,7 @@ use Rattle.loads.specs.Loads.{loads_after}
 use Rattle.loads.specs.Position.{StandsAt}
 use Rattle.loads.specs.declared.position.Position.{Position}
 use Rattle.items.proofs.MemberLemmas.{Contains-tail, Contains-Same}
+use Rattle.items.proofs.SizesLemmas.{sizes_are_sizes}
 use Rattle.loads.proofs.DistinctLemmas.{Contains-distinct}
 use Rattle.loads.proofs.LoadsLemmas.{Same-loads_after}
 use Rattle.online_play.specs.Algorithm.{IsAlgorithm, placed, run}
@@ -42,7 +43,6 @@ use Rattle.adversary_graph.specs.Playing.{GoesOn, IsStep, StandsReady}
 use Rattle.adversary_graph.specs.Pools.{Pool, IsPool, IsRoot}
 use Rattle.adversary_graph.specs.Rules.{IsOverAtTarget, LeadsTo}
 use Rattle.adversary_graph.proofs.PoolLemmas.{rules_of}
-use Rattle.adversary_graph.proofs.RuleLemmas.{sizes_are_sizes}
 use Rattle.adversary_graph.proofs.WonLemmas.{Met, earlier_node, packable_node}
 
 -- ---- one more item

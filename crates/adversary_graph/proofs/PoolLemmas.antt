@@ -1,15 +1,18 @@
 -- Pools: a node that comes next, the positions of the nodes, and legal strategies from pools and to pools.
-use Rattle.std.proofs.Common.{◌≡◌, ℕ, zero, suc, ◌+◌, ◌<◌, ◌≤◌, Bool, IsTrue, false, List, [], ◌∷◌, ◌++◌, Some, None, length, get_or, ◌-◌, take, map, arith, refl, ap, sym, subst}
-use Rattle.std.proofs.Common.{true, ◌∙◌, inl, inr, ◌⊎◌, ⊎_elim, eqb}
+use Rattle.std.proofs.Common.{◌≡◌, ℕ, zero, suc, ◌+◌, ◌<◌, ◌≤◌, Bool, IsTrue, false, List, [], ◌∷◌, ◌++◌, Some, None, length, get_or, ◌-◌, take, map, arith, ap, sym, subst}
+use Rattle.std.proofs.Common.{true, ◌∙◌, ◌⊎◌, ⊎_elim, eqb}
 use Rattle.std.specs.List.{All, slice_get}
 use Rattle.std.proofs.lemmas.Bool.{eqb-true, eq-eqb}
-use Rattle.std.proofs.lemmas.List.{take-append-le, length-take-le, map-append, length-append}
+use Rattle.std.proofs.lemmas.List.{take-take, take-append-le, length-take-le, map-append, length-append}
 use Rattle.std.proofs.lemmas.List.Elements.{All-push, All-nil, All-take}
 use Rattle.std.proofs.lemmas.Option.{same_Some, none-some, slice_get_within, slice_get-get_or, slice_get-map}
 use Rattle.std.specs.Option.{option_map}
 use Rattle.std.proofs.Math.Seq.{take-append_seam}
 use Rattle.items.specs.Game.{GameNumbers, IsGame}
 use Rattle.items.specs.Multiset.{sizes_of}
+use Rattle.items.proofs.ListLemmas.{slice_get-push, slice_get-take, mapped}
+use Rattle.items.proofs.SizesLemmas.{sizes_are_sizes}
+use Rattle.loads.proofs.LoadsLemmas.{multiset_from_items}
 use Rattle.loads.specs.Position.{IsEmptyPosition, position}
 use Rattle.loads.specs.declared.position.Position.{Position}
 use Rattle.strategy_text.specs.declared.node.AdvNode.{AdvNode}
@@ -20,8 +23,7 @@ use Rattle.adversary_graph.specs.Legal.{EachFollows, EachMeetsRules, IsLegal}
 use Rattle.adversary_graph.specs.Nodes.{position_of, IsOfFormat}
 use Rattle.adversary_graph.specs.Pools.{Pool, IsPool, MayComeNext, IsRoot, nodes_up_to, pool_of}
 use Rattle.adversary_graph.specs.Rules.{MeetsRules}
-use Rattle.adversary_graph.proofs.RuleLemmas.{multiset_from_items, sizes_are_sizes}
-use Rattle.adversary_graph.proofs.WonLemmas.{EachFollows-from_legal, Met, mapped, met, slice_get-take}
+use Rattle.adversary_graph.proofs.WonLemmas.{EachFollows-from_legal, Met, met}
 
 -- a node that meets its rules has loads and items of the game
 pub HasPosition-from_rules : (format : Format) (game : GameNumbers) (earlier : List Position) (last : Bool) (node : AdvNode)
@@ -41,20 +43,6 @@ with_root : (format : Format) (game : GameNumbers) (sizes : List ℕ) (earlier :
     → MeetsRules format game sizes earlier false node → (IsTrue last → IsEmptyPosition (position_of node)) → MeetsRules format game sizes earlier last node
 with_root format game sizes earlier last node m root =
     (m.0, (m.1.0, (m.1.1.0, (m.1.1.1.0, (m.1.1.1.1.0, (m.1.1.1.1.1.0, (m.1.1.1.1.1.1.0, (m.1.1.1.1.1.1.1.0, (root, tt)))))))))
-
--- the elements of a list with one more at its end
-slice_get_push : {X : Type 0} (xs : List X) (y : X) (k : ℕ) (z : X) → slice_get (xs ++ y ∷ []) k ≡ Some z → (slice_get xs k ≡ Some z) ⊎ ((k ≡ length xs) × (y ≡ z))
-slice_get_push [] y zero z e = inr (refl, same_Some y z e)
-slice_get_push [] y (suc k) z e = absurd (none-some z e)
-slice_get_push (x ∷ xs) y zero z e = inl e
-slice_get_push (x ∷ xs) y (suc k) z e =
-    ⊎_elim (λ here. inl here) (λ last. inr (ap suc last.0, last.1)) (slice_get_push xs y k z e)
-
-take-take : {X : Type 0} (xs : List X) (i k : ℕ) → i ≤ k → take i (take k xs) ≡ take i xs
-take-take xs zero k l = refl
-take-take xs (suc i) zero l = absurd (omega arith)
-take-take [] (suc i) (suc k) l = refl
-take-take (x ∷ xs) (suc i) (suc k) l = ap (λ ys. x ∷ ys) (take-take xs i k (omega arith))
 
 pub IsPool-nil : (format : Format) (game : GameNumbers) → IsGame game → IsPool (pool_of format game [])
 unfolding EachFollows
@@ -81,7 +69,7 @@ IsPool-push pool node p next =
           (λ last. subst (λ n. rules (take n (pool.nodes ++ node ∷ [])) other) (sym last.0)
           (subst (λ earlier. rules earlier other) (sym (take-append_seam pool.nodes (node ∷ [])))
           (subst (λ n. rules pool.nodes n) last.1 next.follows)))
-          (slice_get_push pool.nodes node k other e);
+          (slice_get-push pool.nodes node k other e);
     }
 
 pub map-push : (nodes : List AdvNode) (node : AdvNode) → map position_of (nodes ++ node ∷ []) ≡ map position_of nodes ++ position_of node ∷ []
@@ -107,7 +95,7 @@ IsLegal-from_pool pool root p r =
           let same : node ≡ r.0 = same_Some node r.0 (sym h.0 ∙ ap (slice_get pool.nodes) k_is ∙ r.1) in
           subst (λ (n : AdvNode). IsEmptyPosition (position_of n)) (sym same) r.2 in
           with_root pool.format pool.game sizes (map position_of (take k (take (root + 1) pool.nodes))) last node
-          (subst (λ earlier. MeetsRules pool.format pool.game sizes (map position_of earlier) false node) (sym (take-take pool.nodes k (root + 1) (omega (
+          (subst (λ earlier. MeetsRules pool.format pool.game sizes (map position_of earlier) false node) (sym (take-take k (root + 1) pool.nodes (omega (
             arith,
             h.1,
           )))) (p.follow k node h.0))

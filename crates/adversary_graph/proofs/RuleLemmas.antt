@@ -1,37 +1,14 @@
 -- What the rules of a node rest on: sizes, sums of loads, items put in at their places, and totals of packings.
 use Rattle.std.proofs.Common.{◌≡◌, ℕ, ◌+◌, ◌*◌, ◌<◌, ◌≤◌, List, [], ◌∷◌, ◌++◌, length, get_or, arith, refl, ap, zero, suc, replicate, sum, Contains, mul-le-mul}
 use Rattle.std.specs.List.{All}
-use Rattle.std.proofs.lemmas.List.Elements.{All-weaker, All-contains, All-contains_itself, All-get_or}
-use Rattle.std.proofs.lemmas.List.Sums.{sum_by-le, sum_by-cons}
+use Rattle.std.proofs.lemmas.List.Elements.{All-weaker, All-contains_itself, All-get_or}
+use Rattle.std.proofs.lemmas.List.Sums.{sum_by-cons}
 use Rattle.items.specs.Game.{GameNumbers, IsGame}
-use Rattle.items.specs.Multiset.{put_ascending, IsMultiset, IsSize, put_times, count, Same, sizes_of}
-use Rattle.items.proofs.SizesLemmas.{size_from_Contains}
+use Rattle.items.specs.Multiset.{put_ascending, put_times, count, Same}
 use Rattle.items.proofs.MultisetLemmas.{count-append, count-put_ascending, sum-put_ascending}
-use Rattle.loads.specs.Loads.{IsLoads}
 use Rattle.loads.specs.Descending.{distinct}
-use Rattle.loads.specs.Position.{AreItemsOf}
 use Rattle.loads.proofs.DistinctLemmas.{Contains-from_distinct}
 use Rattle.adversary_graph.specs.Judging.{put_all}
-
--- each size of the whole game is one
-pub sizes_are_sizes : (game : GameNumbers) → All (IsSize game.capacity) (sizes_of game)
-sizes_are_sizes game =
-    All-weaker (Contains (sizes_of game)) (IsSize game.capacity) (size_from_Contains game.capacity) (sizes_of game) (All-contains_itself (sizes_of game))
-
--- the loads of a game sum to at most 1,912
-pub loads_total : (game : GameNumbers) (loads : List ℕ) → IsGame game → IsLoads game loads → sum loads ≤ 1912
-loads_total game loads g l =
-    let each : All (λ x. x ≤ 239) loads = All-weaker (λ x. x < game.target) (λ x. x ≤ 239) (λ x h. omega (arith, h, g.target.high, g.capacity.high)) loads l.below_target in
-    omega (arith, sum_by-le (λ x. x) 239 loads each, l.one_each, g.bins.high)
-
--- the items of a node, as a multiset
-pub multiset_from_items : (game : GameNumbers) (sizes loads items : List ℕ) → IsGame game → All (IsSize game.capacity) sizes → IsLoads game loads
-    → AreItemsOf sizes loads items → IsMultiset game.capacity items
-multiset_from_items game sizes loads items g s l a = record {
-  ascending = a.ascending;
-  sizes = All-weaker (Contains sizes) (IsSize game.capacity) (λ x c. All-contains (IsSize game.capacity) sizes x s c) items a.allowed;
-  total = omega (arith, loads_total game loads g l, a.total);
-}
 
 -- numbers put in at their places
 pub sum-put_all : (ys xs : List ℕ) → sum (put_all ys xs) ≡ sum ys + sum xs

@@ -1,8 +1,7 @@
 -- A node that meets its rules has a position from which the adversary wins.
-use Rattle.std.proofs.Common.{◌≡◌, ℕ, zero, suc, ◌+◌, ◌-◌, ◌/◌, ◌<◌, ◌≤◌, Bool, IsTrue, false, Option, List, [], ◌∷◌, ◌++◌, Some, None, length, get_or, take, map, replicate}
-use Rattle.std.proofs.Common.{true, arith, refl, ap, sym, ◌∙◌, subst, sum_by, Contains, inl, inr, ◌⊎◌, ⊎_elim, eqb}
+use Rattle.std.proofs.Common.{◌≡◌, ℕ, zero, suc, ◌+◌, ◌-◌, ◌/◌, ◌<◌, ◌≤◌, Bool, IsTrue, false, List, [], ◌∷◌, ◌++◌, Some, None, length, get_or, take, map, replicate}
+use Rattle.std.proofs.Common.{true, arith, ap, sym, ◌∙◌, subst, sum_by, Contains, inl, inr, ◌⊎◌, ⊎_elim, eqb}
 use Rattle.std.specs.List.{All, slice_get}
-use Rattle.std.specs.Option.{option_map}
 use Rattle.std.proofs.Math.Nat.{div-eq-sub-div}
 use Rattle.std.proofs.lemmas.Bool.{cases_lt, eq-eqb, false≢true}
 use Rattle.std.proofs.lemmas.List.{get_or-map, length-map, length-replicate}
@@ -36,9 +35,10 @@ use Rattle.adversary_graph.specs.Laws.{is_one_of}
 use Rattle.adversary_graph.specs.Legal.{EachFollows, EachMeetsRules, IsLegal}
 use Rattle.adversary_graph.specs.Nodes.{position_of, sent_size, sent_items, placements_of}
 use Rattle.adversary_graph.specs.Rules.{MeetsRules, most_below_target, IsLongEnough, PlacesEachLoad, IsOver, IsOverAtTarget, LeadsTo, IsPacked}
-use Rattle.adversary_graph.proofs.RuleLemmas.{sizes_are_sizes}
 use Rattle.std.proofs.lemmas.Cmp.{nat_eq_equiv}
 use Rattle.std.proofs.lemmas.Map.Views.{list_any-from_Contains}
+use Rattle.items.proofs.ListLemmas.{slice_get-take, mapped}
+use Rattle.items.proofs.SizesLemmas.{sizes_are_sizes}
 
 -- ---- wins
 
@@ -81,16 +81,6 @@ burst_wins game allowed size may low (suc n) p most packable = (
 )
 
 -- ---- nodes before a node
-
-pub slice_get-take : {X : Type 0} (xs : List X) (k i : ℕ) (x : X) → slice_get (take k xs) i ≡ Some x → (slice_get xs i ≡ Some x) × (i < k)
-slice_get-take xs zero i x e = absurd (none-some x e)
-slice_get-take [] (suc k) i x e = absurd (none-some x e)
-slice_get-take (y ∷ ys) (suc k) zero x e = (e, omega arith)
-slice_get-take (y ∷ ys) (suc k) (suc i) x e = let h = slice_get-take ys k i x e in (h.0, omega (arith, h.1))
-
-pub mapped : {X Y : Type 0} (f : X → Y) (o : Option X) (y : Y) → option_map f o ≡ Some y → (x : X) × (o ≡ Some x) × (f x ≡ y)
-mapped f None y e = absurd (none-some y e)
-mapped f (Some x) y e = (x, refl, same_Some (f x) y e)
 
 -- the earlier node that stands at a position
 pub earlier_node : (nodes : List AdvNode) (k child : ℕ) (p : Position) → StandsAt (map position_of (take k nodes)) child p

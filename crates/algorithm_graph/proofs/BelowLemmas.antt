@@ -3,18 +3,18 @@ use Rattle.std.proofs.Common.{◌≡◌, ℕ, zero, suc, ◌+◌, ◌-◌, ◌<�
 use Rattle.std.proofs.Common.{sym, ap, ◌∙◌}
 use Rattle.std.proofs.Common.{subst, arith, inl, inr}
 use Rattle.std.specs.Prelude.{All, Contains, find, fold, position, slice_get, MatchOption}
-use Rattle.std.specs.Option.{option_map}
 use Rattle.std.proofs.lemmas.Bool.{cases_Bool, eqb-true, eqb-false, eq-eqb}
 use Rattle.std.proofs.lemmas.List.{append_assoc}
 use Rattle.std.proofs.lemmas.List.Elements.{All-head, All-tail, All-contains, All-weaker}
-use Rattle.std.proofs.lemmas.Option.{slice_get-map, slice_get-get_or, same_Some, none-some}
+use Rattle.std.proofs.lemmas.Option.{slice_get-map, slice_get-get_or}
 use Rattle.items.specs.Game.{GameNumbers}
 use Rattle.items.specs.Multiset.{Same, IsSize, count, put_ascending, sizes_of}
 use Rattle.items.specs.Packable.{Packable}
-use Rattle.items.proofs.MemberLemmas.{Contains-tail, Contains-nil, Contains-Same, all_from_counts, at_count}
+use Rattle.items.proofs.MemberLemmas.{Contains-tail, Contains-nil, Contains-Same}
 use Rattle.items.proofs.MultisetLemmas.{Same-push_put}
-use Rattle.items.proofs.SameLemmas.{Same-append, Same-sym}
+use Rattle.items.proofs.SameLemmas.{All-Same, Same-append, Same-push, Same-sym}
 use Rattle.items.proofs.SizesLemmas.{Contains_from_size}
+use Rattle.items.proofs.ListLemmas.{slice_get-take, mapped}
 use Rattle.packing_witness.proofs.PackableLemmas.{Packable-Same, Packable-front}
 use Rattle.loads.specs.After.{after}
 use Rattle.loads.specs.Loads.{IsLoads, IsLowestBin, loads_after}
@@ -85,23 +85,7 @@ bin_cases actual load (Some bin) c e h = (bin, record { found = e; lowest = h })
 pub bin_for : (actual : List ℕ) (load : ℕ) → Contains actual load → (bin : ℕ) × IsBinFor actual load bin
 bin_for actual load c = bin_cases actual load (position (λ held. eqb held load) actual) c refl (position-cases load actual)
 
-All-Same : (P : ℕ → Type 0) (xs ys : List ℕ) → Same xs ys → All P ys → All P xs
-All-Same P xs ys s all = all_from_counts P xs (λ x some. at_count P x ys all (omega (arith, s x, some)))
-
-Same-push : (xs ys : List ℕ) (x : ℕ) → Same xs ys → Same (xs ++ x ∷ []) (ys ++ x ∷ [])
-Same-push xs ys x s = Same-append xs ys (x ∷ []) (x ∷ []) s (λ z. refl)
-
 -- ---- earlier nodes
-
-pub slice_get-take : {X : Type 0} (xs : List X) (k i : ℕ) (x : X) → slice_get (take k xs) i ≡ Some x → (slice_get xs i ≡ Some x) × (i < k)
-slice_get-take xs zero i x e = absurd (none-some x e)
-slice_get-take [] (suc k) i x e = absurd (none-some x e)
-slice_get-take (y ∷ ys) (suc k) zero x e = (e, omega arith)
-slice_get-take (y ∷ ys) (suc k) (suc i) x e = let h = slice_get-take ys k i x e in (h.0, omega (arith, h.1))
-
-pub mapped : {X Y : Type 0} (f : X → Y) (o : Option X) (y : Y) → option_map f o ≡ Some y → (x : X) × (o ≡ Some x) × (f x ≡ y)
-mapped f None y e = absurd (none-some y e)
-mapped f (Some x) y e = (x, refl, same_Some (f x) y e)
 
 -- the earlier node that stands at a position
 pub earlier_node : (nodes : List AlgNode) (k child : ℕ) (p : Position) → StandsAt (map position_of (take k nodes)) child p
@@ -233,7 +217,7 @@ module _ (format : Format) (game : GameNumbers) (sizes : List ℕ) (nodes : List
   unfolding loads_from
   keep_from [] k node history actual at packable all =
       let rules = meets format game sizes nodes legal k node at.here in
-      All-Same (λ load. load < game.target) actual node.loads at.loads rules.loads.below_target
+      All-Same (λ load. load < game.target) node.loads actual (Same-sym actual node.loads at.loads) rules.loads.below_target
   keep_from (size ∷ more) k node history actual at packable all =
       subst (λ (o : Option AlgNode). All (λ load. load < game.target) (fold (after_item game nodes) (moved actual size (node_move game k actual size o)) more).actual) (sym at.here)
       (act_keeps more (keep_from more) k node history actual size node.act refl at packable all)

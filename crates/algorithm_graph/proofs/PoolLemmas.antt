@@ -1,17 +1,20 @@
 -- Pools: a node that comes next, the positions of the nodes, and legal strategies from pools and to pools.
-use Rattle.std.proofs.Common.{◌≡◌, ℕ, zero, suc, ◌+◌, ◌<◌, ◌≤◌, Bool, IsTrue, false, List, [], ◌∷◌, ◌++◌, Some, None, length, get_or, ◌-◌, take, map, arith, refl, ap, sym, subst}
+use Rattle.std.proofs.Common.{◌≡◌, ℕ, zero, suc, ◌+◌, ◌<◌, ◌≤◌, Bool, IsTrue, false, List, [], ◌∷◌, ◌++◌, Some, None, length, get_or, ◌-◌, take, map, arith, ap, sym, subst}
 use Rattle.std.proofs.Common.{true}
-use Rattle.std.proofs.Common.{◌∙◌, inl, inr, ◌⊎◌, ⊎_elim, eqb}
+use Rattle.std.proofs.Common.{◌∙◌, ◌⊎◌, ⊎_elim, eqb}
 use Rattle.std.proofs.lemmas.Bool.{false≢true}
 use Rattle.std.specs.List.{All, slice_get}
 use Rattle.std.proofs.lemmas.Bool.{eqb-true, eq-eqb}
-use Rattle.std.proofs.lemmas.List.{take-append-le, length-take, length-take-le, map-append, length-append}
+use Rattle.std.proofs.lemmas.List.{take-take, take-append-le, length-take, length-take-le, map-append, length-append}
 use Rattle.std.proofs.lemmas.List.Elements.{All-push, All-nil, All-take}
 use Rattle.std.proofs.lemmas.Option.{same_Some, none-some, slice_get_past, slice_get_within, slice_get-get_or, slice_get-map}
 use Rattle.std.specs.Option.{option_map}
 use Rattle.std.proofs.Math.Seq.{take-append_seam}
 use Rattle.items.specs.Game.{GameNumbers, IsGame}
 use Rattle.items.specs.Multiset.{sizes_of}
+use Rattle.items.proofs.ListLemmas.{slice_get-push, slice_get-take, mapped}
+use Rattle.items.proofs.SizesLemmas.{sizes_are_sizes}
+use Rattle.loads.proofs.LoadsLemmas.{multiset_from_items}
 use Rattle.loads.specs.Position.{IsEmptyPosition, position}
 use Rattle.loads.specs.declared.position.Position.{Position}
 use Rattle.strategy_text.specs.declared.node.AlgNode.{AlgNode}
@@ -23,9 +26,7 @@ use Rattle.algorithm_graph.specs.Legal.{EachFollows, EachMeetsRules, IsLegal}
 use Rattle.algorithm_graph.specs.Nodes.{position_of, IsOfFormat}
 use Rattle.algorithm_graph.specs.Pools.{Pool, IsPool, MayComeNext, IsRoot, nodes_up_to, pool_of}
 use Rattle.algorithm_graph.specs.Rules.{MeetsRules, BigFinishesIfSaid}
-use Rattle.algorithm_graph.proofs.RuleLemmas.{multiset_from_items, sizes_are_sizes}
 use Rattle.algorithm_graph.specs.Replaying.{LeavesABin}
-use Rattle.algorithm_graph.proofs.BelowLemmas.{mapped, slice_get-take}
 
 -- a node that meets its rules has loads and items of the game
 pub HasPosition-from_rules : (game : GameNumbers) (earlier : List Position) (last : Bool) (node : AlgNode)
@@ -43,25 +44,12 @@ not_last : (game : GameNumbers) (sizes : List ℕ) (earlier : List Position) (la
     → MeetsRules game sizes earlier last node → MeetsRules game sizes earlier false node
 not_last game sizes earlier last node m = with_root game sizes earlier last false node m (λ e. absurd (false≢true e))
 
--- the elements of a list with one more at its end
-slice_get_push : {X : Type 0} (xs : List X) (y : X) (k : ℕ) (z : X) → slice_get (xs ++ y ∷ []) k ≡ Some z → (slice_get xs k ≡ Some z) ⊎ ((k ≡ length xs) × (y ≡ z))
-slice_get_push [] y zero z e = inr (refl, same_Some y z e)
-slice_get_push [] y (suc k) z e = absurd (none-some z e)
-slice_get_push (x ∷ xs) y zero z e = inl e
-slice_get_push (x ∷ xs) y (suc k) z e =
-    ⊎_elim (λ here. inl here) (λ last. inr (ap suc last.0, last.1)) (slice_get_push xs y k z e)
-
+-- an element of the first ones of a list
 slice_get-take-within : {X : Type 0} (xs : List X) (k i : ℕ) (x : X) → i < k → slice_get xs i ≡ Some x → slice_get (take k xs) i ≡ Some x
 slice_get-take-within xs zero i x l e = absurd (omega arith)
 slice_get-take-within [] (suc k) i x l e = absurd (none-some x e)
 slice_get-take-within (y ∷ ys) (suc k) zero x l e = e
 slice_get-take-within (y ∷ ys) (suc k) (suc i) x l e = slice_get-take-within ys k i x (omega arith) e
-
-take-take : {X : Type 0} (xs : List X) (i k : ℕ) → i ≤ k → take i (take k xs) ≡ take i xs
-take-take xs zero k l = refl
-take-take xs (suc i) zero l = absurd (omega arith)
-take-take [] (suc i) (suc k) l = refl
-take-take (x ∷ xs) (suc i) (suc k) l = ap (λ ys. x ∷ ys) (take-take xs i k (omega arith))
 
 pub IsPool-nil : (format : Format) (game : GameNumbers) → IsGame game → IsPool (pool_of format game [])
 unfolding EachFollows
@@ -86,7 +74,7 @@ IsPool-push pool node p next =
           (λ last. subst (λ n. rules (take n (pool.nodes ++ node ∷ [])) other) (sym last.0)
           (subst (λ earlier. rules earlier other) (sym (take-append_seam pool.nodes (node ∷ [])))
           (subst (λ n. rules pool.nodes n) last.1 next.follows)))
-          (slice_get_push pool.nodes node k other e);
+          (slice_get-push pool.nodes node k other e);
     }
 
 pub map-push : (nodes : List AlgNode) (node : AlgNode) → map position_of (nodes ++ node ∷ []) ≡ map position_of nodes ++ position_of node ∷ []
@@ -113,7 +101,7 @@ IsLegal-from_pool pool root p r =
           subst (λ (n : AlgNode). IsEmptyPosition (position_of n)) (sym same) r.2 in
           with_root pool.game sizes (map position_of (take k (take (root + 1) pool.nodes))) false last node
           (subst (λ earlier. MeetsRules pool.game sizes (map position_of earlier) false node)
-          (sym (take-take pool.nodes k (root + 1) (omega (arith, h.1)))) (p.follow k node h.0))
+          (sym (take-take k (root + 1) pool.nodes (omega (arith, h.1)))) (p.follow k node h.0))
           empty;
     }
 

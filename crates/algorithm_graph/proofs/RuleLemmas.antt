@@ -2,12 +2,10 @@
 use Rattle.std.proofs.Common.{◌≡◌, ℕ, ◌<◌, ◌≤◌, ◌+◌, Bool, Option, Some, None, List, arith, sum, set, subst, inr, Contains}
 use Rattle.std.specs.Prelude.{MatchOption}
 use Rattle.std.specs.List.{All}
-use Rattle.std.proofs.lemmas.List.Elements.{All-weaker, All-set, All-contains, All-contains_itself}
+use Rattle.std.proofs.lemmas.List.Elements.{All-weaker, All-set}
 use Rattle.std.proofs.lemmas.List.Sums.{sum_by-le, sum_by-set}
 use Rattle.std.proofs.lemmas.List.{length-set}
 use Rattle.items.specs.Game.{GameNumbers, IsGame}
-use Rattle.items.specs.Multiset.{IsMultiset, IsSize, sizes_of}
-use Rattle.items.proofs.SizesLemmas.{size_from_Contains}
 use Rattle.loads.specs.Loads.{IsLoads}
 use Rattle.loads.specs.Position.{AreItemsOf}
 use Rattle.loads.specs.declared.position.Position.{Position}
@@ -18,22 +16,7 @@ use Rattle.algorithm_graph.specs.Nodes.{position_of}
 use Rattle.algorithm_graph.specs.Rules.{Meets, MeetsRules, Breaks, rules_past_items}
 use Rattle.algorithm_graph.specs.Judging.{node_at, BreaksPastItems}
 
--- each size of the whole game is one
-pub sizes_are_sizes : (game : GameNumbers) → All (IsSize game.capacity) (sizes_of game)
-sizes_are_sizes game =
-    All-weaker (Contains (sizes_of game)) (IsSize game.capacity) (size_from_Contains game.capacity) (sizes_of game) (All-contains_itself (sizes_of game))
-
--- members of the sizes are sizes
-pub members_are_sizes : (most : ℕ) (sizes xs : List ℕ) → All (IsSize most) sizes → All (Contains sizes) xs → All (IsSize most) xs
-members_are_sizes most sizes xs s c = All-weaker (Contains sizes) (IsSize most) (λ x h. All-contains (IsSize most) sizes x s h) xs c
-
--- the loads of a game sum to at most 1,912
-pub loads_total : (game : GameNumbers) (loads : List ℕ) → IsGame game → IsLoads game loads → sum loads ≤ 1912
-loads_total game loads g l =
-    let each : All (λ x. x ≤ 239) loads = All-weaker (λ x. x < game.target) (λ x. x ≤ 239) (λ x h. omega (arith, h, g.target.high, g.capacity.high)) loads l.below_target in
-    omega (arith, sum_by-le (λ x. x) 239 loads each, l.one_each, g.bins.high)
-
--- also with an item that leaves its load below the target
+-- the loads of a game sum to at most 1,912, also with an item that leaves its load below the target
 pub loads_total_after : (game : GameNumbers) (loads : List ℕ) (load size : ℕ) → IsGame game → IsLoads game loads → Contains loads load
     → load + size < game.target → sum loads + size ≤ 1912
 loads_total_after game loads load size g l c below =
@@ -41,15 +24,6 @@ loads_total_after game loads load size g l c below =
     let small : All (λ x. x ≤ 239) loads = All-weaker (λ x. x < game.target) (λ x. x ≤ 239) (λ x h. omega (arith, h, g.target.high, g.capacity.high)) loads l.below_target in
     let each : All (λ x. x ≤ 239) after = All-set (λ x. x ≤ 239) loads c.0 (load + size) (omega (arith, below, g.target.high, g.capacity.high)) small in
     omega (arith, sum_by-le (λ x. x) 239 after each, sum_by-set (λ x. x) loads c.0 (load + size) load c.1, c.2, length-set loads c.0 (load + size), l.one_each, g.bins.high)
-
--- the items of a node, as a multiset
-pub multiset_from_items : (game : GameNumbers) (sizes loads items : List ℕ) → IsGame game → All (IsSize game.capacity) sizes → IsLoads game loads
-    → AreItemsOf sizes loads items → IsMultiset game.capacity items
-multiset_from_items game sizes loads items g s l a = record {
-  ascending = a.ascending;
-  sizes = members_are_sizes game.capacity sizes items s a.allowed;
-  total = omega (arith, loads_total game loads g l, a.total);
-}
 
 -- the rules past `items` of a position are those of the node that has it
 pub breaks_past_items : (game : GameNumbers) (sizes : List ℕ) (earlier : List Position) (last : Bool) (node : AlgNode) (p : Position) (rule : Rule) (fault : Option Rule)

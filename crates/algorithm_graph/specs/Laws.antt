@@ -19,8 +19,8 @@ RunsAreReplays =
     (game : GameNumbers) (nodes : List AlgNode) (items : List ℕ) → IsGame game
     → run game (replies game nodes) items ≡ (replayed game nodes items).actual
 
--- over the sizes that items may have: the loads of a replay of a legal strategy stay below the target, on every packable
--- list of items of these sizes
+-- over the sizes that items may have: the loads of a replay of a legal strategy stay below the target, on every
+-- packable list of items of these sizes
 abbrev pub LegalReplaysStayBelow : Type 0
 LegalReplaysStayBelow =
     (format : Format) (game : GameNumbers) (sizes : List ℕ) (nodes : List AlgNode) (items : List ℕ)

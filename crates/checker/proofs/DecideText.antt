@@ -1,14 +1,13 @@
 -- Each text has a first fault, or it is that of a legal strategy of a wanted side.
 use Rattle.std.proofs.Common.{◌≡◌, ◌≢◌, ◌⊎◌, ◌==◌, inl, inr, ℕ, zero, suc, ◌+◌, ◌<◌, ◌≤◌, List, [], ◌∷◌, ◌++◌, length, map, Option, Some, None, sym, ap, ◌∙◌, subst, refl}
 use Rattle.std.proofs.Common.{arith, append_assoc}
-use Rattle.std.specs.List.{slice_get}
 use Rattle.std.proofs.lemmas.Bool.{cases_eq}
 use Rattle.std.proofs.lemmas.Grind.{flat_map-append}
 use Rattle.std.proofs.lemmas.List.{append-nil, length-map, length_push}
 use Rattle.std.proofs.lemmas.List.Elements.{All-nil, All-cons, All-append}
 use Rattle.port_io.specs.Lines.{ReaderState, IsLine, HasNoLf, with_lf, longest_line}
 use Rattle.port_io.proofs.NextLemmas.{with_lf-only}
-use Rattle.checker.proofs.LineLemmas.{HasNoLf-with_lf}
+use Rattle.port_io.proofs.NextLemmas.{HasNoLf-with_lf}
 use Rattle.items.specs.Game.{GameNumbers, IsGame}
 use Rattle.loads.specs.declared.position.Position.{Position}
 use Rattle.strategy_text.specs.Reading.{game_at, count_at, adversary_at, algorithm_at}
@@ -29,7 +28,7 @@ use Rattle.strategy_text.proofs.HeadLines.{game_exact, count_exact}
 use Rattle.strategy_text.proofs.NodeLines.{adversary_line_takes, algorithm_line_takes, adversary_refused, algorithm_refused}
 use Rattle.checker.specs.Accepted.{IsFaultOf}
 use Rattle.checker.specs.FirstFault.{IsWanted, IsFirstLine, IsGameLine, IsSideLine, IsCountLine, HasNoFault, IsLegalText}
-use Rattle.checker.specs.Head.{Head, head_of_game, position_of, side_of_node, SpellsUnder, IsNodeLine, IsBrokenNodeLine}
+use Rattle.checker.specs.Head.{Head, head_of_game, position_of, SpellsUnder, IsNodeLine, IsBrokenNodeLine}
 use Rattle.checker.specs.Laws.{HasFirstFault, EveryTextHasAFirstFaultOrNone, OnlyLegalTextsHaveNoFault}
 use Rattle.checker.specs.Progress.{StandFirst, HasNext, IsWrongNext, IsWrongAfter, RefusesAfter, IsPastEnd, NoRule, BreaksGame, BreaksSide, IsHead, lines_of_head, AreJudged}
 use Rattle.checker.specs.declared.fault.CheckFault.{CheckFault}
@@ -40,7 +39,7 @@ use Rattle.checker.specs.declared.fault.Why.{Why}
 use Rattle.checker.specs.declared.fault.Why.TheVariants as why
 use Rattle.checker.proofs.NodeLemmas.{AreJudged-none, AreJudged-push, node_lines_push}
 use Rattle.checker.proofs.FaultLemmas.{exit_first, exit_game, exit_side, exit_count, exit_node, exit_end, exit_past, lines_of_text}
-use Rattle.checker.proofs.TextLemmas.{legal_from}
+use Rattle.checker.proofs.TextLemmas.{legal_from, nodes_kept}
 use Rattle.checker.proofs.LegalText.{legal_text_has_no_fault}
 use Rattle.checker.proofs.DecideLemmas.{Decided, decided_by, decided_le, decided_lists, decided_game}
 use Rattle.checker.proofs.DecideRules.{IsJudged, judged_node}
@@ -194,24 +193,6 @@ StandFirst-push given line bytes rest more s is e =
     }
 
 -- ---- after the nodes
-
--- the nodes of one side, as a strategy keeps them
-adversary_kept : (list : List AnyNode) → ((k : ℕ) (node : AnyNode) → slice_get list k ≡ Some node → side_of_node node ≡ Adversary)
-    → (kept : List AdvNode) × (map of_adversary kept ≡ list)
-adversary_kept [] h = ([], refl)
-adversary_kept (of_adversary node ∷ list) h = let r = adversary_kept list (λ k n e. h (suc k) n e) in (node ∷ r.0, ap (λ ns. of_adversary node ∷ ns) r.1)
-adversary_kept (of_algorithm node ∷ list) h = let other : Algorithm ≡ Adversary = h zero (of_algorithm node) refl in absurd cc
-
-algorithm_kept : (list : List AnyNode) → ((k : ℕ) (node : AnyNode) → slice_get list k ≡ Some node → side_of_node node ≡ Algorithm)
-    → (kept : List AlgNode) × (map of_algorithm kept ≡ list)
-algorithm_kept [] h = ([], refl)
-algorithm_kept (of_algorithm node ∷ list) h = let r = algorithm_kept list (λ k n e. h (suc k) n e) in (node ∷ r.0, ap (λ ns. of_algorithm node ∷ ns) r.1)
-algorithm_kept (of_adversary node ∷ list) h = let other : Adversary ≡ Algorithm = h zero (of_adversary node) refl in absurd cc
-
-nodes_kept : (side : Side) (list : List AnyNode) → ((k : ℕ) (node : AnyNode) → slice_get list k ≡ Some node → side_of_node node ≡ side)
-    → (kept : Nodes) × (nodes_of kept ≡ list) × (side_of kept ≡ side)
-nodes_kept Adversary list h = let r = adversary_kept list h in (nodes.Adversary r.0, r.1, refl)
-nodes_kept Algorithm list h = let r = algorithm_kept list h in (nodes.Algorithm r.0, r.1, refl)
 
 legal_kept : (wanted : Wanted) (head : Head) (kept : Nodes) (bytes : List ℕ) → IsHead wanted head → side_of kept ≡ head.side
     → AreJudged head (nodes_of kept) → length (nodes_of kept) ≡ head.count → StandFirst (lines_of_text head (nodes_of kept)) bytes []

@@ -1,27 +1,30 @@
 -- The first fault of bytes, from the lines that stand first and what is wrong after them.
-use Rattle.std.proofs.Common.{◌≡◌, ◌≢◌, ◌==◌, inl, inr, ℕ, suc, zero, ◌+◌, ◌<◌, ◌≤◌, List, [], ◌∷◌, ◌++◌, length, get_or, take, map, Option, Some, None, sym, ap, ◌∙◌, subst, refl, arith, length-append, IfSome}
+use Rattle.std.proofs.Common.{◌≡◌, ◌≢◌, ◌==◌, ℕ, suc, zero, ◌+◌, ◌<◌, ◌≤◌, List, [], ◌∷◌, ◌++◌, length, get_or}
+use Rattle.std.proofs.Common.{take, map, Option, Some, sym, ap, ◌∙◌, subst, refl, arith, length-append}
 use Rattle.std.specs.List.{slice_get}
 use Rattle.std.proofs.lemmas.List.{length-map, length_push, append-nil}
 use Rattle.std.proofs.lemmas.Option.{slice_get_within, slice_get-get_or}
-use Rattle.port_io.specs.Lines.{ReaderState, HasNoLf, with_lf}
+use Rattle.port_io.specs.Lines.{ReaderState}
 use Rattle.items.specs.Game.{GameNumbers, IsGame}
 use Rattle.loads.specs.declared.position.Position.{Position}
-use Rattle.strategy_text.specs.Spelling.{SpellsGame, SpellsCount, most_nodes}
-use Rattle.strategy_text.specs.Text.{AnyNode, node_line, node_lines, first_line, game_line, side_line, count_line, end_line, text_of_lines}
+use Rattle.strategy_text.specs.Spelling.{SpellsGame, most_nodes}
+use Rattle.strategy_text.specs.Text.{AnyNode, node_line, node_lines, first_line, game_line, side_line, end_line}
 use Rattle.strategy_text.specs.declared.node.Format.{Format}
 use Rattle.strategy_text.specs.declared.node.Side.{Side}
 use Rattle.strategy_text.specs.declared.rule.Rule.{Rule}
-use Rattle.checker.specs.Accepted.{IsFaultOf, Rejects}
-use Rattle.checker.specs.FirstFault.{HasForm, HasWhole, HasBytesPast, HasPositions, IsWanted, IsFirstLine, IsGameLine, IsSideLine, IsCountLine, HasHead, HeadFault, first_syntax, game_syntax, game_rule, side_syntax, side_rule, count_syntax, BodyFault, node_syntax, node_rule, end_syntax, past_syntax, LineFault, in_head, in_body, FirstFault, HasNoWholeFault}
-use Rattle.checker.specs.Head.{Head, position_of, SpellsUnder, MeetsRules, Breaks, EachMeetsRules, IsNodeLine, IsBrokenNodeLine}
+use Rattle.checker.specs.Accepted.{IsFaultOf}
+use Rattle.checker.specs.FirstFault.{HasForm, HasWhole, HasBytesPast, HasPositions, IsWanted, IsFirstLine, IsGameLine, IsSideLine, IsCountLine}
+use Rattle.checker.specs.FirstFault.{HasHead, HeadFault, first_syntax, game_syntax, game_rule, side_syntax, side_rule, count_syntax, BodyFault}
+use Rattle.checker.specs.FirstFault.{node_syntax, node_rule, end_syntax, past_syntax, LineFault, in_head, in_body, FirstFault}
+use Rattle.checker.specs.Head.{Head, position_of, MeetsRules, EachMeetsRules, IsNodeLine, IsBrokenNodeLine}
 use Rattle.checker.specs.Progress.{StandFirst, IsWrongNext, IsWrongAfter, RefusesAfter, IsPastEnd, NoRule, BreaksGame, BreaksSide, IsHead, lines_of_head, AreJudged}
 use Rattle.checker.specs.declared.fault.CheckFault.{CheckFault}
 use Rattle.checker.specs.declared.fault.CheckFault.TheVariants.{Rejected, Read, Memory}
 use Rattle.checker.specs.declared.fault.Wanted.{Wanted}
 use Rattle.checker.specs.declared.fault.Why.{Why}
 use Rattle.checker.specs.declared.fault.Why.TheVariants as why
-use Rattle.checker.proofs.HeadLemmas.{sides_same, game_same, side_same, count_same, head_same, first_from, game_from, side_from, head_from}
-use Rattle.checker.proofs.LineLemmas.{no_lf, same_rest, HasLine-same, next_from, form_from, line_at, front_get, after_get, HasWhole-from, few_whole}
+use Rattle.checker.proofs.HeadLemmas.{game_same, side_same, head_same, first_from, game_from, side_from, head_from}
+use Rattle.checker.proofs.LineLemmas.{next_from, form_from, line_at, front_get, after_get, HasWhole-from, few_whole}
 use Rattle.checker.proofs.NodeLemmas.{meets_excludes, HasNodes, node_same, positions_front, HasPositions-from, length-node_lines, node_lines_get}
 use Rattle.checker.proofs.ProgressLemmas.{told_all, told_at}
 
@@ -69,9 +72,11 @@ node_meets : (bytes : List ℕ) (head : Head) (earlier : List Position) (rule : 
 node_meets bytes head earlier rule high f few told form =
     let broken = form.2 in
     let within : length earlier < length f.nodes = slice_get_within f.nodes (length earlier) f.node f.at in
-    let same : f.node ≡ broken.0 = node_same bytes head (head.start + length earlier) (length earlier) f.node broken.0 (omega arith) (f.stand (length earlier) f.node f.at) (form.0, form.1, broken.1) in
+    let same : f.node ≡ broken.0 = node_same bytes head (head.start + length earlier) (length earlier) f.node broken.0 (omega arith) (f.stand (length earlier) f.node f.at)
+    (form.0, form.1, broken.1) in
     let front : map position_of (take (length earlier) f.nodes) ≡ earlier = positions_front bytes head f.nodes earlier (omega arith) (omega arith) f.stand told in
-    let meets : MeetsRules head (map position_of (take (length earlier) f.nodes)) (length earlier + 1 == head.count) f.node = meets_at head f.nodes (length earlier) f.node f.each f.at in
+    let meets : MeetsRules head (map position_of (take (length earlier) f.nodes)) (length earlier + 1 == head.count) f.node = meets_at head f.nodes
+    (length earlier) f.node f.each f.at in
     let here : MeetsRules head earlier (length earlier + 1 == head.count) broken.0 =
     subst (λ (n : AnyNode). MeetsRules head earlier (length earlier + 1 == head.count) n) same
     (subst (λ (ps : List Position). MeetsRules head ps (length earlier + 1 == head.count) f.node) front meets) in
@@ -141,9 +146,11 @@ pub HasNodes-from : (head : Head) (nodes : List AnyNode) (more : List (List ℕ)
     → StandFirst (lines_of_head head ++ node_lines 0 nodes ++ more) bytes rest → HasNodes bytes head nodes
 HasNodes-from head nodes more bytes rest start judged stood k node e =
     let line : List ℕ = node_line k node in
-    let get : slice_get (node_lines 0 nodes ++ more) k ≡ Some line = front_get (node_lines 0 nodes) more k line (node_lines_get 0 nodes k node e ∙ ap (λ (i : ℕ). Some (node_line i node)) (omega arith)) in (
+    let get : slice_get (node_lines 0 nodes ++ more) k ≡ Some line = front_get (node_lines 0 nodes) more k line
+    (node_lines_get 0 nodes k node e ∙ ap (λ (i : ℕ). Some (node_line i node)) (omega arith)) in (
       line,
-      line_at (lines_of_head head ++ node_lines 0 nodes ++ more) bytes rest (4 + k) (head.start + k) line stood (after_get (lines_of_head head) (node_lines 0 nodes ++ more) k line get) (omega (arith, start)),
+      line_at (lines_of_head head ++ node_lines 0 nodes ++ more) bytes rest (4 + k) (head.start + k) line stood
+          (after_get (lines_of_head head) (node_lines 0 nodes ++ more) k line get) (omega (arith, start)),
       judged.spelled k node e,
     )
 
@@ -152,21 +159,26 @@ HasNodes-from head nodes more bytes rest start judged stood k node e =
 -- What is wrong after lines that have no fault is the first fault. Where a read failed after them, no whole line has a fault.
 conclude : (wanted : Wanted) (given : List (List ℕ)) (Wrong : CheckFault → List ℕ → Type 0) (fault : CheckFault) (old : ReaderState) (left new_left : Option (List ℕ))
     → ((bytes rest : List ℕ) → StandFirst given bytes rest → Faultless wanted bytes (length given + 1))
-    → ((bytes rest : List ℕ) (line : ℕ) (cause : Why) → StandFirst given bytes rest → Wrong (Rejected line cause) rest → (line ≡ length given + 1) × LineFault wanted bytes (length given + 1) cause) → RefusesAfter given Wrong fault old left new_left → IsFaultOf wanted old.held fault left new_left
+    → ((bytes rest : List ℕ) (line : ℕ) (cause : Why) → StandFirst given bytes rest → Wrong (Rejected line cause) rest → (line ≡ length given + 1)
+    × LineFault wanted bytes (length given + 1) cause) → RefusesAfter given Wrong fault old left new_left → IsFaultOf wanted old.held fault left new_left
 conclude wanted given Wrong (Rejected line cause) old left new_left clean wrong r =
-    let first : (bytes : List ℕ) → IsWrongAfter given Wrong (Rejected line cause) bytes → FirstFault wanted bytes line cause = λ bytes w. (let f = wrong bytes w.0 line cause w.1 w.2 in FirstFault-at wanted bytes (length given + 1) line cause f.0 f.1 (clean bytes w.0 w.1)) in
+    let first : (bytes : List ℕ) → IsWrongAfter given Wrong (Rejected line cause) bytes
+    → FirstFault wanted bytes line cause = λ bytes w. (let f = wrong bytes w.0 line cause w.1 w.2 in FirstFault-at wanted bytes (length given + 1) line cause f.0 f.1
+    (clean bytes w.0 w.1)) in
     record {
       read = r.read;
       gone = r.gone;
       first = first (old.held ++ r.read) r.in_hand;
-      first_of_input = told_all (λ bytes. FirstFault wanted (old.held ++ bytes) line cause) left (λ bytes e. first (old.held ++ bytes) (told_at (λ bytes. IsWrongAfter given Wrong (Rejected line cause) (old.held ++ bytes)) left bytes r.in_all e));
+      first_of_input = told_all (λ bytes. FirstFault wanted (old.held ++ bytes) line cause) left
+          (λ bytes e. first (old.held ++ bytes) (told_at (λ bytes. IsWrongAfter given Wrong (Rejected line cause) (old.held ++ bytes)) left bytes r.in_all e));
     }
 conclude wanted given Wrong Read old left new_left clean wrong r =
     let n = r.no_line refl in
     record {
       read = r.read;
       gone = r.gone;
-      faultless = λ line rest fault whole f. none_below wanted (old.held ++ r.read) (length given + 1) (clean (old.held ++ r.read) n.0 n.1) line fault (omega (arith, few_whole given (old.held ++ r.read) n.0 rest line n.1 n.2 whole)) f;
+      faultless = λ line rest fault whole f. none_below wanted (old.held ++ r.read) (length given + 1) (clean (old.held ++ r.read) n.0 n.1) line fault
+          (omega (arith, few_whole given (old.held ++ r.read) n.0 rest line n.1 n.2 whole)) f;
     }
 conclude wanted given Wrong Memory old left new_left clean wrong r = (r.read, r.gone)
 
@@ -206,7 +218,8 @@ pub exit_first : (wanted : Wanted) (fault : CheckFault) (old : ReaderState) (lef
     → RefusesAfter [] (IsWrongNext 1 IsFirstLine NoRule) fault old left new_left → IsFaultOf wanted old.held fault left new_left
 exit_first wanted fault old left new_left r =
     conclude wanted [] (IsWrongNext 1 IsFirstLine NoRule) fault old left new_left
-    (λ bytes rest stood. Faultless-head wanted bytes 1 (omega arith) (λ l. absurd (omega arith)) (λ l. absurd (omega arith)) (λ l. absurd (omega arith)) (λ l. absurd (omega arith)))
+    (λ bytes rest stood. Faultless-head wanted bytes 1 (omega arith) (λ l. absurd (omega arith)) (λ l. absurd (omega arith)) (λ l. absurd (omega arith))
+    (λ l. absurd (omega arith)))
     (λ bytes rest line cause stood w. let f = refused_at [] 1 IsFirstLine NoRule bytes rest line cause refl stood w in (f.0, first_fault wanted bytes cause f.1))
     r
 
@@ -214,8 +227,10 @@ pub exit_game : (wanted : Wanted) (format : Format) (fault : CheckFault) (old : 
     → RefusesAfter (first_line format ∷ []) (IsWrongNext 2 IsGameLine BreaksGame) fault old left new_left → IsFaultOf wanted old.held fault left new_left
 exit_game wanted format fault old left new_left r =
     conclude wanted (first_line format ∷ []) (IsWrongNext 2 IsGameLine BreaksGame) fault old left new_left
-    (λ bytes rest stood. let one = first_from format [] bytes rest stood in Faultless-head wanted bytes 2 (omega arith) (λ l. (one.0, one.1, (format, one.2))) (λ l. absurd (omega arith)) (λ l. absurd (omega arith)) (λ l. absurd (omega arith)))
-    (λ bytes rest line cause stood w. let f = refused_at (first_line format ∷ []) 2 IsGameLine BreaksGame bytes rest line cause refl stood w in (f.0, game_fault wanted bytes cause f.1))
+    (λ bytes rest stood. let one = first_from format [] bytes rest stood in Faultless-head wanted bytes 2 (omega arith) (λ l. (one.0, one.1, (format, one.2)))
+    (λ l. absurd (omega arith)) (λ l. absurd (omega arith)) (λ l. absurd (omega arith)))
+    (λ bytes rest line cause stood w. let f = refused_at (first_line format ∷ []) 2 IsGameLine BreaksGame bytes rest line cause refl stood w in
+    (f.0, game_fault wanted bytes cause f.1))
     r
 
 pub exit_side : (wanted : Wanted) (format : Format) (game : GameNumbers) (fault : CheckFault) (old : ReaderState) (left new_left : Option (List ℕ)) → IsGame game
@@ -224,8 +239,10 @@ exit_side wanted format game fault old left new_left of_game r =
     conclude wanted (first_line format ∷ game_line game ∷ []) (IsWrongNext 3 IsSideLine (BreaksSide wanted)) fault old left new_left
     (λ bytes rest stood.
     let one = first_from format (game_line game ∷ []) bytes rest stood in
-    Faultless-head wanted bytes 3 (omega arith) (λ l. (one.0, one.1, (format, one.2))) (λ l. (game, game_from (first_line format) game [] bytes rest of_game stood, of_game)) (λ l. absurd (omega arith)) (λ l. absurd (omega arith)))
-    (λ bytes rest line cause stood w. let f = refused_at (first_line format ∷ game_line game ∷ []) 3 IsSideLine (BreaksSide wanted) bytes rest line cause refl stood w in (f.0, side_fault wanted bytes cause f.1))
+    Faultless-head wanted bytes 3 (omega arith) (λ l. (one.0, one.1, (format, one.2))) (λ l. (game, game_from (first_line format) game [] bytes rest of_game stood, of_game))
+    (λ l. absurd (omega arith)) (λ l. absurd (omega arith)))
+    (λ bytes rest line cause stood w. let f = refused_at (first_line format ∷ game_line game ∷ []) 3 IsSideLine (BreaksSide wanted) bytes rest line cause refl stood w in
+    (f.0, side_fault wanted bytes cause f.1))
     r
 
 pub exit_count : (wanted : Wanted) (format : Format) (game : GameNumbers) (side : Side) (fault : CheckFault) (old : ReaderState) (left new_left : Option (List ℕ)) → IsGame game
@@ -235,8 +252,12 @@ exit_count wanted format game side fault old left new_left of_game of_side r =
     conclude wanted (first_line format ∷ game_line game ∷ side_line side ∷ []) (IsWrongNext 4 IsCountLine NoRule) fault old left new_left
     (λ bytes rest stood.
     let one = first_from format (game_line game ∷ side_line side ∷ []) bytes rest stood in
-    Faultless-head wanted bytes 4 (omega arith) (λ l. (one.0, one.1, (format, one.2))) (λ l. (game, game_from (first_line format) game (side_line side ∷ []) bytes rest of_game stood, of_game)) (λ l. (side, side_from (first_line format) (game_line game) side [] bytes rest stood, of_side)) (λ l. absurd (omega arith)))
-    (λ bytes rest line cause stood w. let f = refused_at (first_line format ∷ game_line game ∷ side_line side ∷ []) 4 IsCountLine NoRule bytes rest line cause refl stood w in (f.0, count_fault wanted bytes cause f.1))
+    Faultless-head wanted bytes 4 (omega arith) (λ l. (one.0, one.1, (format, one.2)))
+    (λ l. (game, game_from (first_line format) game (side_line side ∷ []) bytes rest of_game stood, of_game))
+    (λ l. (side, side_from (first_line format) (game_line game) side [] bytes rest stood, of_side)) (λ l. absurd (omega arith)))
+    (λ bytes rest line cause stood w.
+    let f = refused_at (first_line format ∷ game_line game ∷ side_line side ∷ []) 4 IsCountLine NoRule bytes rest line cause refl stood w in
+    (f.0, count_fault wanted bytes cause f.1))
     r
 
 -- ---- where a line after the head was refused
@@ -261,19 +282,23 @@ node_fault wanted head nodes bytes (why.Rule rule) s few h =
     let same : length (map position_of nodes) ≡ length nodes = length-map nodes position_of in
     in_body head s.has
     (subst (λ (i : ℕ). BodyFault bytes head (head.start + i) (why.Rule rule)) same
-    (node_rule (map position_of nodes) rule (omega (arith, same)) (HasPositions-from bytes head nodes s.stand) (subst (λ (i : ℕ). HasForm bytes (head.start + i) (IsBrokenNodeLine head (map position_of nodes) rule)) (sym same) h)))
+    (node_rule (map position_of nodes) rule (omega (arith, same)) (HasPositions-from bytes head nodes s.stand)
+    (subst (λ (i : ℕ). HasForm bytes (head.start + i) (IsBrokenNodeLine head (map position_of nodes) rule)) (sym same) h)))
 
 pub exit_node : (wanted : Wanted) (head : Head) (nodes : List AnyNode) (fault : CheckFault) (old : ReaderState) (left new_left : Option (List ℕ)) → IsHead wanted head
     → AreJudged head nodes → length nodes < head.count
-    → RefusesAfter (lines_of_head head ++ node_lines 0 nodes) (IsWrongNext (head.start + length nodes) (IsNodeLine head (length nodes)) (IsBrokenNodeLine head (map position_of nodes))) fault old left new_left → IsFaultOf wanted old.held fault left new_left
+    → RefusesAfter (lines_of_head head ++ node_lines 0 nodes) (IsWrongNext (head.start + length nodes) (IsNodeLine head (length nodes))
+    (IsBrokenNodeLine head (map position_of nodes))) fault old left new_left → IsFaultOf wanted old.held fault left new_left
 exit_node wanted head nodes fault old left new_left is judged few r =
     let given : List (List ℕ) = lines_of_head head ++ node_lines 0 nodes in
     let place : length given + 1 ≡ head.start + length nodes = omega (arith, length-append (lines_of_head head) (node_lines 0 nodes), length-node_lines 0 nodes, is.start) in
-    let stands = λ (bytes rest : List ℕ) (stood : StandFirst given bytes rest). stands_from wanted head nodes [] bytes rest is judged (subst (λ (lines : List (List ℕ)). StandFirst (lines_of_head head ++ lines) bytes rest) (sym (append-nil (node_lines 0 nodes))) stood) in
+    let stands = λ (bytes rest : List ℕ) (stood : StandFirst given bytes rest). stands_from wanted head nodes [] bytes rest is judged
+    (subst (λ (lines : List (List ℕ)). StandFirst (lines_of_head head ++ lines) bytes rest) (sym (append-nil (node_lines 0 nodes))) stood) in
     conclude wanted given (IsWrongNext (head.start + length nodes) (IsNodeLine head (length nodes)) (IsBrokenNodeLine head (map position_of nodes))) fault old left new_left
     (λ bytes rest stood.
     let s = stands bytes rest stood in
-    Faultless-body wanted bytes (length given + 1) head nodes s.has s.stand judged.each (λ k low past. omega (arith, place)) (λ past. absurd (omega (arith, place))) (λ past. absurd (omega (arith, place))))
+    Faultless-body wanted bytes (length given + 1) head nodes s.has s.stand judged.each (λ k low past. omega (arith, place)) (λ past. absurd (omega (arith, place)))
+    (λ past. absurd (omega (arith, place))))
     (λ bytes rest line cause stood w.
     let f = refused_at given (head.start + length nodes) (IsNodeLine head (length nodes)) (IsBrokenNodeLine head (map position_of nodes)) bytes rest line cause place stood w in
     (f.0 ∙ sym place, subst (λ (i : ℕ). LineFault wanted bytes i cause) (sym place) (node_fault wanted head nodes bytes cause (stands bytes rest stood) few f.1)))
@@ -291,11 +316,13 @@ pub exit_end : (wanted : Wanted) (head : Head) (nodes : List AnyNode) (fault : C
 exit_end wanted head nodes fault old left new_left is judged all r =
     let given : List (List ℕ) = lines_of_head head ++ node_lines 0 nodes in
     let place : length given + 1 ≡ head.start + head.count = omega (arith, length-append (lines_of_head head) (node_lines 0 nodes), length-node_lines 0 nodes, is.start, all) in
-    let stands = λ (bytes rest : List ℕ) (stood : StandFirst given bytes rest). stands_from wanted head nodes [] bytes rest is judged (subst (λ (lines : List (List ℕ)). StandFirst (lines_of_head head ++ lines) bytes rest) (sym (append-nil (node_lines 0 nodes))) stood) in
+    let stands = λ (bytes rest : List ℕ) (stood : StandFirst given bytes rest). stands_from wanted head nodes [] bytes rest is judged
+    (subst (λ (lines : List (List ℕ)). StandFirst (lines_of_head head ++ lines) bytes rest) (sym (append-nil (node_lines 0 nodes))) stood) in
     conclude wanted given (IsWrongNext (head.start + head.count) (λ line. line ≡ end_line) NoRule) fault old left new_left
     (λ bytes rest stood.
     let s = stands bytes rest stood in
-    Faultless-body wanted bytes (length given + 1) head nodes s.has s.stand judged.each (λ k low past. omega (arith, all)) (λ past. absurd (omega (arith, place))) (λ past. absurd (omega (arith, place))))
+    Faultless-body wanted bytes (length given + 1) head nodes s.has s.stand judged.each (λ k low past. omega (arith, all)) (λ past. absurd (omega (arith, place)))
+    (λ past. absurd (omega (arith, place))))
     (λ bytes rest line cause stood w.
     let f = refused_at given (head.start + head.count) (λ line. line ≡ end_line) NoRule bytes rest line cause place stood w in
     (f.0 ∙ sym place, subst (λ (i : ℕ). LineFault wanted bytes i cause) (sym place) (end_fault wanted head bytes cause (stands bytes rest stood).has f.1)))
@@ -310,15 +337,22 @@ abbrev pub lines_of_text : Head → List AnyNode → List (List ℕ)
 lines_of_text head nodes = lines_of_head head ++ node_lines 0 nodes ++ end_line ∷ []
 
 length-lines_of_text : (head : Head) (nodes : List AnyNode) → length (lines_of_text head nodes) ≡ 5 + length nodes
-length-lines_of_text head nodes = omega (arith, length-append (lines_of_head head) (node_lines 0 nodes ++ end_line ∷ []), length_push (node_lines 0 nodes) end_line, length-node_lines 0 nodes)
+length-lines_of_text head nodes =
+    omega (arith, length-append (lines_of_head head) (node_lines 0 nodes ++ end_line ∷ []), length_push (node_lines 0 nodes) end_line, length-node_lines 0 nodes)
 
 -- where a whole text stands first, no line up to its last has a fault
 pub Faultless-text : (wanted : Wanted) (head : Head) (nodes : List AnyNode) (bytes rest : List ℕ) → IsHead wanted head → AreJudged head nodes → length nodes ≡ head.count
     → StandFirst (lines_of_text head nodes) bytes rest → Faultless wanted bytes (head.start + head.count + 1)
 Faultless-text wanted head nodes bytes rest is judged all stood =
     let s = stands_from wanted head nodes (end_line ∷ []) bytes rest is judged stood in
-    let get : slice_get (lines_of_text head nodes) (4 + (length (node_lines 0 nodes) + 0)) ≡ Some end_line = after_get (lines_of_head head) (node_lines 0 nodes ++ end_line ∷ []) (length (node_lines 0 nodes) + 0) end_line (after_get (node_lines 0 nodes) (end_line ∷ []) 0 end_line refl) in
-    let end : HasForm bytes (head.start + head.count) (λ line. line ≡ end_line) = (end_line, line_at (lines_of_text head nodes) bytes rest (4 + (length (node_lines 0 nodes) + 0)) (head.start + head.count) end_line stood get (omega (arith, length-node_lines 0 nodes, is.start, all)), refl) in
+    let get : slice_get (lines_of_text head nodes) (4 + (length (node_lines 0 nodes) + 0)) ≡ Some end_line = after_get (lines_of_head head) (node_lines 0 nodes ++ end_line ∷ [])
+    (length (node_lines 0 nodes) + 0) end_line (after_get (node_lines 0 nodes) (end_line ∷ []) 0 end_line refl) in
+    let end : HasForm bytes (head.start + head.count) (λ line. line ≡ end_line) = (
+      end_line,
+      line_at (lines_of_text head nodes) bytes rest (4 + (length (node_lines 0 nodes) + 0))
+          (head.start + head.count) end_line stood get (omega (arith, length-node_lines 0 nodes, is.start, all)),
+      refl,
+    ) in
     Faultless-body wanted bytes (head.start + head.count + 1) head nodes s.has s.stand judged.each (λ k low past. omega (arith, all)) (λ past. end) (λ past. absurd (omega arith))
 
 pub exit_past : (wanted : Wanted) (head : Head) (nodes : List AnyNode) (fault : CheckFault) (old : ReaderState) (left new_left : Option (List ℕ)) → IsHead wanted head
@@ -331,6 +365,10 @@ exit_past wanted head nodes fault old left new_left is judged all r =
     (λ bytes rest line cause stood w.
     let p = past_fault (head.start + head.count + 1) line cause rest w in
     let s = stands_from wanted head nodes (end_line ∷ []) bytes rest is judged stood in
-    let whole : HasWhole bytes (head.start + head.count) rest = subst (λ (i : ℕ). HasWhole bytes i rest) (omega (arith, place)) (HasWhole-from (lines_of_text head nodes) bytes rest stood) in
-    (p.0 ∙ sym place, subst (λ (i : ℕ). LineFault wanted bytes i cause) (sym place) (subst (λ (c : Why). LineFault wanted bytes (head.start + head.count + 1) c) (sym p.1) (in_body head s.has (past_syntax (rest, whole, p.2))))))
+    let whole : HasWhole bytes (head.start + head.count) rest = subst
+    (λ (i : ℕ). HasWhole bytes i rest) (omega (arith, place)) (HasWhole-from (lines_of_text head nodes) bytes rest stood) in (
+      p.0 ∙ sym place,
+      subst (λ (i : ℕ). LineFault wanted bytes i cause) (sym place) (subst
+          (λ (c : Why). LineFault wanted bytes (head.start + head.count + 1) c) (sym p.1) (in_body head s.has (past_syntax (rest, whole, p.2)))),
+    ))
     r

@@ -36,7 +36,8 @@ pub loaded_force : (wanted : Wanted) (read : Result declared.Head CheckFault) (r
     → result ≡ strategy_or read kept → IfOk read (λ head. Loads wanted (strategy_of_parts head kept) left new_left)
     → IfOk result (λ strategy. side_of strategy.nodes ≡ Adversary → ForcesEvery strategy.game)
 loaded_force wanted (Ok head) result kept left new_left e loads =
-    subst (λ (x : Result Strategy CheckFault). IfOk x (λ strategy. side_of strategy.nodes ≡ Adversary → ForcesEvery strategy.game)) (sym e) (legal_forces (strategy_of_parts head kept) loads.spells.legal)
+    subst (λ (x : Result Strategy CheckFault). IfOk x (λ strategy. side_of strategy.nodes ≡ Adversary → ForcesEvery strategy.game)) (sym e)
+    (legal_forces (strategy_of_parts head kept) loads.spells.legal)
 loaded_force wanted (Err fault) result kept left new_left e loads =
     subst (λ (x : Result Strategy CheckFault). IfOk x (λ strategy. side_of strategy.nodes ≡ Adversary → ForcesEvery strategy.game)) (sym e) tt
 

@@ -1,25 +1,21 @@
 -- What head lines tell, in one way.
-use Rattle.std.proofs.Common.{◌≡◌, ◌*◌, ◌+◌, inl, inr, ℕ, ◌<◌, ◌≤◌, List, [], ◌∷◌, ◌++◌, length, get_or, Some, sym, ap, ◌∙◌, subst, refl, arith}
-use Rattle.std.specs.List.{slice_get}
+use Rattle.std.proofs.Common.{◌≡◌, ◌*◌, ◌+◌, inl, inr, ℕ, ◌<◌, ◌≤◌, List, [], ◌∷◌, ◌++◌, sym, ap, ◌∙◌, refl, arith}
 use Rattle.items.specs.Game.{GameNumbers, IsGame}
 use Rattle.items.specs.GameFaults.{IsFaultOf}
 use Rattle.items.specs.Multiset.{sizes_of}
 use Rattle.items.specs.declared.game.GameFault.{GameFault}
 use Rattle.items.specs.declared.game.GameFault.TheVariants.{Bins, Capacity, Target}
-use Rattle.strategy_text.specs.Reading.{game_at, count_at}
-use Rattle.strategy_text.specs.Spelling.{SpellsGame, SpellsCount, most_nodes}
+use Rattle.strategy_text.proofs.Texts.{first_tells, side_tells}
+use Rattle.strategy_text.specs.Spelling.{SpellsGame, SpellsCount}
 use Rattle.strategy_text.specs.Text.{first_line, game_line, side_line, count_line}
-use Rattle.strategy_text.specs.Words.{words_left}
 use Rattle.strategy_text.specs.declared.node.Format.{Format}
-use Rattle.strategy_text.specs.declared.node.Format.TheVariants.{One, Two}
 use Rattle.strategy_text.specs.declared.node.Side.{Side}
-use Rattle.strategy_text.specs.declared.node.Side.TheVariants.{Adversary, Algorithm}
 use Rattle.strategy_text.proofs.HeadLines.{game_again, count_again}
-use Rattle.checker.specs.FirstFault.{HasForm, HasHead, IsWanted}
+use Rattle.checker.specs.FirstFault.{HasForm, HasHead}
 use Rattle.checker.specs.Head.{Head}
 use Rattle.checker.specs.Progress.{StandFirst, IsHead, lines_of_head}
 use Rattle.checker.specs.declared.fault.Wanted.{Wanted}
-use Rattle.checker.proofs.LineLemmas.{HasForm-both, line_at, front_get}
+use Rattle.checker.proofs.LineLemmas.{HasForm-both, line_at}
 
 -- numbers of which one is out of its range are those of no game
 pub no_game : (game : GameNumbers) (fault : GameFault) → IsFaultOf game fault → IsGame game → ⊥
@@ -31,18 +27,6 @@ no_game game Target (bins, capacity, inl low) is = let l : game.capacity < game.
 no_game game Target (bins, capacity, inr high) is = let h : game.target ≤ 2 * game.capacity = is.target.high in absurd (omega arith)
 
 -- ---- each head line tells one thing
-
-pub formats_same : (f g : Format) → first_line f ≡ first_line g → f ≡ g
-formats_same One One e = refl
-formats_same One Two e = let d : ◌≡◌ {A = ℕ} 49 50 = ap (λ (l : List ℕ). get_or l 8 0) e in absurd (omega arith)
-formats_same Two One e = let d : ◌≡◌ {A = ℕ} 50 49 = ap (λ (l : List ℕ). get_or l 8 0) e in absurd (omega arith)
-formats_same Two Two e = refl
-
-pub sides_same : (s t : Side) → side_line s ≡ side_line t → s ≡ t
-sides_same Adversary Adversary e = refl
-sides_same Adversary Algorithm e = let d : ◌≡◌ {A = ℕ} 100 108 = ap (λ (l : List ℕ). get_or l 6 0) e in absurd (omega arith)
-sides_same Algorithm Adversary e = let d : ◌≡◌ {A = ℕ} 108 100 = ap (λ (l : List ℕ). get_or l 6 0) e in absurd (omega arith)
-sides_same Algorithm Algorithm e = refl
 
 pub game_same : (bytes : List ℕ) (n : ℕ) (g h : GameNumbers) → HasForm bytes n (λ line. SpellsGame line g) → HasForm bytes n (λ line. SpellsGame line h) → g ≡ h
 game_same bytes n g h a b =
@@ -61,12 +45,12 @@ count_same bytes n g h a b =
 pub side_same : (bytes : List ℕ) (n : ℕ) (s t : Side) → HasForm bytes n (λ line. line ≡ side_line s) → HasForm bytes n (λ line. line ≡ side_line t) → s ≡ t
 side_same bytes n s t a b =
     let both = HasForm-both bytes n (λ line. line ≡ side_line s) (λ line. line ≡ side_line t) a b in
-    sides_same s t (sym both.1 ∙ both.2)
+    side_tells s t (sym both.1 ∙ both.2)
 
 format_same : (bytes : List ℕ) (n : ℕ) (f g : Format) → HasForm bytes n (λ line. line ≡ first_line f) → HasForm bytes n (λ line. line ≡ first_line g) → f ≡ g
 format_same bytes n f g a b =
     let both = HasForm-both bytes n (λ line. line ≡ first_line f) (λ line. line ≡ first_line g) a b in
-    formats_same f g (sym both.1 ∙ both.2)
+    first_tells f g (sym both.1 ∙ both.2)
 
 head_of : Format → GameNumbers → List ℕ → Side → ℕ → ℕ → Head
 head_of f g z s c n = record { format = f; game = g; sizes = z; side = s; count = c; start = n }
@@ -74,13 +58,16 @@ head_of f g z s c n = record { format = f; game = g; sizes = z; side = s; count 
 heads_equal : (h k : Head) → h.format ≡ k.format → h.game ≡ k.game → h.sizes ≡ k.sizes → h.side ≡ k.side → h.count ≡ k.count → h.start ≡ k.start → h ≡ k
 unfolding head_of
 heads_equal h k f g z s c n =
-    ap (λ x. head_of x h.game h.sizes h.side h.count h.start) f ∙ ap (λ x. head_of k.format x h.sizes h.side h.count h.start) g ∙ ap (λ x. head_of k.format k.game x h.side h.count h.start) z ∙ ap (λ x. head_of k.format k.game k.sizes x h.count h.start) s ∙ ap (λ x. head_of k.format k.game k.sizes k.side x h.start) c ∙ ap (λ x. head_of k.format k.game k.sizes k.side k.count x) n
+    ap (λ x. head_of x h.game h.sizes h.side h.count h.start) f ∙ ap (λ x. head_of k.format x h.sizes h.side h.count h.start) g
+    ∙ ap (λ x. head_of k.format k.game x h.side h.count h.start) z ∙ ap (λ x. head_of k.format k.game k.sizes x h.count h.start) s
+    ∙ ap (λ x. head_of k.format k.game k.sizes k.side x h.start) c ∙ ap (λ x. head_of k.format k.game k.sizes k.side k.count x) n
 
 -- bytes have one head
 pub head_same : (wanted : Wanted) (bytes : List ℕ) (h k : Head) → HasHead wanted bytes h → HasHead wanted bytes k → h ≡ k
 head_same wanted bytes h k a b =
     let games = game_same bytes 2 h.game k.game a.numbers b.numbers in
-    heads_equal h k (format_same bytes 1 h.format k.format a.first b.first) games (a.whole_game ∙ ap sizes_of games ∙ sym b.whole_game) (side_same bytes 3 h.side k.side a.side b.side) (count_same bytes 4 h.count k.count a.nodes b.nodes) (a.start ∙ sym b.start)
+    heads_equal h k (format_same bytes 1 h.format k.format a.first b.first) games (a.whole_game ∙ ap sizes_of games ∙ sym b.whole_game)
+    (side_same bytes 3 h.side k.side a.side b.side) (count_same bytes 4 h.count k.count a.nodes b.nodes) (a.start ∙ sym b.start)
 
 -- ---- head lines that stand first
 
@@ -98,11 +85,13 @@ first_from format more bytes rest stood = (first_line format, line_at (first_lin
 
 pub game_from : (first : List ℕ) (game : GameNumbers) (more : List (List ℕ)) (bytes rest : List ℕ) → IsGame game → StandFirst (first ∷ game_line game ∷ more) bytes rest
     → HasForm bytes 2 (λ line. SpellsGame line game)
-game_from first game more bytes rest of_game stood = (game_line game, line_at (first ∷ game_line game ∷ more) bytes rest 1 2 (game_line game) stood refl (omega arith), game_spelled game of_game)
+game_from first game more bytes rest of_game stood =
+    (game_line game, line_at (first ∷ game_line game ∷ more) bytes rest 1 2 (game_line game) stood refl (omega arith), game_spelled game of_game)
 
 pub side_from : (first second : List ℕ) (side : Side) (more : List (List ℕ)) (bytes rest : List ℕ) → StandFirst (first ∷ second ∷ side_line side ∷ more) bytes rest
     → HasForm bytes 3 (λ line. line ≡ side_line side)
-side_from first second side more bytes rest stood = (side_line side, line_at (first ∷ second ∷ side_line side ∷ more) bytes rest 2 3 (side_line side) stood refl (omega arith), refl)
+side_from first second side more bytes rest stood =
+    (side_line side, line_at (first ∷ second ∷ side_line side ∷ more) bytes rest 2 3 (side_line side) stood refl (omega arith), refl)
 
 pub head_from : (wanted : Wanted) (head : Head) (more : List (List ℕ)) (bytes rest : List ℕ) → IsHead wanted head → StandFirst (lines_of_head head ++ more) bytes rest
     → HasHead wanted bytes head
@@ -112,7 +101,11 @@ head_from wanted head more bytes rest is stood = record {
   of_game = is.of_game;
   side = side_from (first_line head.format) (game_line head.game) head.side (count_line head.count ∷ more) bytes rest stood;
   wanted_side = is.wanted_side;
-  nodes = (count_line head.count, line_at (lines_of_head head ++ more) bytes rest 3 4 (count_line head.count) stood refl (omega arith), record { low = is.low; high = is.high; spelled = refl });
+  nodes = (
+    count_line head.count,
+    line_at (lines_of_head head ++ more) bytes rest 3 4 (count_line head.count) stood refl (omega arith),
+    record { low = is.low; high = is.high; spelled = refl },
+  );
   whole_game = is.whole_game;
   start = is.start;
 }

@@ -5,7 +5,7 @@ use Rattle.std.specs.List.{AllByRecursion, concat}
 use Rattle.std.specs.Prelude.{sum}
 use Rattle.std.proofs.Math.ListN.{get_or-map}
 use Rattle.std.proofs.lemmas.List.{length-map, length-replicate}
-use Rattle.std.proofs.lemmas.List.Sums.{get_or-le-sum_by, sum_by-cons, sum_by-le}
+use Rattle.std.proofs.lemmas.List.Sums.{get_or-le-sum_by, sum_by-cons}
 use Rattle.std.proofs.lemmas.List.Elements.{All-nil, All-cons, All-append, All-replicate, All-weaker, All-contains, All-contains_itself, All-get_or, recursion_from_All}
 use Rattle.std.proofs.lemmas.Option.{slice_get_within}
 use Rattle.items.specs.Game.{GameNumbers, IsGame}
@@ -13,6 +13,7 @@ use Rattle.items.specs.Multiset.{sizes_of, IsSize}
 use Rattle.items.specs.Packable.{IsPacking}
 use Rattle.items.proofs.MultisetLemmas.{length-Same}
 use Rattle.items.proofs.SizesLemmas.{size_from_Contains}
+use Rattle.loads.proofs.LoadsLemmas.{loads_total}
 use Rattle.packing_witness.proofs.PackableLemmas.{sum-packing-le}
 use Rattle.loads.specs.After.{after}
 use Rattle.loads.specs.Descending.{distinct}
@@ -36,7 +37,7 @@ use Rattle.strategy_text.specs.declared.node.Then.{Then}
 use Rattle.strategy_text.specs.declared.node.Then.TheVariants.{Over, To}
 use Rattle.adversary_graph.specs.Nodes.{sent_size, sent_items, packing_of, placements_of}
 use Rattle.adversary_graph.specs.Nodes as adversary_nodes
-use Rattle.adversary_graph.specs.Rules.{PlacesEachLoad, LeadsTo, IsPacked}
+use Rattle.adversary_graph.specs.Rules.{PlacesEachLoad, LeadsTo}
 use Rattle.adversary_graph.specs.Rules as adversary
 use Rattle.algorithm_graph.specs.Nodes.{entries_of}
 use Rattle.algorithm_graph.specs.Nodes as algorithm_nodes
@@ -71,12 +72,6 @@ bins_numbers bins most h le k d within j e inside =
     omega arith
 
 -- ---- the position of a node
-
--- the loads of a node sum to at most 1,912
-loads_total : (game : GameNumbers) (loads : List ℕ) → IsGame game → IsLoads game loads → sum loads ≤ 1912
-loads_total game loads g l =
-    let each : All (λ x. x ≤ 239) loads = All-weaker (λ x. x < game.target) (λ x. x ≤ 239) (λ x h. omega (arith, h, g.target.high, g.capacity.high)) loads l.below_target in
-    omega (arith, sum_by-le (λ x. x) 239 loads each, l.one_each, g.bins.high)
 
 items_are_sizes : (game : GameNumbers) (loads items : List ℕ) → AreItemsOf (sizes_of game) loads items → All (IsSize game.capacity) items
 items_are_sizes game loads items a = All-weaker (Contains (sizes_of game)) (IsSize game.capacity) (size_from_Contains game.capacity) items a.allowed

@@ -45,7 +45,7 @@ mapped f [] k node e = let none : None ≡ Some node = e in absurd cc
 mapped f (x ∷ xs) zero node e = let same : f x ≡ node = cc in (x, refl, same)
 mapped f (x ∷ xs) (suc k) node e = mapped f xs k node e
 
--- the positions of the front of a mapped list
+-- the positions of the first elements of a mapped list
 positions : {X : Type 0} (f : X → AnyNode) (g : X → Position) → ((x : X) → g x ≡ position_of (f x)) → (k : ℕ) (xs : List X)
     → map g (take k xs) ≡ map position_of (take k (map f xs))
 positions f g same zero xs = refl

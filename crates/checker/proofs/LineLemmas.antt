@@ -1,11 +1,11 @@
 -- Lines in their places.
-use Rattle.std.proofs.Common.{◌≡◌, ◌≢◌, Contains, inl, inr, ℕ, suc, zero, ◌+◌, ◌<◌, ◌≤◌, List, [], ◌∷◌, ◌++◌, length, All, Some, None, sym, ap, ◌∙◌, subst, refl, arith, append_assoc}
+use Rattle.std.proofs.Common.{◌≡◌, ◌≢◌, ℕ, suc, zero, ◌+◌, ◌<◌, ◌≤◌, List, [], ◌∷◌, ◌++◌}
+use Rattle.std.proofs.Common.{length, All, Some, None, sym, ap, ◌∙◌, subst, refl, arith, append_assoc}
 use Rattle.std.specs.List.{slice_get}
 use Rattle.std.proofs.lemmas.Grind.{flat_map-append}
-use Rattle.std.proofs.lemmas.List.{append-nil}
-use Rattle.std.proofs.lemmas.List.Elements.{All-head, All-tail, All-cons, All-nil, All-contains, Contains-append_left, Contains-push}
-use Rattle.port_io.specs.Lines.{lf, IsLine, HasNoLf, with_lf}
-use Rattle.port_io.proofs.NextLemmas.{with_lf-only}
+use Rattle.std.proofs.lemmas.List.Elements.{All-head, All-tail, All-cons, All-nil}
+use Rattle.port_io.specs.Lines.{IsLine, HasNoLf, with_lf}
+use Rattle.port_io.proofs.NextLemmas.{HasNoLf-with_lf, with_lf-only}
 use Rattle.strategy_text.specs.Text.{text_of_lines}
 use Rattle.checker.specs.FirstFault.{HasLine, HasForm, HasWhole}
 use Rattle.checker.specs.Progress.{StandFirst, HasNext}
@@ -19,12 +19,14 @@ same_rest [] [] x y p q e is = is
 same_rest [] (m ∷ ms) x y p q e is = absurd (omega arith)
 same_rest (l ∷ ls) [] x y p q e is = absurd (omega arith)
 same_rest (l ∷ ls) (m ∷ ms) x y p q e is =
-    let cut = with_lf-only l m (text_of_lines ls ++ x) (text_of_lines ms ++ y) (All-head HasNoLf l ls p) (All-head HasNoLf m ms q) (sym (append_assoc (with_lf l) (text_of_lines ls) x) ∙ is ∙ append_assoc (with_lf m) (text_of_lines ms) y) in
+    let cut = with_lf-only l m (text_of_lines ls ++ x) (text_of_lines ms ++ y) (All-head HasNoLf l ls p) (All-head HasNoLf m ms q)
+    (sym (append_assoc (with_lf l) (text_of_lines ls) x) ∙ is ∙ append_assoc (with_lf m) (text_of_lines ms) y) in
     same_rest ls ms x y (All-tail HasNoLf l ls p) (All-tail HasNoLf m ms q) (omega arith) cut.1
 
 pub HasLine-same : (bytes : List ℕ) (n : ℕ) (a b : List ℕ) → HasLine bytes n a → HasLine bytes n b → a ≡ b
 HasLine-same bytes n a b h k =
-    let rest : with_lf a ++ h.rest ≡ with_lf b ++ k.rest = same_rest h.before k.before (with_lf a ++ h.rest) (with_lf b ++ k.rest) h.lines k.lines (omega (arith, h.place, k.place)) (sym h.split ∙ k.split) in
+    let rest : with_lf a ++ h.rest ≡ with_lf b ++ k.rest = same_rest h.before k.before (with_lf a ++ h.rest) (with_lf b ++ k.rest) h.lines k.lines (omega (arith, h.place, k.place))
+    (sym h.split ∙ k.split) in
     (with_lf-only a b h.rest k.rest h.whole.no_lf k.whole.no_lf rest).0
 
 -- two facts on one line
@@ -38,7 +40,8 @@ pub next_from : (given : List (List ℕ)) (bytes rest : List ℕ) (n : ℕ) (For
 next_from given bytes rest n Form stood place form =
     let l = form.1 in
     let counted : length l.before + 1 ≡ n = l.place in
-    let same : rest ≡ with_lf form.0 ++ l.rest = same_rest given l.before rest (with_lf form.0 ++ l.rest) (no_lf given stood.whole) l.lines (omega arith) (sym stood.split ∙ l.split) in
+    let same : rest ≡ with_lf form.0 ++ l.rest = same_rest given l.before rest (with_lf form.0 ++ l.rest) (no_lf given stood.whole) l.lines (omega arith)
+    (sym stood.split ∙ l.split) in
     record { line = form.0; rest = l.rest; whole = l.whole; split = same; form = form.2 }
 
 pub form_from : (given : List (List ℕ)) (bytes rest : List ℕ) (n : ℕ) (Form : List ℕ → Type 0) → StandFirst given bytes rest → length given + 1 ≡ n → HasNext Form rest
@@ -96,7 +99,10 @@ line_at lines bytes rest k n line stood at place =
       place = omega arith;
       lines = no_lf s.0 (All-front IsLine s.0 (line ∷ s.1) all);
       whole = All-head IsLine line s.1 (All-after IsLine s.0 (line ∷ s.1) all);
-      split = stood.split ∙ ap (λ (ls : List (List ℕ)). text_of_lines ls ++ rest) s.3 ∙ ap (λ (front : List ℕ). front ++ rest) (flat_map-append (λ line. line ++ 10 ∷ []) s.0 (line ∷ s.1)) ∙ append_assoc (text_of_lines s.0) (with_lf line ++ text_of_lines s.1) rest ∙ ap (λ (more : List ℕ). text_of_lines s.0 ++ more) (append_assoc (with_lf line) (text_of_lines s.1) rest);
+      split = stood.split ∙ ap (λ (ls : List (List ℕ)). text_of_lines ls ++ rest) s.3
+          ∙ ap (λ (front : List ℕ). front ++ rest) (flat_map-append (λ line. line ++ 10 ∷ []) s.0 (line ∷ s.1))
+          ∙ append_assoc (text_of_lines s.0) (with_lf line ++ text_of_lines s.1) rest
+          ∙ ap (λ (more : List ℕ). text_of_lines s.0 ++ more) (append_assoc (with_lf line) (text_of_lines s.1) rest);
     }
 
 pub front_get : {X : Type 0} (xs more : List X) (k : ℕ) (x : X) → slice_get xs k ≡ Some x → slice_get (xs ++ more) k ≡ Some x
@@ -114,20 +120,17 @@ after_get (y ∷ ys) more k x e =
 pub HasWhole-from : (lines : List (List ℕ)) (bytes rest : List ℕ) → StandFirst lines bytes rest → HasWhole bytes (length lines) rest
 HasWhole-from lines bytes rest s = record { lines = lines; place = refl; each = no_lf lines s.whole; split = s.split }
 
--- bytes with a line in front have a line feed
-pub HasNoLf-with_lf : (line rest bytes : List ℕ) → bytes ≡ with_lf line ++ rest → HasNoLf bytes → ⊥
-HasNoLf-with_lf line rest bytes is none =
-    All-contains (λ b. b ≢ lf) bytes lf none (subst (λ xs. Contains xs lf) (sym is) (Contains-append_left (with_lf line) rest lf (Contains-push line lf))) refl
-
--- lines that bytes without a line feed follow are at least as many as any lines in front of the bytes
+-- lines that bytes without a line feed follow are at least as many as any lines that the bytes begin with
 fewer : (a b : List (List ℕ)) (x y : List ℕ) → All HasNoLf a → All HasNoLf b → HasNoLf x → text_of_lines a ++ x ≡ text_of_lines b ++ y → length b ≤ length a
 fewer a [] x y p q none e = omega arith
 fewer [] (m ∷ ms) x y p q none e = absurd (HasNoLf-with_lf m (text_of_lines ms ++ y) x (e ∙ append_assoc (with_lf m) (text_of_lines ms) y) none)
 fewer (l ∷ ls) (m ∷ ms) x y p q none e =
-    let cut = with_lf-only l m (text_of_lines ls ++ x) (text_of_lines ms ++ y) (All-head HasNoLf l ls p) (All-head HasNoLf m ms q) (sym (append_assoc (with_lf l) (text_of_lines ls) x) ∙ e ∙ append_assoc (with_lf m) (text_of_lines ms) y) in
+    let cut = with_lf-only l m (text_of_lines ls ++ x) (text_of_lines ms ++ y) (All-head HasNoLf l ls p) (All-head HasNoLf m ms q)
+    (sym (append_assoc (with_lf l) (text_of_lines ls) x) ∙ e ∙ append_assoc (with_lf m) (text_of_lines ms) y) in
     let less : length ms ≤ length ls = fewer ls ms x y (All-tail HasNoLf l ls p) (All-tail HasNoLf m ms q) none cut.1 in
     omega arith
 
 -- where lines stand first and no line feed after them, no further line is whole
 pub few_whole : (lines : List (List ℕ)) (bytes rest more : List ℕ) (n : ℕ) → StandFirst lines bytes rest → HasNoLf rest → HasWhole bytes n more → n ≤ length lines
-few_whole lines bytes rest more n s none w = let less : length w.lines ≤ length lines = fewer lines w.lines rest more (no_lf lines s.whole) w.each none (sym s.split ∙ w.split) in omega (arith, w.place)
+few_whole lines bytes rest more n s none w =
+    let less : length w.lines ≤ length lines = fewer lines w.lines rest more (no_lf lines s.whole) w.each none (sym s.split ∙ w.split) in omega (arith, w.place)

@@ -1,5 +1,6 @@
 -- Nodes in their lines, and the rules that they meet or break.
-use Rattle.std.proofs.Common.{◌≡◌, ◌==◌, inl, inr, Bool, ℕ, suc, zero, ◌+◌, ◌<◌, ◌≤◌, List, [], ◌∷◌, ◌++◌, length, take, map, get_or, All, Contains, Option, Some, None, ⊎_elim, sym, ap, ◌∙◌, subst, refl, arith, length-take}
+use Rattle.std.proofs.Common.{◌≡◌, ◌==◌, inl, inr, Bool, ℕ, suc, zero, ◌+◌, ◌<◌, ◌≤◌, List, [], ◌∷◌, ◌++◌, length, take, map}
+use Rattle.std.proofs.Common.{get_or, All, Contains, Option, Some, None, ⊎_elim, sym, ap, ◌∙◌, subst, refl, arith, length-take}
 use Rattle.std.specs.List.{slice_get, range_with_len}
 use Rattle.std.proofs.lemmas.List.Elements.{All-weaker, All-contains_itself}
 use Rattle.std.proofs.Math.Seq.{take-length}
@@ -11,7 +12,7 @@ use Rattle.items.specs.Multiset.{IsSize}
 use Rattle.items.proofs.SizesLemmas.{size_from_Contains}
 use Rattle.loads.specs.declared.position.Position.{Position}
 use Rattle.strategy_text.specs.Rules.{AllMet, IsFirstBroken}
-use Rattle.strategy_text.specs.Spelling.{SpellsNode, most_child}
+use Rattle.strategy_text.specs.Spelling.{most_child}
 use Rattle.strategy_text.specs.Text.{AnyNode, of_adversary, of_algorithm, node_line, node_lines}
 use Rattle.strategy_text.specs.declared.rule.Rule.{Rule}
 use Rattle.strategy_text.proofs.NodesSame.{line_tells}
@@ -86,7 +87,7 @@ lists_same (x ∷ a) (y ∷ b) e h =
     let rest : a ≡ b = lists_same a b (omega arith) (λ k p q f g. h (suc k) p q f g) in
     ap (λ z. z ∷ a) same ∙ ap (λ zs. y ∷ zs) rest
 
--- an element of the front of mapped nodes
+-- an element of the first mapped nodes
 mapped_get : (nodes : List AnyNode) (n k : ℕ) (position : Position) → slice_get (map position_of (take n nodes)) k ≡ Some position
     → (node : AnyNode) × (slice_get nodes k ≡ Some node) × (position_of node ≡ position)
 mapped_get [] zero k position e = let none : None ≡ Some position = e in absurd cc
@@ -99,7 +100,8 @@ mapped_get (node ∷ nodes) (suc n) (suc k) position e = mapped_get nodes n k po
 pub positions_front : (bytes : List ℕ) (head : Head) (nodes : List AnyNode) (earlier : List Position) → length earlier ≤ length nodes → length earlier ≤ most_child
     → HasNodes bytes head nodes → HasPositions bytes head earlier → map position_of (take (length earlier) nodes) ≡ earlier
 positions_front bytes head nodes earlier le small stand told =
-    lists_same (map position_of (take (length earlier) nodes)) earlier (omega (arith, length-map (take (length earlier) nodes) position_of, length-take (length earlier) nodes)) (λ k x y e f.
+    lists_same (map position_of (take (length earlier) nodes)) earlier (omega (arith, length-map (take (length earlier) nodes) position_of, length-take (length earlier) nodes))
+    (λ k x y e f.
     let g = mapped_get nodes (length earlier) k x e in
     let low : k < length earlier = slice_get_within earlier k y f in
     sym g.2 ∙ position_same bytes head (head.start + k) k g.0 y (omega arith) (stand k g.0 g.1) (told k y f))
@@ -143,7 +145,8 @@ each_push head nodes node each meets k other e =
     let within : k < length (nodes ++ node ∷ []) = slice_get_within (nodes ++ node ∷ []) k other e in
     let here : get_or (nodes ++ node ∷ []) k other ≡ other = get_or_from_slice_get (nodes ++ node ∷ []) k other other e in
     ⊎_elim
-    (λ (below : k < length nodes). rw (take-append-le k nodes (node ∷ []) (omega arith)) (each k other (slice_get-get_or nodes k other below ∙ ap Some (sym (get_or_append_left nodes (node ∷ []) other k below) ∙ here))))
+    (λ (below : k < length nodes). rw (take-append-le k nodes (node ∷ []) (omega arith))
+    (each k other (slice_get-get_or nodes k other below ∙ ap Some (sym (get_or_append_left nodes (node ∷ []) other k below) ∙ here))))
     (λ (past : length nodes ≤ k).
     let at : length nodes ≡ k = omega (arith, within, past, length_push nodes node) in
     let is : node ≡ other = sym (get_or_at nodes node [] other k at) ∙ here in
@@ -174,10 +177,12 @@ pub AreJudged-push : (head : Head) (nodes : List AnyNode) (node : AnyNode) (earl
     → TakesNode head earlier kept node text → AreJudged head (nodes ++ node ∷ [])
 AreJudged-push head nodes node earlier kept text e judged takes =
     let count : length earlier ≡ length nodes = ap length e ∙ length-map nodes position_of in
-    let under : SpellsUnder head (length earlier) (node_line (length earlier) node) node = subst (λ (t : List ℕ). SpellsUnder head (length earlier) t node) takes.under.spells.spelled takes.under in
+    let under : SpellsUnder head (length earlier) (node_line (length earlier) node) node = subst
+    (λ (t : List ℕ). SpellsUnder head (length earlier) t node) takes.under.spells.spelled takes.under in
     record {
       spelled = spelled_push head nodes node judged.spelled (subst (λ (i : ℕ). SpellsUnder head i (node_line i node) node) count under);
-      each = each_push head nodes node judged.each (subst (λ (i : ℕ). MeetsRules head (map position_of nodes) (i + 1 == head.count) node) count (subst (λ (ps : List Position). MeetsRules head ps (length earlier + 1 == head.count) node) e takes.meets));
+      each = each_push head nodes node judged.each (subst (λ (i : ℕ). MeetsRules head (map position_of nodes) (i + 1 == head.count) node) count (subst
+          (λ (ps : List Position). MeetsRules head ps (length earlier + 1 == head.count) node) e takes.meets));
     }
 
 pub positions_push : (nodes : List AnyNode) (node : AnyNode) (earlier kept : List Position) → earlier ≡ map position_of nodes → kept ≡ earlier ++ position_of node ∷ []
@@ -190,7 +195,8 @@ pub lines_push : (nodes : List AnyNode) (node : AnyNode) (number : ℕ) (text : 
     → ReadsLines (node_lines 0 (nodes ++ node ∷ [])) old new left new_left
 lines_push nodes node number text old mid new left mid_left new_left count spelled a b =
     let same : node_line number node ≡ node_line (0 + length nodes) node = ap (λ (i : ℕ). node_line i node) (omega (arith, count)) in
-    subst (λ (lines : List (List ℕ)). ReadsLines lines old new left new_left) (ap (λ (line : List ℕ). node_lines 0 nodes ++ line ∷ []) (spelled ∙ same) ∙ sym (node_lines_push 0 nodes node))
+    subst (λ (lines : List (List ℕ)). ReadsLines lines old new left new_left)
+    (ap (λ (line : List ℕ). node_lines 0 nodes ++ line ∷ []) (spelled ∙ same) ∙ sym (node_lines_push 0 nodes node))
     (ReadsLines-then (node_lines 0 nodes) (text ∷ []) old mid new left mid_left new_left a b)
 
 -- the node after these was refused
@@ -204,8 +210,10 @@ RefusesNode-from head nodes earlier fault old mid left mid_left new_left start e
       nodes = nodes;
       few = few;
       judged = judged;
-      refused = subst (λ (lines : List (List ℕ)). RefusesAfter lines (IsWrongNext (head.start + length nodes) (IsNodeLine head (length nodes)) (IsBrokenNodeLine head (map position_of nodes))) fault old left new_left) (append-nil (node_lines 0 nodes))
-          (RefusesAfter-then (node_lines 0 nodes) [] (IsWrongNext (head.start + length nodes) (IsNodeLine head (length nodes)) (IsBrokenNodeLine head (map position_of nodes))) fault old mid left mid_left new_left reads
+      refused = subst (λ (lines : List (List ℕ)). RefusesAfter lines (IsWrongNext (head.start + length nodes) (IsNodeLine head (length nodes))
+          (IsBrokenNodeLine head (map position_of nodes))) fault old left new_left) (append-nil (node_lines 0 nodes))
+          (RefusesAfter-then (node_lines 0 nodes) [] (IsWrongNext (head.start + length nodes) (IsNodeLine head (length nodes))
+          (IsBrokenNodeLine head (map position_of nodes))) fault old mid left mid_left new_left reads
           (subst (λ (n : ℕ). RefusesNext n (IsNodeLine head (length nodes)) (IsBrokenNodeLine head (map position_of nodes)) fault mid mid_left new_left) place
           (subst (λ (i : ℕ). RefusesNext (5 + i) (IsNodeLine head i) (IsBrokenNodeLine head (map position_of nodes)) fault mid mid_left new_left) count
           (subst (λ (ps : List Position). RefusesNext (5 + length earlier) (IsNodeLine head (length earlier)) (IsBrokenNodeLine head ps) fault mid mid_left new_left) e refused))));

@@ -11,7 +11,8 @@ use Rattle.port_io.specs.declared.lines.Line.{Line}
 use Rattle.port_io.specs.declared.lines.Line.TheVariants.{Text, End, TooLong, Unfinished}
 use Rattle.port_io.specs.declared.sources.Failed.{Failed}
 use Rattle.port_io.proofs.NextLemmas.{with_lf-only, StandsNext-only}
-use Rattle.port_io.proofs.ToldLemmas.{prepend_known-prepend, prepend_known-nil}
+use Rattle.std.proofs.KnownBytes.{prepend_known-nil}
+use Rattle.port_io.proofs.ToldLemmas.{prepend_known-prepend}
 use Rattle.strategy_text.specs.Text.{text_of_lines}
 use Rattle.strategy_text.specs.declared.rule.Rule.{Rule}
 use Rattle.checker.specs.Accepted.{IsGone}
@@ -35,7 +36,8 @@ StandFirst-one text bytes rest whole e = record {
 pub StandFirst-then : (first next : List (List ℕ)) (bytes mid rest : List ℕ) → StandFirst first bytes mid → StandFirst next mid rest → StandFirst (first ++ next) bytes rest
 StandFirst-then first next bytes mid rest a b = record {
   whole = All-append IsLine first next a.whole b.whole;
-  split = a.split ∙ ap (λ more. text_of_lines first ++ more) b.split ∙ sym (append_assoc (text_of_lines first) (text_of_lines next) rest) ∙ ap (λ front. front ++ rest) (sym (flat_map-append (λ line. line ++ 10 ∷ []) first next));
+  split = a.split ∙ ap (λ more. text_of_lines first ++ more) b.split ∙ sym (append_assoc (text_of_lines first) (text_of_lines next) rest)
+      ∙ ap (λ front. front ++ rest) (sym (flat_map-append (λ line. line ++ 10 ∷ []) first next));
 }
 
 -- more bytes come after all
@@ -82,7 +84,8 @@ ReadsLines-then first next old mid new left mid_left new_left a b = record {
   read = a.read ++ b.read;
   gone = a.gone ∙ ap (prepend_known a.read) b.gone ∙ prepend_known-prepend a.read b.read new_left;
   stand = StandFirst-then first next (old.held ++ (a.read ++ b.read)) (mid.held ++ b.read) new.held
-      (subst (λ (all : List ℕ). StandFirst first all (mid.held ++ b.read)) (append_assoc old.held a.read b.read) (StandFirst-more first (old.held ++ a.read) mid.held b.read a.stand))
+      (subst (λ (all : List ℕ). StandFirst first all (mid.held ++ b.read)) (append_assoc old.held a.read b.read)
+      (StandFirst-more first (old.held ++ a.read) mid.held b.read a.stand))
       b.stand;
 }
 
@@ -133,7 +136,8 @@ refuses_ending number other text old new left new_left differs reads shown answe
   read = reads.0;
   gone = reads.2;
   in_hand = no_next number other (old.held ++ reads.0) differs (subst (StandsNext other) reads.1 shown);
-  in_all = told_all (λ bytes. IsWrongAfter [] (IsWrongNext number AnyLine NoRule) (Rejected number why.Syntax) (old.held ++ bytes)) left (λ bytes e. no_next number other (old.held ++ bytes) differs (told_at (StandsNext other) (to_come old left) (old.held ++ bytes) answer (ap (prepend_known old.held) e)));
+  in_all = told_all (λ bytes. IsWrongAfter [] (IsWrongNext number AnyLine NoRule) (Rejected number why.Syntax) (old.held ++ bytes)) left
+      (λ bytes e. no_next number other (old.held ++ bytes) differs (told_at (StandsNext other) (to_come old left) (old.held ++ bytes) answer (ap (prepend_known old.held) e)));
   no_line = λ e. absurd (not_read number why.Syntax e);
 }
 
@@ -144,7 +148,8 @@ refuses_read number Form Breaking old new left new_left reads none = record {
   read = reads.0;
   gone = reads.2;
   in_hand = (old.held ++ reads.0, StandFirst-none (old.held ++ reads.0), tt);
-  in_all = told_all (λ bytes. IsWrongAfter [] (IsWrongNext number Form Breaking) Read (old.held ++ bytes)) left (λ bytes e. (old.held ++ bytes, StandFirst-none (old.held ++ bytes), tt));
+  in_all = told_all (λ bytes. IsWrongAfter [] (IsWrongNext number Form Breaking) Read (old.held ++ bytes)) left
+      (λ bytes e. (old.held ++ bytes, StandFirst-none (old.held ++ bytes), tt));
   no_line = λ e. (old.held ++ reads.0, StandFirst-none (old.held ++ reads.0), subst HasNoLf reads.1 none);
 }
 
@@ -165,7 +170,9 @@ refuses_next number Form Breaking fault old left new_left r = record {
   read = r.read;
   gone = r.gone;
   in_hand = refuses_form_of number Form Breaking fault (old.held ++ r.read) r.in_hand;
-  in_all = told_all (λ bytes. IsWrongAfter [] (IsWrongNext number Form Breaking) fault (old.held ++ bytes)) left (λ bytes e. refuses_form_of number Form Breaking fault (old.held ++ bytes) (told_at (λ bytes. IsWrongAfter [] (IsWrongNext number AnyLine NoRule) fault (old.held ++ bytes)) left bytes r.in_all e));
+  in_all = told_all (λ bytes. IsWrongAfter [] (IsWrongNext number Form Breaking) fault (old.held ++ bytes)) left
+      (λ bytes e. refuses_form_of number Form Breaking fault (old.held ++ bytes)
+      (told_at (λ bytes. IsWrongAfter [] (IsWrongNext number AnyLine NoRule) fault (old.held ++ bytes)) left bytes r.in_all e));
   no_line = r.no_line;
 }
 
@@ -187,12 +194,15 @@ refuses_given Wrong line fault lines old new left new_left r wrong = record {
 pub refuses_form : (number : ℕ) (Form : List ℕ → Type 0) (Breaking : Rule → List ℕ → Type 0) (text : List ℕ) (old new : ReaderState) (left new_left : Option (List ℕ))
     → ReadsLines (text ∷ []) old new left new_left → (Form text → ⊥) → RefusesNext number Form Breaking (Rejected number why.Syntax) old left new_left
 refuses_form number Form Breaking text old new left new_left r never =
-    refuses_given (IsWrongNext number Form Breaking) number why.Syntax (text ∷ []) old new left new_left r (λ bytes rest s. (refl, λ next. never (next_is text bytes rest Form s next)))
+    refuses_given (IsWrongNext number Form Breaking) number why.Syntax (text ∷ []) old new left new_left r
+    (λ bytes rest s. (refl, λ next. never (next_is text bytes rest Form s next)))
 
 -- a whole line stood next that breaks a rule
-pub refuses_rule : (number : ℕ) (Form : List ℕ → Type 0) (Breaking : Rule → List ℕ → Type 0) (rule : Rule) (text : List ℕ) (old new : ReaderState) (left new_left : Option (List ℕ)) → ReadsLines (text ∷ []) old new left new_left → Breaking rule text → RefusesNext number Form Breaking (Rejected number (why.Rule rule)) old left new_left
+pub refuses_rule : (number : ℕ) (Form : List ℕ → Type 0) (Breaking : Rule → List ℕ → Type 0) (rule : Rule) (text : List ℕ) (old new : ReaderState) (left new_left : Option (List ℕ))
+    → ReadsLines (text ∷ []) old new left new_left → Breaking rule text → RefusesNext number Form Breaking (Rejected number (why.Rule rule)) old left new_left
 refuses_rule number Form Breaking rule text old new left new_left r breaks =
-    refuses_given (IsWrongNext number Form Breaking) number (why.Rule rule) (text ∷ []) old new left new_left r (λ bytes rest s. (refl, HasNext-from text bytes rest (Breaking rule) s breaks))
+    refuses_given (IsWrongNext number Form Breaking) number (why.Rule rule) (text ∷ []) old new left new_left r
+    (λ bytes rest s. (refl, HasNext-from text bytes rest (Breaking rule) s breaks))
 
 -- lines were read, and memory was refused
 pub refuses_memory : (Wrong : CheckFault → List ℕ → Type 0) (lines : List (List ℕ)) (old new : ReaderState) (left new_left : Option (List ℕ))
@@ -201,16 +211,20 @@ refuses_memory Wrong lines old new left new_left r wrong = record {
   read = r.read;
   gone = r.gone;
   in_hand = (old.held ++ r.read, StandFirst-none (old.held ++ r.read), wrong (old.held ++ r.read));
-  in_all = told_all (λ bytes. IsWrongAfter [] Wrong Memory (old.held ++ bytes)) left (λ bytes e. (old.held ++ bytes, StandFirst-none (old.held ++ bytes), wrong (old.held ++ bytes)));
+  in_all = told_all (λ bytes. IsWrongAfter [] Wrong Memory (old.held ++ bytes)) left
+      (λ bytes e. (old.held ++ bytes, StandFirst-none (old.held ++ bytes), wrong (old.held ++ bytes)));
   no_line = λ e. absurd cc;
 }
 
 -- a line that stood next was refused
-pub refuses_line : (number : ℕ) (Form : List ℕ → Type 0) (Breaking : Rule → List ℕ → Type 0) (fault : CheckFault) (text : List ℕ) (old new : ReaderState) (left new_left : Option (List ℕ)) → ReadsLines (text ∷ []) old new left new_left → IsRefusedLine number Form Breaking fault text → RefusesNext number Form Breaking fault old left new_left
+pub refuses_line : (number : ℕ) (Form : List ℕ → Type 0) (Breaking : Rule → List ℕ → Type 0) (fault : CheckFault) (text : List ℕ) (old new : ReaderState)
+    (left new_left : Option (List ℕ)) → ReadsLines (text ∷ []) old new left new_left → IsRefusedLine number Form Breaking fault text
+    → RefusesNext number Form Breaking fault old left new_left
 refuses_line number Form Breaking (Rejected line why.Syntax) text old new left new_left r h =
     subst (λ (l : ℕ). RefusesNext number Form Breaking (Rejected l why.Syntax) old left new_left) (sym h.0) (refuses_form number Form Breaking text old new left new_left r h.1)
 refuses_line number Form Breaking (Rejected line (why.Rule rule)) text old new left new_left r h =
-    subst (λ (l : ℕ). RefusesNext number Form Breaking (Rejected l (why.Rule rule)) old left new_left) (sym h.0) (refuses_rule number Form Breaking rule text old new left new_left r h.1)
+    subst (λ (l : ℕ). RefusesNext number Form Breaking (Rejected l (why.Rule rule)) old left new_left) (sym h.0)
+    (refuses_rule number Form Breaking rule text old new left new_left r h.1)
 refuses_line number Form Breaking Read text old new left new_left r h = absurd h
 refuses_line number Form Breaking Memory text old new left new_left r h = refuses_memory (IsWrongNext number Form Breaking) (text ∷ []) old new left new_left r (λ bytes. tt)
 
@@ -219,7 +233,8 @@ wrong_after : (first given : List (List ℕ)) (Wrong : CheckFault → List ℕ �
     → IsWrongAfter given Wrong fault mid → IsWrongAfter (first ++ given) Wrong fault bytes
 wrong_after first given Wrong fault bytes mid s h = (h.0, StandFirst-then first given bytes mid h.0 s h.1, h.2)
 
-pub RefusesAfter-then : (first given : List (List ℕ)) (Wrong : CheckFault → List ℕ → Type 0) (fault : CheckFault) (old mid : ReaderState) (left mid_left new_left : Option (List ℕ)) → ReadsLines first old mid left mid_left → RefusesAfter given Wrong fault mid mid_left new_left → RefusesAfter (first ++ given) Wrong fault old left new_left
+pub RefusesAfter-then : (first given : List (List ℕ)) (Wrong : CheckFault → List ℕ → Type 0) (fault : CheckFault) (old mid : ReaderState) (left mid_left new_left : Option (List ℕ))
+    → ReadsLines first old mid left mid_left → RefusesAfter given Wrong fault mid mid_left new_left → RefusesAfter (first ++ given) Wrong fault old left new_left
 RefusesAfter-then first given Wrong fault old mid left mid_left new_left a b =
     let hand : StandFirst first (old.held ++ (a.read ++ b.read)) (mid.held ++ b.read) = stand_in_all first old mid (a.read ++ b.read) b.read left mid_left a refl in
     record {
@@ -228,7 +243,8 @@ RefusesAfter-then first given Wrong fault old mid left mid_left new_left a b =
       in_hand = wrong_after first given Wrong fault (old.held ++ (a.read ++ b.read)) (mid.held ++ b.read) hand b.in_hand;
       in_all = told_all (λ bytes. IsWrongAfter (first ++ given) Wrong fault (old.held ++ bytes)) left (λ bytes e.
           let s = told_split bytes a.read mid_left (sym e ∙ a.gone) in
-          wrong_after first given Wrong fault (old.held ++ bytes) (mid.held ++ s.0) (stand_in_all first old mid bytes s.0 left mid_left a s.2) (told_at (λ bytes. IsWrongAfter given Wrong fault (mid.held ++ bytes)) mid_left s.0 b.in_all s.1));
+          wrong_after first given Wrong fault (old.held ++ bytes) (mid.held ++ s.0) (stand_in_all first old mid bytes s.0 left mid_left a s.2)
+          (told_at (λ bytes. IsWrongAfter given Wrong fault (mid.held ++ bytes)) mid_left s.0 b.in_all s.1));
       no_line = λ e. let n = b.no_line e in (n.0, StandFirst-then first given (old.held ++ (a.read ++ b.read)) (mid.held ++ b.read) n.0 hand n.1, n.2);
     }
 
@@ -256,7 +272,8 @@ err_so P Q (Err fault) h k = h fault k
 pub RefusesNext-after : (given : List (List ℕ)) (Wrong : CheckFault → List ℕ → Type 0) (fault : CheckFault) (old mid : ReaderState) (left mid_left new_left : Option (List ℕ))
     → ReadsLines given old mid left mid_left → RefusesAfter [] Wrong fault mid mid_left new_left → RefusesAfter given Wrong fault old left new_left
 RefusesNext-after given Wrong fault old mid left mid_left new_left a b =
-    subst (λ (lines : List (List ℕ)). RefusesAfter lines Wrong fault old left new_left) (append-nil given) (RefusesAfter-then given [] Wrong fault old mid left mid_left new_left a b)
+    subst (λ (lines : List (List ℕ)). RefusesAfter lines Wrong fault old left new_left) (append-nil given)
+    (RefusesAfter-then given [] Wrong fault old mid left mid_left new_left a b)
 
 -- ---- the end of the input
 
@@ -275,8 +292,15 @@ refuses_past number other text old new left new_left differs reads shown =
       gone = reads.2;
       in_hand = (old.held ++ reads.0, StandFirst-none (old.held ++ reads.0), (refl, some));
       in_all = told_all (λ bytes. IsWrongAfter [] (IsPastEnd number) (Rejected number why.Syntax) (old.held ++ bytes)) left (λ bytes e.
-          let s = told_split bytes reads.0 new_left (sym e ∙ reads.2) in
-          (old.held ++ bytes, StandFirst-none (old.held ++ bytes), (refl, λ none. some (front_nil (old.held ++ reads.0) s.0 (append_assoc old.held reads.0 s.0 ∙ ap (λ (more : List ℕ). old.held ++ more) (sym s.2) ∙ none)))));
+          let s = told_split bytes reads.0 new_left (sym e ∙ reads.2) in (
+            old.held ++ bytes,
+            StandFirst-none (old.held ++ bytes),
+            (
+              refl,
+              λ none. some
+                  (front_nil (old.held ++ reads.0) s.0 (append_assoc old.held reads.0 s.0 ∙ ap (λ (more : List ℕ). old.held ++ more) (sym s.2) ∙ none)),
+            ),
+          ));
       no_line = λ e. absurd (not_read number why.Syntax e);
     }
 
@@ -305,7 +329,8 @@ reads_end text old new left new_left reads shown answer =
       gone = subst (λ (read : List ℕ). IsGone read left new_left) parts.1 reads.2;
       whole = told_all (λ rest. rest ≡ []) new_left (λ rest e.
           let all : left ≡ Some (reads.0 ++ rest) = reads.2 ∙ ap (prepend_known reads.0) e in
-          (nil_parts reads.0 rest (nil_parts old.held (reads.0 ++ rest) (told_at (StandsNext End) (to_come old left) (old.held ++ (reads.0 ++ rest)) answer (ap (prepend_known old.held) all))).1).1);
+          (nil_parts reads.0 rest (nil_parts old.held (reads.0 ++ rest) (told_at (StandsNext End) (to_come old left) (old.held ++ (reads.0 ++ rest)) answer
+          (ap (prepend_known old.held) all))).1).1);
     }
 
 pub ended : (other : Line) (text : List ℕ) (old new : ReaderState) (left new_left : Option (List ℕ)) → other ≡ End

@@ -1,19 +1,18 @@
 -- A whole text that was read is that of a legal strategy.
-use Rattle.std.proofs.Common.{◌≡◌, ◌==◌, ℕ, suc, zero, ◌+◌, ◌<◌, ◌≤◌, List, [], ◌∷◌, ◌++◌, length, take, map, get_or, All, Option, Some, None, sym, ap, ◌∙◌, subst, refl, arith, append_assoc, IfSome}
+use Rattle.std.proofs.Common.{◌≡◌, ◌==◌, ℕ, suc, zero, ◌+◌, ◌<◌, ◌≤◌, List, [], ◌∷◌, ◌++◌, length, take, map, get_or}
+use Rattle.std.proofs.Common.{Option, Some, None, sym, ap, ◌∙◌, subst, refl, arith}
 use Rattle.std.specs.Prelude.{Result, Ok, Err, IfOk}
 use Rattle.std.specs.Io.KnownBytes.{prepend_known}
 use Rattle.std.specs.List.{slice_get}
-use Rattle.std.proofs.Math.Seq.{take-length}
 use Rattle.std.proofs.lemmas.List.{length-map, append-nil}
-use Rattle.std.proofs.lemmas.List.Elements.{All-cons, All-nil}
 use Rattle.std.proofs.lemmas.Option.{slice_get-get_or}
 use Rattle.port_io.specs.Lines.{ReaderState}
-use Rattle.port_io.proofs.ToldLemmas.{prepend_known-prepend, prepend_known-nil}
-use Rattle.items.specs.Game.{GameNumbers}
+use Rattle.std.proofs.KnownBytes.{prepend_known-nil}
+use Rattle.port_io.proofs.ToldLemmas.{prepend_known-prepend}
 use Rattle.items.specs.Multiset.{sizes_of}
 use Rattle.loads.specs.declared.position.Position.{Position}
-use Rattle.strategy_text.specs.Spelling.{IsSpellableAdversary, IsSpellableAlgorithm, IsStep, IsAct, most_nodes}
-use Rattle.strategy_text.specs.Text.{AnyNode, of_adversary, of_algorithm, node_line, node_lines, nodes_of, side_of, end_line, head_lines, text_of, text_of_lines}
+use Rattle.strategy_text.specs.Spelling.{IsStep, IsAct}
+use Rattle.strategy_text.specs.Text.{AnyNode, of_adversary, of_algorithm, node_lines, nodes_of, side_of, end_line, head_lines, text_of, text_of_lines}
 use Rattle.strategy_text.specs.declared.node.Act.{Act}
 use Rattle.strategy_text.specs.declared.node.Act.TheVariants.{Finish, Big, Reply}
 use Rattle.strategy_text.specs.declared.node.AdvNode.{AdvNode}
@@ -33,7 +32,7 @@ use Rattle.algorithm_graph.specs.Legal as algorithm_legal
 use Rattle.algorithm_graph.specs.Nodes as algorithm_nodes
 use Rattle.checker.specs.Accepted.{Spells, Loads, Accepts, IsFaultOf}
 use Rattle.checker.specs.FirstFault.{IsWanted}
-use Rattle.checker.specs.Head.{Head, position_of, side_of_node, SpellsUnder, MeetsRules, EachMeetsRules, AreLegalNodes, IsLegal}
+use Rattle.checker.specs.Head.{Head, position_of, side_of_node, MeetsRules, EachMeetsRules, AreLegalNodes}
 use Rattle.checker.specs.Progress.{ReadsText, ReadsEnd, RefusesAfter, IsPastEnd, IsHead, AreJudged, strategy_or, told_by}
 use Rattle.checker.specs.declared.fault.Accepted.{Accepted}
 use Rattle.checker.specs.declared.head.Head as declared
@@ -65,12 +64,14 @@ algorithm_positions (suc k) (node ∷ list) = ap (λ ps. algorithm_nodes.positio
 adversary_each : (head : Head) (list : List AdvNode) → EachMeetsRules head (map of_adversary list) → adversary_legal.EachMeetsRules head.format head.game head.sizes head.count list
 unfolding EachMeetsRules adversary_legal.EachMeetsRules
 adversary_each head list each k node e =
-    subst (λ (ps : List Position). MeetsRules head ps (k + 1 == head.count) (of_adversary node)) (adversary_positions k list) (each k (of_adversary node) (map_get of_adversary list k node e))
+    subst (λ (ps : List Position). MeetsRules head ps (k + 1 == head.count) (of_adversary node)) (adversary_positions k list)
+    (each k (of_adversary node) (map_get of_adversary list k node e))
 
 algorithm_each : (head : Head) (list : List AlgNode) → EachMeetsRules head (map of_algorithm list) → algorithm_legal.EachMeetsRules head.game head.sizes head.count list
 unfolding EachMeetsRules algorithm_legal.EachMeetsRules
 algorithm_each head list each k node e =
-    subst (λ (ps : List Position). MeetsRules head ps (k + 1 == head.count) (of_algorithm node)) (algorithm_positions k list) (each k (of_algorithm node) (map_get of_algorithm list k node e))
+    subst (λ (ps : List Position). MeetsRules head ps (k + 1 == head.count) (of_algorithm node)) (algorithm_positions k list)
+    (each k (of_algorithm node) (map_get of_algorithm list k node e))
 
 step_formed : (format : Format) (step : Step) → IsStep format step → adversary_nodes.IsOfFormat format step
 step_formed One (Send size pack placements) h = tt
@@ -92,8 +93,10 @@ legal_from wanted head (nodes.Adversary list) is number judged =
       of_game = is.of_game;
       low = omega (arith, count, is.low);
       high = omega (arith, count, is.high);
-      formed = λ k d within. step_formed head.format (get_or list k d).step (judged.spelled k (of_adversary (get_or list k d)) (map_get of_adversary list k (get_or list k d) (slice_get-get_or list k d within))).spells.spellable.step;
-      each = subst (λ (n : ℕ). adversary_legal.EachMeetsRules head.format head.game (sizes_of head.game) n list) (sym count) (subst (λ (sizes : List ℕ). adversary_legal.EachMeetsRules head.format head.game sizes head.count list) is.whole_game (adversary_each head list judged.each));
+      formed = λ k d within. step_formed head.format (get_or list k d).step
+          (judged.spelled k (of_adversary (get_or list k d)) (map_get of_adversary list k (get_or list k d) (slice_get-get_or list k d within))).spells.spellable.step;
+      each = subst (λ (n : ℕ). adversary_legal.EachMeetsRules head.format head.game (sizes_of head.game) n list) (sym count)
+          (subst (λ (sizes : List ℕ). adversary_legal.EachMeetsRules head.format head.game sizes head.count list) is.whole_game (adversary_each head list judged.each));
     }
 legal_from wanted head (nodes.Algorithm list) is number judged =
     let count : length list ≡ head.count = sym (length-map list of_algorithm) ∙ number in
@@ -101,27 +104,29 @@ legal_from wanted head (nodes.Algorithm list) is number judged =
       of_game = is.of_game;
       low = omega (arith, count, is.low);
       high = omega (arith, count, is.high);
-      formed = λ k d within. act_formed head.format (get_or list k d).act (judged.spelled k (of_algorithm (get_or list k d)) (map_get of_algorithm list k (get_or list k d) (slice_get-get_or list k d within))).spells.spellable.act;
-      each = subst (λ (n : ℕ). algorithm_legal.EachMeetsRules head.game (sizes_of head.game) n list) (sym count) (subst (λ (sizes : List ℕ). algorithm_legal.EachMeetsRules head.game sizes head.count list) is.whole_game (algorithm_each head list judged.each));
+      formed = λ k d within. act_formed head.format (get_or list k d).act
+          (judged.spelled k (of_algorithm (get_or list k d)) (map_get of_algorithm list k (get_or list k d) (slice_get-get_or list k d within))).spells.spellable.act;
+      each = subst (λ (n : ℕ). algorithm_legal.EachMeetsRules head.game (sizes_of head.game) n list) (sym count)
+          (subst (λ (sizes : List ℕ). algorithm_legal.EachMeetsRules head.game sizes head.count list) is.whole_game (algorithm_each head list judged.each));
     }
 
 -- the nodes of a side, as a strategy keeps them
-strip_adversary : (list : List AnyNode) → ((k : ℕ) (node : AnyNode) → slice_get list k ≡ Some node → side_of_node node ≡ Adversary)
+adversary_kept : (list : List AnyNode) → ((k : ℕ) (node : AnyNode) → slice_get list k ≡ Some node → side_of_node node ≡ Adversary)
     → (kept : List AdvNode) × (map of_adversary kept ≡ list)
-strip_adversary [] h = ([], refl)
-strip_adversary (of_adversary node ∷ list) h = let r = strip_adversary list (λ k n e. h (suc k) n e) in (node ∷ r.0, ap (λ ns. of_adversary node ∷ ns) r.1)
-strip_adversary (of_algorithm node ∷ list) h = let other : Algorithm ≡ Adversary = h zero (of_algorithm node) refl in absurd cc
+adversary_kept [] h = ([], refl)
+adversary_kept (of_adversary node ∷ list) h = let r = adversary_kept list (λ k n e. h (suc k) n e) in (node ∷ r.0, ap (λ ns. of_adversary node ∷ ns) r.1)
+adversary_kept (of_algorithm node ∷ list) h = let other : Algorithm ≡ Adversary = h zero (of_algorithm node) refl in absurd cc
 
-strip_algorithm : (list : List AnyNode) → ((k : ℕ) (node : AnyNode) → slice_get list k ≡ Some node → side_of_node node ≡ Algorithm)
+algorithm_kept : (list : List AnyNode) → ((k : ℕ) (node : AnyNode) → slice_get list k ≡ Some node → side_of_node node ≡ Algorithm)
     → (kept : List AlgNode) × (map of_algorithm kept ≡ list)
-strip_algorithm [] h = ([], refl)
-strip_algorithm (of_algorithm node ∷ list) h = let r = strip_algorithm list (λ k n e. h (suc k) n e) in (node ∷ r.0, ap (λ ns. of_algorithm node ∷ ns) r.1)
-strip_algorithm (of_adversary node ∷ list) h = let other : Adversary ≡ Algorithm = h zero (of_adversary node) refl in absurd cc
+algorithm_kept [] h = ([], refl)
+algorithm_kept (of_algorithm node ∷ list) h = let r = algorithm_kept list (λ k n e. h (suc k) n e) in (node ∷ r.0, ap (λ ns. of_algorithm node ∷ ns) r.1)
+algorithm_kept (of_adversary node ∷ list) h = let other : Adversary ≡ Algorithm = h zero (of_adversary node) refl in absurd cc
 
-strip : (side : Side) (list : List AnyNode) → ((k : ℕ) (node : AnyNode) → slice_get list k ≡ Some node → side_of_node node ≡ side)
+pub nodes_kept : (side : Side) (list : List AnyNode) → ((k : ℕ) (node : AnyNode) → slice_get list k ≡ Some node → side_of_node node ≡ side)
     → (kept : Nodes) × (nodes_of kept ≡ list) × (side_of kept ≡ side)
-strip Adversary list h = let r = strip_adversary list h in (nodes.Adversary r.0, r.1, refl)
-strip Algorithm list h = let r = strip_algorithm list h in (nodes.Algorithm r.0, r.1, refl)
+nodes_kept Adversary list h = let r = adversary_kept list h in (nodes.Adversary r.0, r.1, refl)
+nodes_kept Algorithm list h = let r = algorithm_kept list h in (nodes.Algorithm r.0, r.1, refl)
 
 -- ---- a text that was read
 
@@ -132,8 +137,10 @@ Spells-from wanted head kept old new left new_left side r = record {
   wanted_side = subst (IsWanted wanted) (sym side) r.is_head.wanted_side;
   read = r.reads.read;
   gone = r.reads.gone;
-  spelled = subst (λ (s : Side). old.held ++ r.reads.read ≡ text_of_lines (head_lines head.format head.game s (length (nodes_of kept)) ++ node_lines 0 (nodes_of kept) ++ end_line ∷ []) ++ new.held) (sym side)
-      (subst (λ (n : ℕ). old.held ++ r.reads.read ≡ text_of_lines (head_lines head.format head.game head.side n ++ node_lines 0 (nodes_of kept) ++ end_line ∷ []) ++ new.held) (sym r.number) r.reads.stand.split);
+  spelled = subst (λ (s : Side). old.held ++ r.reads.read ≡ text_of_lines
+      (head_lines head.format head.game s (length (nodes_of kept)) ++ node_lines 0 (nodes_of kept) ++ end_line ∷ []) ++ new.held) (sym side)
+      (subst (λ (n : ℕ). old.held ++ r.reads.read ≡ text_of_lines (head_lines head.format head.game head.side n ++ node_lines 0 (nodes_of kept) ++ end_line ∷ []) ++ new.held)
+      (sym r.number) r.reads.stand.split);
 }
 
 -- a text that was read to the end of the input
@@ -148,7 +155,8 @@ Loads-from wanted head kept old mid left mid_left new_left fresh side text end =
         wanted_side = s.wanted_side;
         read = s.read;
         gone = s.gone ∙ ap (prepend_known s.read) end.gone ∙ prepend_known-prepend s.read [] new_left ∙ ap (λ (read : List ℕ). prepend_known read new_left) (append-nil s.read);
-        spelled = ap (λ (held : List ℕ). held ++ s.read) (sym fresh) ∙ s.spelled ∙ ap (λ (held : List ℕ). text_of (record { format = head.format; game = head.game; nodes = kept }) ++ held) end.held;
+        spelled = ap (λ (held : List ℕ). held ++ s.read) (sym fresh) ∙ s.spelled
+            ∙ ap (λ (held : List ℕ). text_of (record { format = head.format; game = head.game; nodes = kept }) ++ held) end.held;
       };
       whole = end.whole;
     }
@@ -157,7 +165,7 @@ pub Accepts-from : (wanted : Wanted) (head : Head) (list : List AnyNode) (accept
     → ReadsText wanted head list old mid left mid_left → ReadsEnd mid mid_left new_left → accepted.game ≡ head.game → accepted.side ≡ head.side → accepted.nodes ≡ head.count
     → Accepts wanted accepted left new_left
 Accepts-from wanted head list accepted old mid left mid_left new_left fresh r end game side number =
-    let kept = strip head.side list (λ k node e. (r.judged.spelled k node e).side) in
+    let kept = nodes_kept head.side list (λ k node e. (r.judged.spelled k node e).side) in
     let text : ReadsText wanted head (nodes_of kept.0) old mid left mid_left = subst (λ (ns : List AnyNode). ReadsText wanted head ns old mid left mid_left) (sym kept.1) r in
     record {
       strategy = record { format = head.format; game = head.game; nodes = kept.0 };
@@ -182,8 +190,11 @@ pub no_memory : (wanted : Wanted) (left : Option (List ℕ)) → IsFaultOf wante
 no_memory wanted left = ([], sym (prepend_known-nil left))
 
 -- the strategy of what was read
-pub loaded_from : (wanted : Wanted) (read : Result declared.Head CheckFault) (result : Result Strategy CheckFault) (kept : Nodes) (old new : ReaderState) (left new_left : Option (List ℕ)) → result ≡ strategy_or read kept → IfOk read (λ head. ReadsText wanted (told_by head) (nodes_of kept) old new left new_left) → IfOk read (λ head. side_of kept ≡ head.side) → IfOk result (λ strategy. Spells wanted strategy old.held new.held left new_left)
+pub loaded_from : (wanted : Wanted) (read : Result declared.Head CheckFault) (result : Result Strategy CheckFault) (kept : Nodes) (old new : ReaderState)
+    (left new_left : Option (List ℕ)) → result ≡ strategy_or read kept → IfOk read (λ head. ReadsText wanted (told_by head) (nodes_of kept) old new left new_left)
+    → IfOk read (λ head. side_of kept ≡ head.side) → IfOk result (λ strategy. Spells wanted strategy old.held new.held left new_left)
 loaded_from wanted (Ok head) result kept old new left new_left e r side =
-    subst (λ (x : Result Strategy CheckFault). IfOk x (λ strategy. Spells wanted strategy old.held new.held left new_left)) (sym e) (Spells-from wanted (told_by head) kept old new left new_left side r)
+    subst (λ (x : Result Strategy CheckFault). IfOk x (λ strategy. Spells wanted strategy old.held new.held left new_left)) (sym e)
+    (Spells-from wanted (told_by head) kept old new left new_left side r)
 loaded_from wanted (Err fault) result kept old new left new_left e r side =
     subst (λ (x : Result Strategy CheckFault). IfOk x (λ strategy. Spells wanted strategy old.held new.held left new_left)) (sym e) tt

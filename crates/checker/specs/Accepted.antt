@@ -16,7 +16,8 @@ IsGone read left new_left = left ≡ prepend_known read new_left
 
 -- the strategy is legal and of a wanted side, and the bytes in hand, which are those held before and those read, are
 -- its text and what is held now
-pub record Spells (wanted : Wanted) (strategy : Strategy) (held new_held : List ℕ) (left new_left : Option (List ℕ)) : Type 0 where
+pub record Spells (wanted : Wanted) (strategy : Strategy) (held new_held : List ℕ) (left new_left : Option (List ℕ))
+    : Type 0 where
   pub legal : IsLegal strategy
   pub wanted_side : IsWanted wanted (side_of strategy.nodes)
   pub read : List ℕ
@@ -43,7 +44,8 @@ pub record Accepts (wanted : Wanted) (accepted : Accepted) (left new_left : Opti
 
 -- the bytes in hand, which are those held before and those read, have this first fault, and so has the whole input,
 -- where the source tells it
-pub record Rejects (wanted : Wanted) (held : List ℕ) (line : ℕ) (fault : Why) (left new_left : Option (List ℕ)) : Type 0 where
+pub record Rejects (wanted : Wanted) (held : List ℕ) (line : ℕ) (fault : Why) (left new_left : Option (List ℕ))
+    : Type 0 where
   pub read : List ℕ
   pub gone : IsGone read left new_left
   pub first : FirstFault wanted (held ++ read) line fault

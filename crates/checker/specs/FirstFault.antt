@@ -92,7 +92,8 @@ pub data HeadFault (wanted : Wanted) (bytes : List ℕ) : ℕ → Why → Type 0
 -- the lines of nodes begin with nodes at these positions
 abbrev pub HasPositions : List ℕ → Head → List Position → Type 0
 HasPositions bytes head positions =
-    (k : ℕ) (position : Position) → slice_get positions k ≡ Some position → HasForm bytes (head.start + k) (IsNodeLineAt head k position)
+    (k : ℕ) (position : Position) → slice_get positions k ≡ Some position
+    → HasForm bytes (head.start + k) (IsNodeLineAt head k position)
 
 -- What is wrong with a line after this head. A rule of a node is judged where all earlier lines of nodes are of their
 -- form; it cannot matter, since the least faulty line wins.
@@ -142,7 +143,8 @@ pub record IsLegalText (wanted : Wanted) (bytes : List ℕ) : Type 0 where
 -- a text has at most one first fault
 abbrev pub OneFirstFault : Type 0
 OneFirstFault =
-    (wanted : Wanted) (bytes : List ℕ) (line other : ℕ) (fault another : Why) → FirstFault wanted bytes line fault → FirstFault wanted bytes other another → (line ≡ other) × (fault ≡ another)
+    (wanted : Wanted) (bytes : List ℕ) (line other : ℕ) (fault another : Why) → FirstFault wanted bytes line fault
+    → FirstFault wanted bytes other another → (line ≡ other) × (fault ≡ another)
 
 -- the text of a legal strategy of a wanted side has no fault
 abbrev pub LegalTextHasNoFault : Type 0
@@ -151,4 +153,5 @@ LegalTextHasNoFault = (wanted : Wanted) (bytes : List ℕ) → IsLegalText wante
 -- the fault of a line depends on the bytes up to its line feed alone
 abbrev pub FaultDependsOnLinesBefore : Type 0
 FaultDependsOnLinesBefore =
-    (wanted : Wanted) (bytes more : List ℕ) (n line : ℕ) (rest : List ℕ) (fault : Why) → HasWhole bytes n rest → line ≤ n → LineFault wanted bytes line fault ↔ LineFault wanted (bytes ++ more) line fault
+    (wanted : Wanted) (bytes more : List ℕ) (n line : ℕ) (rest : List ℕ) (fault : Why) → HasWhole bytes n rest
+    → line ≤ n → LineFault wanted bytes line fault ↔ LineFault wanted (bytes ++ more) line fault

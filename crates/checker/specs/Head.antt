@@ -44,12 +44,14 @@ side_of_node (of_algorithm node) = sides.Algorithm
 
 -- a node meets every rule of its side
 abbrev pub MeetsRules : Head → List Position → Bool → AnyNode → Type 0
-MeetsRules head earlier last (of_adversary node) = adversary.MeetsRules head.format head.game head.sizes earlier last node
+MeetsRules head earlier last (of_adversary node) =
+    adversary.MeetsRules head.format head.game head.sizes earlier last node
 MeetsRules head earlier last (of_algorithm node) = algorithm.MeetsRules head.game head.sizes earlier last node
 
 -- the first rule of its side that a node breaks
 abbrev pub Breaks : Head → List Position → Bool → AnyNode → Rule → Type 0
-Breaks head earlier last (of_adversary node) rule = adversary.Breaks head.format head.game head.sizes earlier last node rule
+Breaks head earlier last (of_adversary node) rule =
+    adversary.Breaks head.format head.game head.sizes earlier last node rule
 Breaks head earlier last (of_algorithm node) rule = algorithm.Breaks head.game head.sizes earlier last node rule
 
 -- a line that spells a node of the head's format and side, of this number
@@ -63,17 +65,20 @@ IsNodeLine head number line = (node : AnyNode) × SpellsUnder head number line n
 
 -- such a node, at this position
 abbrev pub IsNodeLineAt : Head → ℕ → Position → List ℕ → Type 0
-IsNodeLineAt head number position line = (node : AnyNode) × SpellsUnder head number line node × (position_of node ≡ position)
+IsNodeLineAt head number position line =
+    (node : AnyNode) × SpellsUnder head number line node × (position_of node ≡ position)
 
 -- such a node, which breaks this rule first, over the positions of the nodes before it
 abbrev pub IsBrokenNodeLine : Head → List Position → Rule → List ℕ → Type 0
 IsBrokenNodeLine head earlier rule line =
-    (node : AnyNode) × SpellsUnder head (length earlier) line node × Breaks head earlier (length earlier + 1 == head.count) node rule
+    (node : AnyNode) × SpellsUnder head (length earlier) line node
+    × Breaks head earlier (length earlier + 1 == head.count) node rule
 
 -- each node meets every rule over the positions of the nodes before it; the last one of so many is the root
 unfoldable pub EachMeetsRules : Head → List AnyNode → Type 0
 EachMeetsRules head nodes =
-    (k : ℕ) (node : AnyNode) → slice_get nodes k ≡ Some node → MeetsRules head (map position_of (take k nodes)) (k + 1 == head.count) node
+    (k : ℕ) (node : AnyNode) → slice_get nodes k ≡ Some node
+    → MeetsRules head (map position_of (take k nodes)) (k + 1 == head.count) node
 
 -- the nodes of a strategy of either side are legal in a format, over the sizes that items may have
 abbrev pub AreLegalNodes : Format → GameNumbers → List ℕ → Nodes → Type 0

@@ -1,11 +1,13 @@
 -- Private: how far a check has come.
-use Rattle.std.specs.Prelude.{◌≡◌, ◌≢◌, ◌==◌, ℕ, ◌+◌, ◌<◌, ◌≤◌, List, [], ◌∷◌, ◌++◌, length, All, Option, None, Some, IfSome, map, slice_get, Result, Ok, Err}
+use Rattle.std.specs.Prelude.{◌≡◌, ◌≢◌, ◌==◌, ℕ, ◌+◌, ◌<◌, ◌≤◌, List, [], ◌∷◌, ◌++◌, length, All}
+use Rattle.std.specs.Prelude.{Option, None, Some, IfSome, map, slice_get, Result, Ok, Err}
 use Rattle.port_io.specs.Lines.{ReaderState, HasNoLf, IsLine, with_lf}
 use Rattle.items.specs.Game.{GameNumbers, IsGame}
 use Rattle.items.specs.Multiset.{sizes_of}
 use Rattle.loads.specs.declared.position.Position.{Position}
 use Rattle.strategy_text.specs.Spelling.{SpellsGame, most_nodes}
-use Rattle.strategy_text.specs.Text.{AnyNode, of_adversary, of_algorithm, node_line, node_lines, first_line, game_line, side_line, count_line, head_lines, end_line, text_of_lines}
+use Rattle.strategy_text.specs.Text.{AnyNode, of_adversary, of_algorithm, node_line, node_lines, first_line}
+use Rattle.strategy_text.specs.Text.{game_line, side_line, count_line, head_lines, end_line, text_of_lines}
 use Rattle.strategy_text.specs.declared.node.Format.{Format}
 use Rattle.strategy_text.specs.declared.node.Nodes.{Nodes}
 use Rattle.strategy_text.specs.declared.node.Side.{Side}
@@ -15,7 +17,8 @@ use Rattle.strategy_text.specs.declared.rule.Rule.TheVariants as rules
 use Rattle.checker.specs.declared.head.Head as declared
 use Rattle.checker.specs.declared.node.Node.{Node}
 use Rattle.checker.specs.declared.node.Node.TheVariants as read
-use Rattle.checker.specs.Head.{Head, head_of_game, position_of, SpellsUnder, MeetsRules, Breaks, EachMeetsRules, IsNodeLine, IsBrokenNodeLine}
+use Rattle.checker.specs.Head.{Head, head_of_game, position_of, SpellsUnder, MeetsRules}
+use Rattle.checker.specs.Head.{Breaks, EachMeetsRules, IsNodeLine, IsBrokenNodeLine}
 use Rattle.checker.specs.Accepted.{IsGone, IsReadWhole}
 use Rattle.checker.specs.FirstFault.{IsWanted, IsFirstLine, IsGameLine, IsSideLine, IsCountLine}
 use Rattle.checker.specs.declared.fault.CheckFault.{CheckFault}
@@ -57,7 +60,8 @@ IsWrongAfter given Wrong fault bytes = (rest : List ℕ) × StandFirst given byt
 
 -- These lines were given, and then something was refused: by the bytes in hand, which are those held and those read,
 -- and by all bytes, where the source tells them. Where a read failed, no line feed stands after these lines in hand.
-pub record RefusesAfter (given : List (List ℕ)) (Wrong : CheckFault → List ℕ → Type 0) (fault : CheckFault) (old : ReaderState) (left new_left : Option (List ℕ)) : Type 0 where
+pub record RefusesAfter (given : List (List ℕ)) (Wrong : CheckFault → List ℕ → Type 0) (fault : CheckFault)
+    (old : ReaderState) (left new_left : Option (List ℕ)) : Type 0 where
   pub read : List ℕ
   pub gone : IsGone read left new_left
   pub in_hand : IsWrongAfter given Wrong fault (old.held ++ read)
@@ -67,7 +71,8 @@ pub record RefusesAfter (given : List (List ℕ)) (Wrong : CheckFault → List �
 -- the next line was refused
 abbrev pub RefusesNext : ℕ → (List ℕ → Type 0) → (Rule → List ℕ → Type 0) → CheckFault → ReaderState → Option (List ℕ)
     → Option (List ℕ) → Type 0
-RefusesNext number Form Breaking fault old left new_left = RefusesAfter [] (IsWrongNext number Form Breaking) fault old left new_left
+RefusesNext number Form Breaking fault old left new_left =
+    RefusesAfter [] (IsWrongNext number Form Breaking) fault old left new_left
 
 -- bytes stand where the input is to end
 abbrev pub IsPastEnd : ℕ → CheckFault → List ℕ → Type 0
@@ -133,26 +138,31 @@ pub record TakesNode (head : Head) (earlier kept : List Position) (node : AnyNod
 
 -- the node that stood next was read: it meets every rule as the one that follows the earlier ones, and its position was
 -- put after theirs
-pub record ReadsNode (head : Head) (earlier kept : List Position) (node : AnyNode) (old new : ReaderState) (left new_left : Option (List ℕ)) : Type 0 where
+pub record ReadsNode (head : Head) (earlier kept : List Position) (node : AnyNode) (old new : ReaderState)
+    (left new_left : Option (List ℕ)) : Type 0 where
   pub text : List ℕ
   pub reads : ReadsLines (text ∷ []) old new left new_left
   pub takes : TakesNode head earlier kept node text
 
 -- all nodes stood next and were read, each of which meets every rule
-pub record ReadsNodes (head : Head) (nodes : List AnyNode) (old new : ReaderState) (left new_left : Option (List ℕ)) : Type 0 where
+pub record ReadsNodes (head : Head) (nodes : List AnyNode) (old new : ReaderState) (left new_left : Option (List ℕ))
+    : Type 0 where
   pub number : length nodes ≡ head.count
   pub judged : AreJudged head nodes
   pub reads : ReadsLines (node_lines 0 nodes) old new left new_left
 
 -- a node that stood next was refused, after these nodes, each of which meets every rule
-pub record RefusesNode (head : Head) (fault : CheckFault) (old : ReaderState) (left new_left : Option (List ℕ)) : Type 0 where
+pub record RefusesNode (head : Head) (fault : CheckFault) (old : ReaderState) (left new_left : Option (List ℕ))
+    : Type 0 where
   pub nodes : List AnyNode
   pub few : length nodes < head.count
   pub judged : AreJudged head nodes
-  pub refused : RefusesAfter (node_lines 0 nodes) (IsWrongNext (head.start + length nodes) (IsNodeLine head (length nodes)) (IsBrokenNodeLine head (map position_of nodes))) fault old left new_left
+  pub refused : RefusesAfter (node_lines 0 nodes) (IsWrongNext (head.start + length nodes)
+      (IsNodeLine head (length nodes)) (IsBrokenNodeLine head (map position_of nodes))) fault old left new_left
 
 -- a whole text stood next and was read, up to its last line
-pub record ReadsText (wanted : Wanted) (head : Head) (nodes : List AnyNode) (old new : ReaderState) (left new_left : Option (List ℕ)) : Type 0 where
+pub record ReadsText (wanted : Wanted) (head : Head) (nodes : List AnyNode) (old new : ReaderState)
+    (left new_left : Option (List ℕ)) : Type 0 where
   pub is_head : IsHead wanted head
   pub number : length nodes ≡ head.count
   pub judged : AreJudged head nodes

@@ -1,12 +1,14 @@
 //! Reading and judging a node of either side.
 
-ghost use Rattle.std.specs.Prelude.{◌≡◌, ◌==◌, ◌<◌, ◌≤◌, ◌+◌, None, Err, IfOk, IfErr, IfSome, IfNone, MatchResult, length, map};
+ghost use Rattle.std.specs.Prelude.{◌≡◌, ◌==◌, ◌<◌, ◌≤◌, ◌+◌, None, Err, IfOk, IfErr};
+ghost use Rattle.std.specs.Prelude.{IfSome, IfNone, MatchResult, length, map};
 ghost use Rattle.port_io.specs.Faults.{Rose};
 ghost use Rattle.items.specs.Multiset.{sizes_of};
 ghost use Rattle.strategy_text.specs.Spelling.{IsSpellableNode, most_nodes};
 ghost use Rattle.strategy_text.specs.Text.{AnyNode, end_line};
 ghost use Rattle.checker.specs.Head.{SpellsUnder, MeetsRules, Breaks, position_of, IsNodeLine, IsBrokenNodeLine};
-ghost use Rattle.checker.specs.Progress.{ReadsNode, TakesNode, IsRefusedLine, IsBrokenBy, RefusesNext, NoRule, told_by, any_node};
+ghost use Rattle.checker.specs.Progress.{ReadsNode, TakesNode, IsRefusedLine, IsBrokenBy};
+ghost use Rattle.checker.specs.Progress.{RefusesNext, NoRule, told_by, any_node};
 ghost use Rattle.checker.specs.declared.fault.CheckFault.TheVariants.{Read};
 
 use crate::fault::CheckFault;
@@ -64,7 +66,8 @@ fn judge_node(
 ) -> Result<Result<Position, Rule>, AllocError>
     requires spellable { IsSpellableNode head.now.format (any_node node.now) }
     ensures exact { IfOk result (λ judged. MatchResult judged
-        (λ position. (position ≡ position_of (any_node node.now)) × MeetsRules (told_by head.now) earlier.now last (any_node node.now))
+        (λ position. (position ≡ position_of (any_node node.now))
+        × MeetsRules (told_by head.now) earlier.now last (any_node node.now))
         (Breaks (told_by head.now) earlier.now last (any_node node.now))) }
 {
     let game = head.game;

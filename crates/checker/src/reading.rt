@@ -9,7 +9,9 @@ ghost use Rattle.strategy_text.specs.Spelling.{most_nodes};
 ghost use Rattle.strategy_text.specs.Text.{AnyNode, end_line, nodes_of, side_of};
 ghost use Rattle.checker.specs.Accepted.{Accepts, Loads, Spells, IsFaultOf};
 ghost use Rattle.checker.specs.Head.{side_of_node};
-ghost use Rattle.checker.specs.Progress.{any_node, ReadsLines, ReadsNodes, ReadsText, ReadsEnd, RefusesNext, RefusesAfter, RefusesNode, IsPastEnd, NoRule, told_by, strategy_or, strategy_of_parts};
+ghost use Rattle.checker.specs.Progress.{any_node, ReadsLines, ReadsNodes, ReadsText, ReadsEnd};
+ghost use Rattle.checker.specs.Progress.{RefusesNext, RefusesAfter, RefusesNode, IsPastEnd};
+ghost use Rattle.checker.specs.Progress.{NoRule, told_by, strategy_or, strategy_of_parts};
 ghost use Rattle.checker.specs.declared.fault.CheckFault.TheVariants.{Read};
 ghost use Rattle.checker.specs.declared.fault.Wanted.TheVariants.{Either};
 

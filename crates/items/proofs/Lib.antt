@@ -3,3 +3,5 @@ pub mod SameLemmas
 pub mod CounterLemmas
 pub mod MemberLemmas
 pub mod SizesLemmas
+pub mod AssignmentLemmas
+pub mod ListLemmas

@@ -19,6 +19,10 @@ Same-cons x xs ys s y = omega (arith, s y)
 pub Same-append : (xs ys us vs : List ℕ) → Same xs ys → Same us vs → Same (xs ++ us) (ys ++ vs)
 Same-append xs ys us vs s t x = omega (arith, count-append x xs us, count-append x ys vs, s x, t x)
 
+-- one more number at the end of both
+pub Same-push : (xs ys : List ℕ) (x : ℕ) → Same xs ys → Same (xs ++ x ∷ []) (ys ++ x ∷ [])
+Same-push xs ys x s = Same-append xs ys (x ∷ []) (x ∷ []) s (Same-refl (x ∷ []))
+
 pub Same-append_comm : (xs ys : List ℕ) → Same (xs ++ ys) (ys ++ xs)
 Same-append_comm xs ys x = omega (arith, count-append x xs ys, count-append x ys xs)
 

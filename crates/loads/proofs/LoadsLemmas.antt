@@ -1,16 +1,17 @@
 -- Loads after an item.
 use Rattle.std.proofs.Common.{◌≡◌, ℕ, zero, suc, ◌+◌, ◌*◌, ◌<◌, ◌≤◌, true, List, [], ◌∷◌, leb, refl, inl, inr, length, get_or, set, cond, eqb, sum, arith, sym, ap, ◌∙◌}
-use Rattle.std.specs.Prelude.{Contains, insert, remove, position, unwrap_or, nat_le}
+use Rattle.std.specs.Prelude.{All, Contains, insert, remove, position, unwrap_or, nat_le}
 use Rattle.std.proofs.lemmas.List.{get_or_default}
 use Rattle.std.specs.List.{sum_by}
-use Rattle.std.proofs.lemmas.List.Sums.{sum_by-set}
+use Rattle.std.proofs.lemmas.List.Sums.{sum_by-set, sum_by-le}
 use Rattle.std.proofs.lemmas.Bool.{leb-true, leb-false, le-leb, cases_Bool}
-use Rattle.std.proofs.lemmas.List.Elements.{All-weaker}
+use Rattle.std.proofs.lemmas.List.Elements.{All-weaker, All-contains}
 use Rattle.items.specs.declared.limits.TheConstants.{MOST_SIZE}
 use Rattle.items.specs.Game.{GameNumbers, IsGame}
-use Rattle.items.specs.Multiset.{count, Same}
+use Rattle.items.specs.Multiset.{count, Same, IsSize, IsMultiset}
 use Rattle.loads.specs.Descending.{IsDescending, put_descending, take_out}
 use Rattle.loads.specs.Loads.{AreLoads, IsLoads, IsLowestBin, loads_after}
+use Rattle.loads.specs.Position.{AreItemsOf}
 use Rattle.loads.proofs.DescendingLemmas.{IsDescending-tail, IsDescending-head, IsDescending-put, IsDescending-take_out, All-put}
 use Rattle.loads.proofs.DescendingLemmas.{All-take_out, length-put, length-take_out, take_out-remove, put_descending-insert, unwrap_or-position}
 use Rattle.items.proofs.MultisetLemmas.{count-sum_by}
@@ -22,6 +23,21 @@ AreLoads-of_game game loads g h = record {
   few = omega (arith, h.one_each, g.bins.high);
   descending = h.descending;
   below = All-weaker (λ load. load < game.target) (λ load. load < 2 * MOST_SIZE) (λ load l. omega (arith, l, g.target.high, g.capacity.high)) loads h.below_target;
+}
+
+-- they sum to at most 1,912
+pub loads_total : (game : GameNumbers) (loads : List ℕ) → IsGame game → IsLoads game loads → sum loads ≤ 1912
+loads_total game loads g l =
+    let each = All-weaker (λ x. x < game.target) (λ x. x ≤ 239) (λ x h. omega (arith, h, g.target.high, g.capacity.high)) loads l.below_target in
+    omega (arith, sum_by-le (λ x. x) 239 loads each, l.one_each, g.bins.high)
+
+-- and the items that make them are a multiset
+pub multiset_from_items : (game : GameNumbers) (sizes loads items : List ℕ) → IsGame game → All (IsSize game.capacity) sizes → IsLoads game loads
+    → AreItemsOf sizes loads items → IsMultiset game.capacity items
+multiset_from_items game sizes loads items g s l a = record {
+  ascending = a.ascending;
+  sizes = All-weaker (Contains sizes) (IsSize game.capacity) (λ x c. All-contains (IsSize game.capacity) sizes x s c) items a.allowed;
+  total = omega (arith, loads_total game loads g l, a.total);
 }
 
 -- an item in a bin that stays below the target leaves loads of the game

@@ -12,7 +12,8 @@ use Rattle.loads.specs.declared.position.Position.{Position}
 use Rattle.loads.specs.After.{after}
 use Rattle.monotone.specs.declared.path.PathMove.{PathMove}
 use Rattle.monotone.specs.Paths.{IsLegalMove, IsLegalFrom}
-use Rattle.monotone.proofs.ListLemmas.{Contains-first, Contains-later, Contains-nothing, Contains-split, Contains-flat_map, Contains-map, in_range, at_range, all_range}
+use Rattle.items.proofs.SizesLemmas.{Contains-range}
+use Rattle.monotone.proofs.ListLemmas.{Contains-first, Contains-later, Contains-nothing, Contains-split, Contains-flat_map, Contains-map, at_range, all_range}
 use Rattle.monotone.proofs.PassLemmas.{both_true, listed-Contains, Contains-listed}
 
 -- both tests tell what both facts are
@@ -70,7 +71,7 @@ in_all_lists below zero (x ∷ xs) e h = absurd (omega (arith, e))
 in_all_lists below (suc n) [] e h = absurd (omega (arith, e))
 in_all_lists below (suc n) (x ∷ xs) e h =
     let rest = in_all_lists below n xs (omega (arith, e)) (All-tail (λ x. x < below) x xs h) in
-    let first = in_range 0 below x (omega arith) (omega (arith, All-head (λ x. x < below) x xs h)) in
+    let first = Contains-range 0 below x (omega arith) (omega (arith, All-head (λ x. x < below) x xs h)) in
     Contains-flat_map (λ x. map (λ xs. x ∷ xs) (all_lists below n)) (range_with_len 0 below) x (x ∷ xs) first (Contains-map (λ xs. x ∷ xs) (all_lists below n) xs rest)
 
 abbrev pub is_size : ℕ → ℕ → Bool
@@ -122,7 +123,8 @@ packable_told game items = (
 -- whether a move is legal
 unfoldable pub is_legal_move : GameNumbers → (List ℕ → ℕ → Bool) → Position → PathMove → Bool
 is_legal_move game allowed position step =
-    (allowed position.items step.item && is_packable game (position.items ++ step.item ∷ [])) && (list_any (λ load. eqb step.load load) position.loads && leb (suc (step.load + step.item)) game.target)
+    (allowed position.items step.item && is_packable game (position.items ++ step.item ∷ [])) &&
+    (list_any (λ load. eqb step.load load) position.loads && leb (suc (step.load + step.item)) game.target)
 
 move_told : (game : GameNumbers) (allowed : List ℕ → ℕ → Bool) (position : Position) (step : PathMove)
     → IsTrue (is_legal_move game allowed position step) ↔ IsLegalMove game allowed position step
@@ -130,7 +132,8 @@ unfolding is_legal_move
 move_told game allowed position step =
     let one = both (allowed position.items step.item) (is_packable game (position.items ++ step.item ∷ [])) (IsTrue (allowed position.items step.item))
     (Packable game (position.items ++ step.item ∷ [])) (λ h. h, λ h. h) (packable_told game (position.items ++ step.item ∷ [])) in
-    let load : IsTrue (list_any (λ load. eqb step.load load) position.loads) ↔ Contains position.loads step.load = (listed-Contains step.load position.loads, Contains-listed step.load position.loads) in
+    let load : IsTrue (list_any (λ load. eqb step.load load) position.loads)
+    ↔ Contains position.loads step.load = (listed-Contains step.load position.loads, Contains-listed step.load position.loads) in
     let other = both _ _ _ _ load (le_told (suc (step.load + step.item)) game.target) in
     let t = both _ _ _ _ one other in (
       λ h. let r = t.0 h in record { allowed_size = r.0.0; packable = r.0.1; has_load = r.1.0; below_target = r.1.1 },

@@ -58,7 +58,8 @@ module _ {X : Type 0} where
   length-le-members [] ys once members = omega arith
   length-le-members (x ∷ xs) ys once members =
       let here : Contains ys x = All-head (Contains ys) x xs members in
-      let others : All (Contains (without_place here.0 ys)) xs = λ k d l. still_there here.0 ys x (get_or xs k d) here.2 here.1 (AllPairs-first ◌≢◌ x xs (get_or xs k d) once (Contains-get_or xs k d l)) (members (suc k) d (omega (arith, l))) in
+      let others : All (Contains (without_place here.0 ys)) xs = λ k d l. still_there here.0 ys x (get_or xs k d) here.2 here.1
+      (AllPairs-first ◌≢◌ x xs (get_or xs k d) once (Contains-get_or xs k d l)) (members (suc k) d (omega (arith, l))) in
       let rest = length-le-members xs (without_place here.0 ys) (AllPairs-tail ◌≢◌ x xs once) others in
       omega (arith, rest, length-without_place here.0 ys here.1)
 
@@ -87,12 +88,7 @@ module _ {X A : Type 0} (f : X → A) where
   from_map (y ∷ xs) a c =
       ⊎_elim (λ same. (y, Contains-first y xs, same)) (λ later. let r = from_map xs a later in (r.0, Contains-later y xs r.0 r.1, r.2)) (Contains-split (f y) (map f xs) a c)
 
--- the numbers of a range are those from its first to before its end
-pub in_range : (first number pass : ℕ) → first ≤ pass → pass < first + number → Contains (range_with_len first number) pass
-in_range first number pass l m =
-    let here : pass - first < number = omega (arith, l, m) in
-    (pass - first, omega (arith, here, length-range_with_len first number), get_or-range_with_len first number (pass - first) pass here ∙ omega (arith, l))
-
+-- what holds of each number of a range
 pub at_range : (P : ℕ → Type 0) (number : ℕ) → All P (range_with_len 0 number) → (n : ℕ) → n < number → P n
 at_range P number h n l = subst P (get_or-range_with_len 0 number n 0 l ∙ omega arith) (h n 0 (omega (arith, l, length-range_with_len 0 number)))
 

@@ -1,13 +1,11 @@
 -- Paths that grow at their end, and the volume of legal ones.
 use Rattle.std.proofs.Common.{◌≡◌, ℕ, ◌+◌, ◌*◌, ◌<◌, ◌≤◌, Bool, List, [], ◌∷◌, ◌++◌, length, sum, refl, arith}
-use Rattle.std.proofs.lemmas.List.Elements.{All-nil}
 use Rattle.items.specs.Game.{GameNumbers}
-use Rattle.items.specs.Multiset.{IsSize}
 use Rattle.items.specs.Packable.{Packable}
 use Rattle.items.proofs.MultisetLemmas.{sum-put_ascending}
 use Rattle.loads.specs.declared.position.Position.{Position}
 use Rattle.loads.specs.After.{after}
-use Rattle.packing_witness.proofs.PackableLemmas.{Packable-put_ascending, sum-Packable-le}
+use Rattle.packing_witness.proofs.PackableLemmas.{Packable-nil, Packable-put_ascending, sum-Packable-le}
 use Rattle.packing_witness.proofs.PackingLemmas.{size_of_last}
 use Rattle.monotone.specs.declared.path.PathMove.{PathMove}
 use Rattle.loads.specs.Wins.{empty_position}
@@ -47,17 +45,6 @@ pub sum-position_after : (start : Position) (path : List PathMove) → sum (posi
 sum-position_after start [] = omega arith
 sum-position_after start (s ∷ path) =
     omega (arith, sum-position_after (after start s.load s.item) path, sum-put_ascending s.item start.items)
-
-pub Packable-nil : (game : GameNumbers) → Packable game []
-Packable-nil game = (
-  [],
-  record {
-    item_list = All-nil (IsSize game.capacity);
-    one_each = refl;
-    of_game = All-nil (λ bin. bin < game.bins);
-    fits = λ bin within. omega arith;
-  },
-)
 
 module _ (game : GameNumbers) (allowed : List ℕ → ℕ → Bool) where
   pub volume-le-bins : (path : List PathMove) → IsLegalPath game allowed path → volume_of path ≤ game.bins * game.capacity

@@ -10,7 +10,8 @@ use Rattle.std.proofs.lemmas.List.Quantifiers.{all_pairs_push}
 use Rattle.std.proofs.lemmas.Option.{slice_get-get_or, get_or_from_slice_get}
 use Rattle.monotone.specs.Passes.{SearchSpace, allowed_in, passes_of}
 use Rattle.monotone.specs.Visits.{Visit, visit, IsVisit, IsEarlierVisit, Metered, AreCounted, CountsVisits, HasVisitsBefore, IsLater, unused, counted, most_visits}
-use Rattle.monotone.proofs.ListLemmas.{Contains-flat_map, Contains-map, length-flat_map-same, length-le-members, in_range}
+use Rattle.monotone.proofs.ListLemmas.{Contains-flat_map, Contains-map, length-flat_map-same, length-le-members}
+use Rattle.items.proofs.SizesLemmas.{Contains-range}
 use Rattle.monotone.proofs.OrderLemmas.{no_path_before_itself, ComesBefore-trans}
 use Rattle.monotone.proofs.EnumerationLemmas.{paths_of, length-paths_of, legal_in_paths_of}
 
@@ -40,9 +41,10 @@ length-all_visits space =
 in_all_visits : (space : SearchSpace) (visited : Visit) → IsVisit space visited → Contains (all_visits space) visited
 unfolding all_visits
 in_all_visits space visited h =
-    let pass = in_range space.first_pass (passes_of space) visited.pass h.from_first (omega (arith, h.from_first, h.to_last)) in
+    let pass = Contains-range space.first_pass (passes_of space) visited.pass h.from_first (omega (arith, h.from_first, h.to_last)) in
     Contains-flat_map (λ pass. map (visit pass)
-    (paths_of space.game)) _ visited.pass visited pass (Contains-map (visit visited.pass) _ visited.path (legal_in_paths_of space.game (allowed_in space.sizes visited.pass) visited.path h.legal))
+    (paths_of space.game)) _ visited.pass visited pass (Contains-map (visit visited.pass) _ visited.path
+    (legal_in_paths_of space.game (allowed_in space.sizes visited.pass) visited.path h.legal))
 
 pub visits_are_bounded : (space : SearchSpace) (visits : List Visit) → All (IsVisit space) visits → AllPairs ◌≢◌ visits → length visits ≤ most_visits space
 visits_are_bounded space visits h once =

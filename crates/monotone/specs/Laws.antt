@@ -77,7 +77,8 @@ NoVisitBeforeItself = (visited : Visit) → IsEarlierVisit visited visited → �
 -- a visit before one that comes before a third comes before the third
 abbrev pub EarlierVisitsCompose : Type 0
 EarlierVisitsCompose =
-    (first second third : Visit) → IsEarlierVisit first second → IsEarlierVisit second third → IsEarlierVisit first third
+    (first second third : Visit)
+    → IsEarlierVisit first second → IsEarlierVisit second third → IsEarlierVisit first third
 
 -- a meter that has counted nothing has counted visits of any space alone
 abbrev pub UnusedMeterCounts : Type 0

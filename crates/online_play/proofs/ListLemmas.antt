@@ -4,7 +4,6 @@ use Rattle.std.proofs.Common.{inr, subst, arith}
 use Rattle.std.specs.Prelude.{All, Contains, nat_le, filter}
 use Rattle.std.specs.List.{range_with_len, flat_map, list_any}
 use Rattle.std.proofs.lemmas.Bool.{leb-true, le-leb, and_parts, and_from, cases_Bool, cases_lt, true≢false}
-use Rattle.std.proofs.lemmas.List.FromFn.{length-range_with_len, get_or-range_with_len}
 use Rattle.std.proofs.lemmas.List.Folds.{Any-from_list_any, list_any-from_Any}
 use Rattle.std.proofs.lemmas.List.Sums.{AllPass-from_list_all, list_all-from_AllPass, sum_by-cons}
 use Rattle.std.proofs.lemmas.List.Elements.{All-nil, All-cons, All-head, All-tail, All-append, All-map, All-weaker, All-contains, All-contains_itself}
@@ -12,6 +11,7 @@ use Rattle.std.proofs.lemmas.List.Elements.{Contains-append_left, Contains-appen
 use Rattle.items.specs.Game.{GameNumbers}
 use Rattle.items.specs.Multiset.{IsSize, sizes_of}
 use Rattle.items.specs.Packable.{Packable, bin_total}
+use Rattle.items.proofs.SizesLemmas.{within_range, Contains-range, Contains_from_size}
 use Rattle.packing_witness.proofs.PackableLemmas.{sum-Packable-le}
 use Rattle.online_play.specs.Algorithm.{loads_by_bin}
 use Rattle.online_play.specs.PackableLists.{lists_of_length, lists_up_to, are_sizes, fits, is_packable, packable_lists}
@@ -60,17 +60,6 @@ module _ {X Y : Type 0} where
   pub All-flat_map : (P : X → Type 0) (Q : Y → Type 0) (f : X → List Y) → ((x : X) → P x → All Q (f x)) → (xs : List X) → All P xs → All Q (flat_map f xs)
   All-flat_map P Q f each [] h = All-nil Q
   All-flat_map P Q f each (x ∷ xs) h = All-append Q (f x) (flat_map f xs) (each x (All-head P x xs h)) (All-flat_map P Q f each xs (All-tail P x xs h))
-
--- the numbers of a range
-pub in_range : (a n x : ℕ) → Contains (range_with_len a n) x → (a ≤ x) × (x < a + n)
-in_range a n x h =
-    let l : h.0 < n = omega (arith, h.1, length-range_with_len a n) in
-    let e = get_or-range_with_len a n h.0 x l in
-    (omega (arith, e, h.2), omega (arith, e, h.2, l))
-
-pub range_has : (a n x : ℕ) → a ≤ x → x < a + n → Contains (range_with_len a n) x
-range_has a n x low high =
-    (x - a, omega (arith, length-range_with_len a n), omega (arith, get_or-range_with_len a n (x - a) x (omega arith)))
 
 -- a list of this length with numbers from the choices
 record IsListOver (choices : List ℕ) (n : ℕ) (xs : List ℕ) : Type 0 where
@@ -143,7 +132,7 @@ packable_from_test game items e =
       record {
         item_list = sizes_from_test game items p.0;
         one_each = over.length_is;
-        of_game = All-weaker (Contains choices) (λ bin. bin < game.bins) (λ bin c. let r = in_range 0 game.bins bin c in omega (arith, r.1)) found.1 over.chosen;
+        of_game = All-weaker (Contains choices) (λ bin. bin < game.bins) (λ bin c. let r = within_range 0 game.bins bin c in omega (arith, r.1)) found.1 over.chosen;
         fits = totals_from_test game items found.1 found.4;
       },
     )
@@ -153,7 +142,7 @@ unfolding is_packable
 test_from_packable game items p =
     let choices : List ℕ = range_with_len 0 game.bins in
     let lists : List (List ℕ) = lists_of_length choices (length items) in
-    let chosen = All-weaker (λ bin. bin < game.bins) (Contains choices) (λ bin l. range_has 0 game.bins bin (omega arith) (omega (arith, l))) p.0 p.1.of_game in
+    let chosen = All-weaker (λ bin. bin < game.bins) (Contains choices) (λ bin l. Contains-range 0 game.bins bin (omega arith) (omega (arith, l))) p.0 p.1.of_game in
     let listed = over_is_listed choices (length items) p.0 p.1.one_each chosen in
     and_from (are_sizes game items) (list_any (fits game items) lists) (test_from_sizes game items p.1.item_list)
     (list_any-from_Any (fits game items) lists (listed.0, p.0, listed.1, listed.2, test_from_totals game items p.0 p.1.fits))
@@ -175,7 +164,7 @@ pub packable_is_written : (game : GameNumbers) (items : List ℕ) → Packable g
 unfolding packable_lists
 packable_is_written game items p =
     let lists : List (List ℕ) = lists_up_to (sizes_of game) (game.bins * game.capacity) in
-    let chosen = All-weaker (IsSize game.capacity) (Contains (sizes_of game)) (λ size s. range_has 1 game.capacity size s.low (omega (arith, s.high))) items p.1.item_list in
+    let chosen = All-weaker (IsSize game.capacity) (Contains (sizes_of game)) (Contains_from_size game.capacity) items p.1.item_list in
     let short = sum-Packable-le game items p in
     let few = length-le-sum game.capacity items p.1.item_list in
     Contains-filter (is_packable game) lists items (over_is_up_to (sizes_of game) (game.bins * game.capacity) items (omega arith) chosen) (test_from_packable game items p)

@@ -1,10 +1,11 @@
 -- Runs of an algorithm with one more item.
-use Rattle.std.proofs.Common.{◌≡◌, ℕ, suc, ◌+◌, ◌<◌, cond, eqb, List, [], ◌∷◌, ◌++◌, length, map, get_or, set, refl, sym, ap, ◌∙◌, arith, inl, inr}
+use Rattle.std.proofs.Common.{◌≡◌, ℕ, suc, ◌+◌, ◌<◌, eqb, List, [], ◌∷◌, ◌++◌, length, map, get_or, set, refl, sym, ap, ◌∙◌, arith, inl, inr}
 use Rattle.std.proofs.lemmas.Bool.{cases_eq, eq-eqb, ne_eqb, cond-true, cond-false}
 use Rattle.std.proofs.lemmas.List.{ext_get_or, get_or-set_same, get_or-set_other, length-set, length-map, map-append}
 use Rattle.std.proofs.lemmas.List.FromFn.{length-map-range_with_len, get_or-map-range_with_len}
 use Rattle.items.specs.Game.{GameNumbers}
 use Rattle.items.specs.Packable.{bin_total}
+use Rattle.items.proofs.AssignmentLemmas.{bin_total-push}
 use Rattle.online_play.specs.Algorithm.{prefixes, bins_of, loads_by_bin, run}
 
 -- the last prefix of a list is the list
@@ -23,14 +24,6 @@ bins_of-push answer items item = ap (map answer) (prefixes-push items item) ∙ 
 
 pub length-bins_of : (answer : List ℕ → ℕ) (items : List ℕ) → length (bins_of answer items) ≡ length items
 length-bins_of answer items = length-map (prefixes items) answer ∙ length-prefixes items
-
--- one more item adds to the bin that it went to
-pub bin_total-push : (bin size to : ℕ) (items bins : List ℕ) → length bins ≡ length items
-    → bin_total bin (items ++ size ∷ []) (bins ++ to ∷ []) ≡ bin_total bin items bins + cond (eqb bin to) size 0
-bin_total-push bin size to [] [] e = omega arith
-bin_total-push bin size to [] (b ∷ bins) e = absurd (omega arith)
-bin_total-push bin size to (i ∷ items) [] e = absurd (omega arith)
-bin_total-push bin size to (i ∷ items) (b ∷ bins) e = omega (arith, bin_total-push bin size to items bins (omega arith))
 
 pub length-loads_by_bin : (game : GameNumbers) (items bins : List ℕ) → length (loads_by_bin game items bins) ≡ game.bins
 length-loads_by_bin game items bins = length-map-range_with_len (λ bin. bin_total bin items bins) 0 game.bins

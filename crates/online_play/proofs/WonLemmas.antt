@@ -9,8 +9,8 @@ use Rattle.items.specs.Game.{GameNumbers, numbers}
 use Rattle.items.specs.Multiset.{Same}
 use Rattle.items.specs.Packable.{Packable}
 use Rattle.items.proofs.MultisetLemmas.{Same-push_put}
-use Rattle.items.proofs.SameLemmas.{Same-append}
-use Rattle.packing_witness.proofs.PackableLemmas.{Packable-Same}
+use Rattle.items.proofs.SameLemmas.{Same-push}
+use Rattle.packing_witness.proofs.PackableLemmas.{Packable-Same, Packable-nil}
 use Rattle.loads.specs.declared.position.Position.{Position}
 use Rattle.loads.specs.After.{after}
 use Rattle.loads.specs.Loads.{loads_after}
@@ -24,9 +24,6 @@ use Rattle.online_play.proofs.RunLemmas.{run-push, length-run}
 push_not_empty : (items : List ℕ) (item : ℕ) → items ++ item ∷ [] ≡ [] → ⊥
 push_not_empty [] item e = cc
 push_not_empty (x ∷ items) item e = cc
-
-Same-push : (xs ys : List ℕ) (x : ℕ) → Same xs ys → Same (xs ++ x ∷ []) (ys ++ x ∷ [])
-Same-push xs ys x s = Same-append xs ys (x ∷ []) (x ∷ []) s (λ z. refl)
 
 module _ (game : GameNumbers) (answer : List ℕ → ℕ) (history : List ℕ) (position : Position) (size : ℕ) (at : ComesTo game answer history position) where
   -- the load of the bin that the algorithm answers
@@ -81,9 +78,6 @@ won_forces game allowed answer algorithm (suc n) history position at wins =
     (wins.1.each_load (load_hit game answer history position size at) (hit_is_load game answer history position size at within))
 
 -- before the first item
-Packable-nil : (game : GameNumbers) → Packable game []
-Packable-nil game = ([], record { item_list = λ k d l. absurd (omega arith); one_each = refl; of_game = λ k d l. absurd (omega arith); fits = λ bin l. omega arith })
-
 pub run-nil : (game : GameNumbers) (answer : List ℕ → ℕ) → replicate game.bins 0 ≡ run game answer []
 run-nil game answer = fill_by_all (λ bin. 0) (replicate game.bins 0) game.bins 0 (length-replicate game.bins 0) (λ k l. get_or-replicate game.bins k 0 0 l)
 

@@ -1,8 +1,8 @@
 -- The items of each bin, and the packing that they make.
-use Rattle.std.proofs.Common.{◌≡◌, ℕ, zero, suc, ◌+◌, ◌<◌, ◌≤◌, cond, eqb, List, [], ◌∷◌, length, map, sum, refl, ap, ◌∙◌, arith, inl, inr}
+use Rattle.std.proofs.Common.{◌≡◌, ℕ, ◌+◌, ◌<◌, ◌≤◌, cond, eqb, List, [], ◌∷◌, length, map, sum, refl, ap, ◌∙◌, arith, inl, inr}
 use Rattle.std.specs.Prelude.{All}
 use Rattle.std.specs.List.{range_with_len, sum_by, concat}
-use Rattle.std.proofs.lemmas.Bool.{cases_eq, cases_Bool, eq-eqb, ne_eqb, cond-true, cond-false}
+use Rattle.std.proofs.lemmas.Bool.{cases_Bool}
 use Rattle.std.proofs.lemmas.List.Sums.{sum_by-cons}
 use Rattle.std.proofs.lemmas.List.Recursion.{is_sum_by}
 use Rattle.std.proofs.lemmas.List.FromFn.{length-map-range_with_len, get_or-map-range_with_len}
@@ -10,6 +10,7 @@ use Rattle.std.proofs.lemmas.List.Elements.{All-from_get_or, All-head, All-tail}
 use Rattle.items.specs.Game.{GameNumbers}
 use Rattle.items.specs.Multiset.{count}
 use Rattle.items.specs.Packable.{IsAssignment, IsPacking, bin_total}
+use Rattle.items.proofs.AssignmentLemmas.{sum-mark, sum_none}
 use Rattle.items.proofs.MultisetLemmas.{count-append}
 use Rattle.packing_witness.specs.Contents.{items_in, contents_of}
 
@@ -29,44 +30,6 @@ count-items_in x bin item b items bins = elim (cases_Bool (eqb bin b)) [
   | inl e ↦ rw e refl
   | inr e ↦ rw e (omega arith)
 ]
-
--- a sum over bins in which one of them has more
-sum-mark_before : (c v : ℕ) (h : ℕ → ℕ) (low n : ℕ) → c < low → sum_by (λ b. cond (eqb b c) v 0 + h b) (range_with_len low n) ≡ sum_by h (range_with_len low n)
-sum-mark_before c v h low zero l = refl
-sum-mark_before c v h low (suc n) l =
-    let f : ℕ → ℕ = λ b. cond (eqb b c) v 0 + h b in
-    omega (
-      arith,
-      sum_by-cons f low (range_with_len (low + 1) n),
-      sum_by-cons h low (range_with_len (low + 1) n),
-      sum-mark_before c v h (low + 1) n (omega arith),
-      cond-false (eqb low c) v 0 (ne_eqb low c (λ e. omega arith)),
-    )
-
-sum-mark : (c v : ℕ) (h : ℕ → ℕ) (low n : ℕ) → low ≤ c → c < low + n → sum_by (λ b. cond (eqb b c) v 0 + h b) (range_with_len low n) ≡ v + sum_by h (range_with_len low n)
-sum-mark c v h low zero l m = absurd (omega arith)
-sum-mark c v h low (suc n) l m =
-    let f : ℕ → ℕ = λ b. cond (eqb b c) v 0 + h b in
-    elim (cases_eq low c) [
-      | inl e ↦ omega (
-        arith,
-        sum_by-cons f low (range_with_len (low + 1) n),
-        sum_by-cons h low (range_with_len (low + 1) n),
-        sum-mark_before c v h (low + 1) n (omega arith),
-        cond-true (eqb low c) v 0 (eq-eqb low c e),
-      )
-      | inr q ↦ omega (
-        arith,
-        sum_by-cons f low (range_with_len (low + 1) n),
-        sum_by-cons h low (range_with_len (low + 1) n),
-        sum-mark c v h (low + 1) n (omega arith) (omega arith),
-        cond-false (eqb low c) v 0 (ne_eqb low c q),
-      )
-    ]
-
-sum_none : (low n : ℕ) → sum_by (λ (b : ℕ). 0) (range_with_len low n) ≡ 0
-sum_none low zero = refl
-sum_none low (suc n) = omega (arith, sum_by-cons (λ (b : ℕ). 0) low (range_with_len (low + 1) n), sum_none (low + 1) n)
 
 -- each item counts once over all bins
 counted : (x n : ℕ) (items bins : List ℕ) → length bins ≡ length items → All (λ bin. bin < n) bins

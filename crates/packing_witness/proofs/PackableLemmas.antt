@@ -10,6 +10,7 @@ use Rattle.std.proofs.lemmas.List.Elements.{All-nil, All-cons, All-head, All-tai
 use Rattle.items.specs.Game.{GameNumbers}
 use Rattle.items.specs.Multiset.{count, Same, IsSize, is_big, put_ascending}
 use Rattle.items.specs.Packable.{Packable, IsPacking, bin_total}
+use Rattle.items.proofs.AssignmentLemmas.{IsAssignment-nil}
 use Rattle.items.proofs.MultisetLemmas.{count-append, count_this, count_other, sum_by-Same, sum-Same, Same-push_put}
 use Rattle.packing_witness.specs.Edits.{first_out, without}
 use Rattle.packing_witness.specs.Sublist.{IsSublistOf}
@@ -191,6 +192,10 @@ count-sublist part (item ∷ items) (left_out item' part' items' s) x = omega (a
 
 pub Packable-sublist : (game : GameNumbers) (part items : List ℕ) → IsSublistOf part items → Packable game items → Packable game part
 Packable-sublist game part items s p = Packable-part game part items (count-sublist part items s) p
+
+-- no items are packable
+pub Packable-nil : (game : GameNumbers) → Packable game []
+Packable-nil game = ([], IsAssignment-nil game)
 
 -- without the items at the end, or without the last one
 pub Packable-front : (game : GameNumbers) (front back : List ℕ) → Packable game (front ++ back) → Packable game front

@@ -1,5 +1,6 @@
 -- What stands next is one thing, and it is what a search found.
-use Rattle.std.proofs.Common.{◌≡◌, ◌≢◌, ◌⊎◌, inl, inr, true, false, eqb, ℕ, ◌+◌, ◌<◌, ◌≤◌, List, [], ◌∷◌, ◌++◌, length, get_or, take, drop, Contains, Option, None, Some, IfSome, IfNone, refl, ap, sym, ◌∙◌, subst, arith, append_assoc, length-append, length-take}
+use Rattle.std.proofs.Common.{◌≡◌, ◌≢◌, ◌⊎◌, inl, inr, true, false, eqb, ℕ, ◌+◌, ◌<◌, ◌≤◌, List, [], ◌∷◌, ◌++◌, length, get_or, take, drop, Contains}
+use Rattle.std.proofs.Common.{Option, None, Some, IfSome, IfNone, refl, ap, sym, ◌∙◌, subst, arith, append_assoc, length-append, length-take}
 use Rattle.std.specs.Prelude.{Ok}
 use Rattle.std.proofs.lemmas.List.{append-nil, get_or_at, get_or_append_left, get_or-take, take-append-drop, drop_more, nil_from_length}
 use Rattle.std.proofs.lemmas.List.Elements.{All-contains, All-from_get_or, All-nil, All-cons, All-head, All-tail, Contains-append_left, Contains-push}
@@ -13,12 +14,12 @@ use Rattle.port_io.specs.declared.lines.Found.TheVariants.{Ending}
 use Rattle.port_io.specs.Lines.{lf, longest_line, HasNoLf, IsLine, with_lf, StandsNext, line_given}
 use Rattle.port_io.specs.Found.{NoLfBelow, EndsAt, IsFound}
 
--- bytes with a line in front have an LF
-HasNoLf-with_lf : (line rest bytes : List ℕ) → bytes ≡ with_lf line ++ rest → HasNoLf bytes → ⊥
+-- bytes that begin with a line have an LF
+pub HasNoLf-with_lf : (line rest bytes : List ℕ) → bytes ≡ with_lf line ++ rest → HasNoLf bytes → ⊥
 HasNoLf-with_lf line rest bytes is none =
     All-contains (λ b. b ≢ lf) bytes lf none (subst (λ xs. Contains xs lf) (sym is) (Contains-append_left (with_lf line) rest lf (Contains-push line lf))) refl
 
--- the byte behind a line is an LF
+-- the byte after a line is an LF
 lf-at : (line rest : List ℕ) → get_or (with_lf line ++ rest) (length line) 0 ≡ lf
 lf-at line rest = ap (λ xs. get_or xs (length line) 0) (append_assoc line (lf ∷ []) rest) ∙ get_or_at line lf rest 0 (length line) refl
 
@@ -100,13 +101,19 @@ IsLine-found n held found = record {
 -- the bytes are the line before the first LF, the LF and the rest
 pub with_lf-found : (n : ℕ) (held : List ℕ) → EndsAt n held → held ≡ with_lf (take n held) ++ drop (n + 1) held
 with_lf-found n held found =
-    sym (take-append-drop n held) ∙ ap (λ xs. take n held ++ xs) (drop_more held n 0 found.within ∙ ap (λ b. b ∷ drop (n + 1) held) found.at) ∙ sym (append_assoc (take n held) (lf ∷ []) (drop (n + 1) held))
+    sym (take-append-drop n held) ∙ ap (λ xs. take n held ++ xs) (drop_more held n 0 found.within ∙ ap (λ b. b ∷ drop (n + 1) held) found.at)
+    ∙ sym (append_assoc (take n held) (lf ∷ []) (drop (n + 1) held))
 
 -- where a whole line was found, it stands next
 pub Text-found : (n : ℕ) (held : List ℕ) (left : Option (List ℕ)) → EndsAt n held → IfSome (prepend_known held left) (StandsNext Text)
 Text-found n held None found = tt
-Text-found n held (Some rest) found =
-    (take n held, drop (n + 1) held ++ rest, IsLine-found n held found, ap (λ xs. xs ++ rest) (with_lf-found n held found) ∙ append_assoc (with_lf (take n held)) (drop (n + 1) held) rest)
+Text-found n held (Some rest) found = (
+  take n held,
+  drop (n + 1) held ++ rest,
+  IsLine-found n held found,
+  ap (λ xs. xs ++ rest) (with_lf-found n held found)
+      ∙ append_assoc (with_lf (take n held)) (drop (n + 1) held) rest,
+)
 
 -- where an ending was found, it stands next
 pub Ending-found : (ending : Line) (held : List ℕ) (left : Option (List ℕ)) → IsFound (Ending ending) held left → IfSome (prepend_known held left) (StandsNext ending)
@@ -134,13 +141,14 @@ ending_shown Unfinished held left found = (record { no_lf = HasNoLf-all held fou
 pub text_is_shown : (n : ℕ) (held : List ℕ) → EndsAt n held → StandsNext Text (with_lf (take n held) ++ drop (n + 1) held)
 text_is_shown n held found = (take n held, drop (n + 1) held, IsLine-found n held found, refl)
 
-pub ending_is_shown : (ending : Line) (held text : List ℕ) (left : Option (List ℕ)) → IsFound (Ending ending) held left → StandsNext ending (line_given {E = Failed} (Ok ending) text ++ held)
+pub ending_is_shown : (ending : Line) (held text : List ℕ) (left : Option (List ℕ)) → IsFound (Ending ending) held left
+    → StandsNext ending (line_given {E = Failed} (Ok ending) text ++ held)
 ending_is_shown Text held text left found = absurd found
 ending_is_shown End held text left found = ending_shown End held left found
 ending_is_shown TooLong held text left found = ending_shown TooLong held left found
 ending_is_shown Unfinished held text left found = ending_shown Unfinished held left found
 
--- a line and its LF are in front, or there is no LF
+-- the bytes begin with a line and its LF, or there is no LF
 abbrev HasFirst : List ℕ → Type 0
 HasFirst bytes = HasNoLf bytes ⊎ ((line : List ℕ) × (rest : List ℕ) × HasNoLf line × (bytes ≡ with_lf line ++ rest))
 

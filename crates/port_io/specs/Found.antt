@@ -10,7 +10,7 @@ use Rattle.port_io.specs.Lines.{lf, longest_line}
 abbrev pub NoLfBelow : ℕ → List ℕ → Type 0
 NoLfBelow n bytes = (k : ℕ) → k < n → k < length bytes → slice_index bytes k ≢ lf
 
--- the first LF stands behind n bytes, which are few enough for a line
+-- the first LF stands after n bytes, which are few enough for a line
 pub record EndsAt (n : ℕ) (bytes : List ℕ) : Type 0 where
   pub short : n ≤ longest_line
   pub within : n < length bytes

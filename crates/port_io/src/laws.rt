@@ -8,7 +8,8 @@ pub fn one_thing_stands_next()
     ensures { (bytes : List ℕ) → (line : Line) × StandsNext line bytes × OnlyStandsNext line bytes }
 {}
 
-/// Bytes begin with one line only, and so one rest is behind it.
+/// Bytes begin with one line only, and so one rest follows it.
 pub fn one_line_stands_next()
-    ensures { (line other rest more : List ℕ) → HasNoLf line → HasNoLf other → with_lf line ++ rest ≡ with_lf other ++ more → (line ≡ other) × (rest ≡ more) }
+    ensures { (line other rest more : List ℕ) → HasNoLf line → HasNoLf other
+        → with_lf line ++ rest ≡ with_lf other ++ more → (line ≡ other) × (rest ≡ more) }
 {}

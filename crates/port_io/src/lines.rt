@@ -1,9 +1,11 @@
 //! Reading a source line by line.
-ghost use Rattle.std.specs.Prelude.{◌≡◌, ◌+◌, ◌<◌, ◌≤◌, [], None, Some, Ok, ◌++◌, Option, IfOk, OnErr, IsOk, IfSome, IfNone, Contains, length};
+ghost use Rattle.std.specs.Prelude.{◌≡◌, ◌+◌, ◌<◌, ◌≤◌, [], None, Some, Ok, ◌++◌, Option};
+ghost use Rattle.std.specs.Prelude.{IfOk, OnErr, IsOk, IfSome, IfNone, Contains, length};
 ghost use Rattle.std.specs.Io.KnownBytes.{prepend_known};
 ghost use Rattle.port_io.specs.Faults.{Rose};
 ghost use Rattle.port_io.specs.Reading.{ReadsOn};
-ghost use Rattle.port_io.specs.Lines.{lf, longest_line, HasNoLf, StandsNext, OnlyStandsNext, GivesText, to_come, line_given, ending_of};
+ghost use Rattle.port_io.specs.Lines.{lf, longest_line, HasNoLf, StandsNext, OnlyStandsNext};
+ghost use Rattle.port_io.specs.Lines.{GivesText, to_come, line_given, ending_of};
 ghost use Rattle.port_io.specs.Found.{NoLfBelow, EndsAt, IsFound};
 
 use crate::read_ahead::ReadAhead;
@@ -21,11 +23,11 @@ const LONGEST_LINE: usize = 16_384;
 pub enum Line {
     /// A whole line of at most 16,384 bytes, its LF not counted.
     Text,
-    /// The end of the input, behind an LF or at once.
+    /// The end of the input, after an LF or at once.
     End,
     /// More than 16,384 bytes without an LF.
     TooLong,
-    /// The end of the input, behind 1 to 16,384 bytes without an LF.
+    /// The end of the input, after 1 to 16,384 bytes without an LF.
     Unfinished,
 }
 
@@ -112,7 +114,8 @@ impl LineReader {
 
         // After an ending.
         ensures again { IfSome self.old.ending (λ ending. result ≡ Ok ending) }
-        ensures again_kept { IfSome self.old.ending (λ ending. (source.new ≡ source.old) × (self.new.held ≡ self.old.held)) }
+        ensures again_kept { IfSome self.old.ending (λ ending.
+            (source.new ≡ source.old) × (self.new.held ≡ self.old.held)) }
 
         // Where a whole line was held.
         ensures held { Contains self.old.held lf → (source.new ≡ source.old) × IsOk result }
@@ -169,7 +172,7 @@ fn find_next<S: Source>(ahead: &mut ReadAhead, source: &mut S) -> Result<Found, 
     }
 }
 
-// The length of the line at the front, where a whole one stands there. The bytes searched have no LF.
+// The length of the first line, where it is there whole. The bytes searched have no LF.
 fn line_length(bytes: &[u8], searched: usize) -> Option<usize>
     requires within { searched ≤ length bytes.now }
     requires short { searched ≤ longest_line }

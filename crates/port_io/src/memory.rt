@@ -1,5 +1,6 @@
 //! A source and a sink in memory, whose reads and writes fail where they are told to.
-ghost use Rattle.std.specs.Prelude.{◌≡◌, ◌+◌, ◌-◌, ◌^◌, ◌<◌, ◌≤◌, ◌⊎◌, ◌↔◌, Some, Ok, IfOk, OnErr, IsTrue, IsErr, is_err, if◌then◌else◌, Contains, length, take, drop, min, [], ◌==◌};
+ghost use Rattle.std.specs.Prelude.{◌≡◌, ◌+◌, ◌-◌, ◌^◌, ◌<◌, ◌≤◌, ◌⊎◌, ◌↔◌, Some, Ok, IfOk, OnErr, IsTrue};
+ghost use Rattle.std.specs.Prelude.{IsErr, is_err, if◌then◌else◌, Contains, length, take, drop, min, [], ◌==◌};
 ghost use Rattle.std.specs.Io.KnownBytes.{prepend_known, append_known, IsAtEnd};
 ghost use Rattle.port_io.specs.Faults.{Rose};
 
@@ -8,7 +9,7 @@ use crate::sources::{Failed, Source};
 use std::alloc::{AllocError, Global};
 use std::marker::Model;
 
-// Copies bytes from the front of `from` to the front of `to`, as many as there are and fit, but at most
+// Copies the first bytes of `from` to the beginning of `to`, as many as there are and fit, but at most
 // `most`, and says how many.
 pub(crate) fn copy_front(from: &[u8], to: &mut [u8], most: usize) -> usize
     ensures count { result ≡ min (min (length from.now) (length to.old)) most }
@@ -49,7 +50,13 @@ impl Model for MemSource {
 
     ghost Value = { SourceState };
 
-    ghost view = { λ s. record { left = drop s.position s.bytes.items; step = s.step; failing = s.failing.items; reads = s.reads; faults = s.faults } };
+    ghost view = { λ s. record {
+      left = drop s.position s.bytes.items;
+      step = s.step;
+      failing = s.failing.items;
+      reads = s.reads;
+      faults = s.faults;
+    } };
 
     ghost invariant = { λ s. (s.position ≤ vec_len s.bytes) × (1 ≤ s.step) };
 }
@@ -67,7 +74,13 @@ impl MemSource {
         failing: &[u64],
     ) -> Result<MemSource, AllocError>
         requires { 1 ≤ step }
-        ensures { IfOk result (λ s. s ≡ record { left = bytes.now; step = step; failing = failing.now; reads = 0; faults = 0 }) }
+        ensures { IfOk result (λ s. s ≡ record {
+          left = bytes.now;
+          step = step;
+          failing = failing.now;
+          reads = 0;
+          faults = 0;
+        }) }
     {
         Ok(MemSource {
             bytes: Vec::from_slice(alloc, bytes)?,
@@ -98,7 +111,8 @@ impl Source for MemSource {
         ensures exact { IsErr result ↔ Contains self.old.failing (self.old.reads + 1) }
         ensures amount { IfOk result (λ n. n ≡ min (min (length self.old.left) (length buf.old)) self.old.step) }
         ensures reads { self.new.reads ≡ min (self.old.reads + 1) (2 ^ 64 - 1) }
-        ensures faults { self.new.faults ≡ (if is_err result then min (self.old.faults + 1) (2 ^ 64 - 1) else self.old.faults) }
+        ensures faults { self.new.faults
+            ≡ (if is_err result then min (self.old.faults + 1) (2 ^ 64 - 1) else self.old.faults) }
         ensures step { self.new.step ≡ self.old.step }
         ensures failing { self.new.failing ≡ self.old.failing }
     {
@@ -134,7 +148,14 @@ impl Model for MemSink {
 
     ghost Value = { SinkState };
 
-    ghost view = { λ s. record { held = s.held.items; room = s.room; step = s.step; failing = s.failing.items; writes = s.writes; faults = s.faults } };
+    ghost view = { λ s. record {
+      held = s.held.items;
+      room = s.room;
+      step = s.step;
+      failing = s.failing.items;
+      writes = s.writes;
+      faults = s.faults;
+    } };
 
     ghost invariant = { λ s. (vec_len s.held ≤ s.room) × (s.room ≤ vec_capacity s.held) × (1 ≤ s.step) };
 }
@@ -152,7 +173,14 @@ impl MemSink {
         failing: &[u64],
     ) -> Result<MemSink, AllocError>
         requires { 1 ≤ step }
-        ensures { IfOk result (λ s. s ≡ record { held = []; room = room; step = step; failing = failing.now; writes = 0; faults = 0 }) }
+        ensures { IfOk result (λ s. s ≡ record {
+          held = [];
+          room = room;
+          step = step;
+          failing = failing.now;
+          writes = 0;
+          faults = 0;
+        }) }
     {
         Ok(MemSink {
             held: Vec::with_capacity(alloc, room)?,
@@ -189,11 +217,15 @@ impl Sink for MemSink {
         ensures kept { OnErr result (Some self.new.held ≡ Some self.old.held) }
 
         // Exactly the numbered writes fail, and those that find no room.
-        ensures exact { IsErr result ↔ (0 < length piece.now) × (Contains self.old.failing (self.old.writes + 1) ⊎ (self.old.room ≤ length self.old.held)) }
-        ensures amount { IfOk result (λ n. n ≡ min (min (length piece.now) self.old.step) (self.old.room - length self.old.held)) }
+        ensures exact { IsErr result ↔ (0 < length piece.now)
+            × (Contains self.old.failing (self.old.writes + 1) ⊎ (self.old.room ≤ length self.old.held)) }
+        ensures amount { IfOk result (λ n.
+            n ≡ min (min (length piece.now) self.old.step) (self.old.room - length self.old.held)) }
         ensures within { length self.new.held ≤ self.new.room }
-        ensures writes { self.new.writes ≡ (if length piece.now == 0 then self.old.writes else min (self.old.writes + 1) (2 ^ 64 - 1)) }
-        ensures faults { self.new.faults ≡ (if is_err result then min (self.old.faults + 1) (2 ^ 64 - 1) else self.old.faults) }
+        ensures writes { self.new.writes
+            ≡ (if length piece.now == 0 then self.old.writes else min (self.old.writes + 1) (2 ^ 64 - 1)) }
+        ensures faults { self.new.faults
+            ≡ (if is_err result then min (self.old.faults + 1) (2 ^ 64 - 1) else self.old.faults) }
         ensures room { self.new.room ≡ self.old.room }
         ensures step { self.new.step ≡ self.old.step }
         ensures failing { self.new.failing ≡ self.old.failing }

@@ -27,9 +27,13 @@ impl Model for ReadAhead {
 
     ghost Value = { Ahead };
 
-    ghost view = { λ b. record { text = slice_range b.bytes.items b.text_start b.text_end; held = slice_range b.bytes.items b.start b.end } };
+    ghost view = { λ b. record {
+      text = slice_range b.bytes.items b.text_start b.text_end;
+      held = slice_range b.bytes.items b.start b.end;
+    } };
 
-    ghost invariant = { λ b. (b.text_start ≤ b.text_end) × (b.text_end ≤ 65536) × (b.start ≤ b.end) × (b.end ≤ 65536) × (vec_len b.bytes ≡ 65536) };
+    ghost invariant = { λ b. (b.text_start ≤ b.text_end) × (b.text_end ≤ 65536) × (b.start ≤ b.end)
+        × (b.end ≤ 65536) × (vec_len b.bytes ≡ 65536) };
 }
 
 impl ReadAhead {
@@ -67,7 +71,7 @@ impl ReadAhead {
         self.text_end = 0;
     }
 
-    // Gives the line of that length at the front, and takes it and the byte behind it from what is held.
+    // Gives the line of that length that is held first, and takes it and the byte after it from what is held.
     pub fn give(&mut self, count: usize)
         requires { count < length self.old.held }
         ensures { self.new ≡ record { text = take count self.old.held; held = drop (count + 1) self.old.held } }
@@ -77,7 +81,7 @@ impl ReadAhead {
         self.start = self.text_end + 1;
     }
 
-    // Reads once, behind what is held, and answers how many bytes came. The line given is forgotten.
+    // Reads once, to the end of what is held, and answers how many bytes came. The line given is forgotten.
     pub fn refill<S: Source>(&mut self, source: &mut S) -> Result<usize, Failed>
         requires { length self.old.held ≤ 16384 }
         ensures count { S.faults source.old ≤ S.faults source.new }
@@ -99,7 +103,7 @@ impl ReadAhead {
     }
 }
 
-// Moves the bytes from `start` to `end` to the front, and answers where they end then.
+// Moves the bytes from `start` to `end` to the buffer's beginning, and answers where they end then.
 fn move_to_front(bytes: &mut Vec<u8>, start: usize, end: usize) -> usize
     requires ordered { start ≤ end }
     requires within { end ≤ vec_len bytes.old }
@@ -120,7 +124,8 @@ fn read_behind<S: Source>(source: &mut S, bytes: &mut Vec<u8>, end: usize) -> Re
     ensures len { vec_len bytes.new ≡ vec_len bytes.old }
     ensures before { take end bytes.new.items ≡ take end bytes.old.items }
     ensures bound { IfOk result (λ n. end + n ≤ vec_len bytes.new) }
-    ensures given { IfOk result (λ n. S.left source.old ≡ prepend_known (slice_range bytes.new.items end (end + n)) (S.left source.new)) }
+    ensures given { IfOk result (λ n.
+        S.left source.old ≡ prepend_known (slice_range bytes.new.items end (end + n)) (S.left source.new)) }
     ensures end { IfOk result (λ n. n ≡ 0 → IsAtEnd (S.left source.new)) }
     ensures failed { OnErr result (Rose (S.faults source.old) (S.faults source.new)) }
     ensures kept { OnErr result (S.left source.new ≡ S.left source.old) }

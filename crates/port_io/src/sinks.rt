@@ -17,7 +17,7 @@ pub trait Sink {
     // How many writes failed.
     ghost faults: { Self → ℕ };
 
-    /// Takes bytes from the front of `piece`, and answers how many: at least one of a nonempty piece.
+    /// Takes the first bytes of `piece`, and answers how many: at least one of a nonempty piece.
     ///
     /// # Errors
     ///
@@ -37,7 +37,7 @@ pub trait Sink {
 ///
 /// # Errors
 ///
-/// [`Failed`] where a write failed. A part of the piece, from its front, was written then.
+/// [`Failed`] where a write failed. A prefix of the piece was written then.
 pub fn put_all<K: Sink>(sink: &mut K, piece: &[u8]) -> Result<(), Failed>
     ensures count { K.faults sink.old ≤ K.faults sink.new }
     ensures ok { OnOk result (K.written sink.new ≡ append_known (K.written sink.old) piece.now) }

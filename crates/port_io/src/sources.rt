@@ -18,8 +18,8 @@ pub trait Source {
     // How many reads failed.
     ghost faults: { Self → ℕ };
 
-    /// Gives the next bytes at the front of `buf`, and answers how many. `Ok(0)` for a nonempty buffer is
-    /// the end of the input. The bytes of `buf` behind them are left open.
+    /// Gives the next bytes as the first of `buf`, and answers how many. `Ok(0)` for a nonempty buffer is
+    /// the end of the input. The bytes of `buf` after them are left open.
     ///
     /// # Errors
     ///

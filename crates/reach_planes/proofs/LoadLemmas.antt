@@ -1,28 +1,30 @@
 -- What the bits of a plane tell of the loads that are reached.
-use Rattle.std.proofs.Common.{◌≡◌, ◌≢◌, ◌↔◌, ℕ, zero, suc, ◌+◌, ◌-◌, ◌*◌, ◌/◌, ◌%◌, ◌^◌, ◌<◌, ◌≤◌, cond, eqb, List, [], ◌∷◌, ◌++◌, length, get_or, set, take, drop, sum, replicate, refl, sym, ap, ◌∙◌, subst, inl, inr, ◌⊎◌, ⊎_elim, arith}
+use Rattle.std.proofs.Common.{◌≡◌, ◌↔◌, ℕ, zero, suc, ◌+◌, ◌-◌, ◌*◌, ◌/◌, ◌%◌, ◌^◌, ◌<◌, ◌≤◌, cond, eqb, List, [], ◌∷◌, ◌++◌}
+use Rattle.std.proofs.Common.{length, get_or, set, take, drop, sum, replicate, refl, sym, ap, ◌∙◌, subst, inl, inr, arith}
 use Rattle.std.specs.Prelude.{All, Contains, IsTrue, bit_and}
 use Rattle.std.specs.Int.{bit_at, trailing_zeros, w64}
-use Rattle.std.specs.List.{sum_by}
 use Rattle.std.proofs.lemmas.Bool.{cases_lt, cases_eq, eqb-true, eq-eqb}
-use Rattle.std.proofs.lemmas.List.{get_or_default, length-set, length-take-le, length-drop, length-replicate, get_or-replicate, get_or-set_same, get_or-set_other, ext_get_or, length_push, get_or_append_left, get_or-append_right}
-use Rattle.std.proofs.lemmas.List.Sums.{sum_by-cons, sum_by-le, get_or-le-sum_by}
+use Rattle.std.proofs.lemmas.List.{length-set, length-take-le, length-drop, length-replicate, get_or-replicate}
+use Rattle.std.proofs.lemmas.List.{get_or-set_same, get_or-set_other, ext_get_or, length_push, get_or_append_left, get_or-append_right}
+use Rattle.std.proofs.lemmas.List.Sums.{sum_by-cons, sum_by-le}
 use Rattle.std.proofs.lemmas.List.Elements.{All-from_get_or, All-tail, All-take, All-drop, All-contains, Contains-get_or}
 use Rattle.std.proofs.lemmas.Nat.{mul-add-lt, mul-le}
-use Rattle.std.proofs.lemmas.Nat.Bits.{bit_at-zero, bit_at-pow_same, bit_at-pow_other, bit_at-trailing_zeros, bit_at-lt, shr_and_one}
-use Rattle.std.proofs.Math.Nat.{one-le-pow, div-add-mod}
+use Rattle.std.proofs.lemmas.Nat.Bits.{bit_at-zero, bit_at-pow_same, bit_at-pow_other, bit_at-trailing_zeros, shr_and_one}
+use Rattle.std.proofs.Math.Nat.{one-le-pow}
 use Rattle.items.specs.Game.{GameNumbers, IsGame}
 use Rattle.items.specs.Multiset.{Same, count}
-use Rattle.items.specs.Packable.{IsAssignment, Packable}
-use Rattle.items.proofs.MultisetLemmas.{count-sum_by, length-Same}
-use Rattle.items.proofs.SameLemmas.{Same-refl, Same-sym, Same-trans}
+use Rattle.items.specs.Packable.{Packable}
+use Rattle.items.proofs.MultisetLemmas.{count-sum_by}
+use Rattle.items.proofs.SameLemmas.{Same-refl, Same-trans}
 use Rattle.loads.specs.Descending.{IsDescending, put_descending, take_out}
 use Rattle.loads.proofs.DescendingLemmas.{IsDescending-put, IsDescending-nil, Contains-here}
 use Rattle.loads.proofs.CountLemmas.{sum_by-put, sum_by-take_out, Contains-Same}
-use Rattle.reach_planes.specs.Reached.{ItemsSent, sent, totals, HasTotals, AreLoadsOf, IsReached, IsLeastLoad}
+use Rattle.reach_planes.specs.Reached.{ItemsSent, sent, totals, HasTotals, IsReached, IsLeastLoad}
 use Rattle.reach_planes.specs.Words.{IsSet}
-use Rattle.reach_planes.specs.Layout.{IsStart, IsPlaneOf, AreDigits, ArePlanes, IsLeastBit, NoBits, word_at, row_of, rows_of, halves_of, digits_of, digit_sum, held_total}
-use Rattle.reach_planes.proofs.AssignmentLemmas.{length-totals, get_or-totals, front_and_last, IsAssignment-nil, totals-nil}
-use Rattle.reach_planes.proofs.TotalsLemmas.{length-HasTotals, All-HasTotals, HasTotals-Same, last_of_start, sum_end, sum-HasTotals}
+use Rattle.reach_planes.specs.Layout.{IsStart, IsPlaneOf, AreDigits, ArePlanes, IsLeastBit, NoBits, word_at, row_of, rows_of, halves_of, digits_of}
+use Rattle.items.proofs.AssignmentLemmas.{IsAssignment-nil}
+use Rattle.reach_planes.proofs.AssignmentLemmas.{length-totals, front_and_last, totals-nil}
+use Rattle.reach_planes.proofs.TotalsLemmas.{length-HasTotals, All-HasTotals, HasTotals-Same, last_of_start, sum_end}
 use Rattle.reach_planes.proofs.RowLemmas.{length-digits_of, All-digits_of, row_of-digits_of, sum-digits_of, row_of-zeros, zeros-row_of}
 use Rattle.reach_planes.proofs.PlaneLemmas.{place_of, row-lt, place-lt}
 
@@ -45,7 +47,14 @@ Same-descending_form (x ∷ xs) y =
 
 -- totals in descending order are sorted loads that are reached, and the other way round
 pub IsReached-from_totals : (game : GameNumbers) (items loads : List ℕ) → HasTotals game items loads → IsReached game items (descending_form loads)
-IsReached-from_totals game items loads h = (h.0, record { assigned = h.1; descending = IsDescending-descending_form loads; same = Same-trans (totals game items h.0) loads (descending_form loads) h.2 (Same-descending_form loads) })
+IsReached-from_totals game items loads h = (
+  h.0,
+  record {
+    assigned = h.1;
+    descending = IsDescending-descending_form loads;
+    same = Same-trans (totals game items h.0) loads (descending_form loads) h.2 (Same-descending_form loads);
+  },
+)
 
 pub HasTotals-reached : (game : GameNumbers) (items loads : List ℕ) → IsReached game items loads → HasTotals game items loads
 HasTotals-reached game items loads r = (r.0, r.1.assigned, r.1.same)
@@ -60,7 +69,8 @@ pub record HasFront (game : GameNumbers) (items : List ℕ) (load : ℕ) : Type 
 pub front_load : (game : GameNumbers) (items loads : List ℕ) (load : ℕ) → IsGame game → HasTotals game items loads → Contains loads load → HasFront game items load
 front_load game items loads load g h member =
     let rest = take_out load loads in
-    let turned : Same loads (load ∷ rest) = λ y. let t = sum_by-take_out (λ z. cond (eqb y z) 1 0) load loads member in omega (arith, t, count-sum_by y loads, count-sum_by y rest) in
+    let turned : Same loads (load ∷ rest) = λ y. let t = sum_by-take_out
+    (λ z. cond (eqb y z) 1 0) load loads member in omega (arith, t, count-sum_by y loads, count-sum_by y rest) in
     let h' = HasTotals-Same game items loads (load ∷ rest) turned h in
     let n = length-HasTotals game items (load ∷ rest) h' in
     let fit = All-HasTotals game items (load ∷ rest) h' in
@@ -77,7 +87,8 @@ front_load game items loads load g h member =
     }
 
 -- a bit that stands for a load of the first bin and digits
-pub marked : (game : GameNumbers) (items words : List ℕ) (load : ℕ) (digits : List ℕ) → IsPlaneOf game items words → AreDigits game digits → load ≤ game.capacity → IsSet words (place_of game (load / 64) digits) (load % 64) ↔ IsStart game items (load ∷ digits)
+pub marked : (game : GameNumbers) (items words : List ℕ) (load : ℕ) (digits : List ℕ) → IsPlaneOf game items words → AreDigits game digits → load ≤ game.capacity
+    → IsSet words (place_of game (load / 64) digits) (load % 64) ↔ IsStart game items (load ∷ digits)
 marked game items words load digits plane a fit =
     let e = plane.exact (load / 64) (load % 64) digits a (omega (arith, fit)) (omega arith) in
     let whole : 64 * (load / 64) + load % 64 ≡ load = omega arith in (
@@ -87,21 +98,25 @@ marked game items words load digits plane a fit =
 
 -- the digits of a row
 pub AreDigits-of : (game : GameNumbers) (row : ℕ) → IsGame game → AreDigits game (digits_of (game.capacity + 1) (game.bins - 2) row)
-AreDigits-of game row g = record { one_each = omega (arith, length-digits_of (game.capacity + 1) (game.bins - 2) row, g.bins.low); fit = All-digits_of game.capacity (game.bins - 2) row }
+AreDigits-of game row g =
+    record { one_each = omega (arith, length-digits_of (game.capacity + 1) (game.bins - 2) row, g.bins.low); fit = All-digits_of game.capacity (game.bins - 2) row }
 
 -- a bit that is set stands for loads that are reached
 pub record IsStartAt (game : GameNumbers) (items : List ℕ) (load row : ℕ) : Type 0 where
   pub fits : load ≤ game.capacity
   pub start : IsStart game items (load ∷ digits_of (game.capacity + 1) (game.bins - 2) row)
 
-pub start_at : (game : GameNumbers) (items words : List ℕ) (half row bit : ℕ) → IsGame game → IsPlaneOf game items words → half < halves_of game → row < rows_of game → bit < 64 → IsSet words (word_at (rows_of game) half row) bit → IsStartAt game items (64 * half + bit) row
+pub start_at : (game : GameNumbers) (items words : List ℕ) (half row bit : ℕ) → IsGame game → IsPlaneOf game items words → half < halves_of game → row < rows_of game → bit < 64
+    → IsSet words (word_at (rows_of game) half row) bit → IsStartAt game items (64 * half + bit) row
 start_at game items words half row bit g plane lh lr lb h =
     let is = row_of-digits_of game.capacity (game.bins - 2) row lr in
-    let e = (plane.exact half bit (digits_of (game.capacity + 1) (game.bins - 2) row) (AreDigits-of game row g) lh lb).0 (subst (λ n. IsSet words (word_at (rows_of game) half n) bit) (sym is) h) in
+    let e = (plane.exact half bit (digits_of (game.capacity + 1) (game.bins - 2) row) (AreDigits-of game row g) lh lb).0
+    (subst (λ n. IsSet words (word_at (rows_of game) half n) bit) (sym is) h) in
     record { fits = e.0; start = e.1 }
 
 -- the least load of which a bit is set
-pub IsLeastLoad-from_bit : (game : GameNumbers) (items words : List ℕ) (load : ℕ) → IsGame game → IsPlaneOf game items words → IsLeastBit (rows_of game) (halves_of game) words load → IsLeastLoad game items load
+pub IsLeastLoad-from_bit : (game : GameNumbers) (items words : List ℕ) (load : ℕ) → IsGame game → IsPlaneOf game items words → IsLeastBit (rows_of game) (halves_of game) words load
+    → IsLeastLoad game items load
 IsLeastLoad-from_bit game items words load g plane least =
     let whole : 64 * (load / 64) + load % 64 ≡ load = omega arith in
     let at = start_at game items words (load / 64) least.row (load % 64) g plane least.in_halves least.in_rows (omega arith) least.is_set in
@@ -116,24 +131,29 @@ IsLeastLoad-from_bit game items words load g plane least =
         | inl below ↦
             let f = front_load game items others (get_or others k 0) g (HasTotals-reached game items others r) (Contains-get_or others k 0 l) in
             let w : 64 * (get_or others k 0 / 64) + get_or others k 0 % 64 ≡ get_or others k 0 = omega arith in
-            absurd (least.none_below (get_or others k 0 / 64) (row_of (game.capacity + 1) f.digits) (get_or others k 0 % 64) (omega (arith, f.fits)) (row-lt game f.digits f.are_digits) (omega arith) (omega (arith, w, below)) ((marked game items words (get_or others k 0) f.digits plane f.are_digits f.fits).1 f.start))
+            absurd (least.none_below (get_or others k 0 / 64) (row_of (game.capacity + 1) f.digits) (get_or others k 0 % 64) (omega (arith, f.fits))
+            (row-lt game f.digits f.are_digits) (omega arith) (omega (arith, w, below))
+            ((marked game items words (get_or others k 0) f.digits plane f.are_digits f.fits).1 f.start))
         | inr fit ↦ fit
       ]);
     }
 
 -- where no bit is set, the items have no assignment
-pub not_packable_from_bits : (game : GameNumbers) (items words : List ℕ) → IsGame game → IsPlaneOf game items words → NoBits (rows_of game) (halves_of game) words → Packable game items → ⊥
+pub not_packable_from_bits : (game : GameNumbers) (items words : List ℕ) → IsGame game → IsPlaneOf game items words → NoBits (rows_of game) (halves_of game) words
+    → Packable game items → ⊥
 not_packable_from_bits game items words g plane none p =
     let loads = totals game items p.0 in
     let load : ℕ = get_or loads 0 0 in
     let h : HasTotals game items loads = (p.0, p.1, Same-refl loads) in
     let f = front_load game items loads load g h (Contains-get_or loads 0 0 (omega (arith, length-totals game items p.0, g.bins.low))) in
-    none (load / 64) (row_of (game.capacity + 1) f.digits) (load % 64) (omega (arith, f.fits)) (row-lt game f.digits f.are_digits) (omega arith) ((marked game items words load f.digits plane f.are_digits f.fits).1 f.start)
+    none (load / 64) (row_of (game.capacity + 1) f.digits) (load % 64) (omega (arith, f.fits)) (row-lt game f.digits f.are_digits) (omega arith)
+    ((marked game items words load f.digits plane f.are_digits f.fits).1 f.start)
 
 -- no items have the loads 0
 HasTotals-none : (game : GameNumbers) (loads : List ℕ) → length loads ≡ game.bins → ((k : ℕ) → get_or loads k 0 ≡ 0) → HasTotals game [] loads
 HasTotals-none game loads n z =
-    let e : replicate game.bins 0 ≡ loads = ext_get_or 0 _ _ (length-replicate {A = ℕ} game.bins 0 ∙ sym n) (λ k l. get_or-replicate game.bins k 0 0 (omega (arith, l, length-replicate {A = ℕ} game.bins 0)) ∙ sym (z k)) in
+    let e : replicate game.bins 0 ≡ loads = ext_get_or 0 _ _ (length-replicate {A = ℕ} game.bins 0 ∙ sym n)
+    (λ k l. get_or-replicate game.bins k 0 0 (omega (arith, l, length-replicate {A = ℕ} game.bins 0)) ∙ sym (z k)) in
     ([], IsAssignment-nil game, λ x. ap (count x) (totals-nil game ∙ e))
 
 last_zero : (i : ℕ) → get_or {A = ℕ} (0 ∷ []) i 0 ≡ 0
@@ -151,7 +171,8 @@ all_zero load digits e z (suc k) = elim (cases_lt k (length digits)) [
 set_first : (n i bit : ℕ) → i < n → IsSet (set (replicate n 0) 0 1) i bit ↔ ((i ≡ 0) × (bit ≡ 0))
 set_first n i bit l = elim (cases_eq i 0) [
   | inl e ↦
-      let here : get_or (set (replicate n 0) 0 1) i 0 ≡ 1 = ap (λ k. get_or (set (replicate n 0) 0 1) k 0) e ∙ get_or-set_same (replicate n 0) 0 1 0 (omega (arith, l, length-replicate {A = ℕ} n 0)) in
+      let here : get_or (set (replicate n 0) 0 1) i 0 ≡ 1 = ap (λ k. get_or (set (replicate n 0) 0 1) k 0) e
+      ∙ get_or-set_same (replicate n 0) 0 1 0 (omega (arith, l, length-replicate {A = ℕ} n 0)) in
       elim (cases_eq bit 0) [
         | inl b ↦ (λ h. (e, b), λ h. ap (λ w. bit_at w bit) here ∙ ap (bit_at 1) b ∙ bit_at-pow_same 0)
         | inr b ↦ (λ h. absurd (omega (arith, h, ap (λ w. bit_at w bit) here, bit_at-pow_other 0 bit b)), λ h. absurd (b h.1))
@@ -176,8 +197,14 @@ IsPlaneOf-none game n g e = record {
             let at = p.0 h in
             let first : half ≡ 0 = first_half (rows_of game) half row some at.0 in
             let none : row ≡ 0 = omega (arith, at.0) in
-            let z = zeros-row_of (game.capacity + 1) digits (omega arith) none in
-            (omega (arith, first, at.1), (0, HasTotals-none game ((64 * half + bit) ∷ (digits ++ 0 ∷ [])) (omega (arith, length_push digits 0, a.one_each)) (all_zero (64 * half + bit) digits (omega (arith, first, at.1)) z))),
+            let z = zeros-row_of (game.capacity + 1) digits (omega arith) none in (
+              omega (arith, first, at.1),
+              (
+                0,
+                HasTotals-none game ((64 * half + bit) ∷ (digits ++ 0 ∷ [])) (omega (arith, length_push digits 0, a.one_each))
+                    (all_zero (64 * half + bit) digits (omega (arith, first, at.1)) z),
+              ),
+            ),
         λ (fit, start).
             let s = last_of_start game [] ((64 * half + bit) ∷ digits) start in
             let c = sum_by-cons (λ x. x) (64 * half + bit) digits in
@@ -188,27 +215,36 @@ IsPlaneOf-none game n g e = record {
 }
 
 -- the bit that is looked at for a load and digits
-marks_bit : (game : GameNumbers) (items words : List ℕ) (load : ℕ) (digits : List ℕ) (i word : ℕ) → IsPlaneOf game items words → AreDigits game digits → load ≤ game.capacity → i ≡ place_of game (load / 64) digits → word ≡ get_or words i 0 → IsTrue (eqb (bit_and (word / 2 ^ (load % 64)) 1) 1) ↔ IsStart game items (load ∷ digits)
+marks_bit : (game : GameNumbers) (items words : List ℕ) (load : ℕ) (digits : List ℕ) (i word : ℕ) → IsPlaneOf game items words → AreDigits game digits → load ≤ game.capacity
+    → i ≡ place_of game (load / 64) digits → word ≡ get_or words i 0 → IsTrue (eqb (bit_and (word / 2 ^ (load % 64)) 1) 1) ↔ IsStart game items (load ∷ digits)
 marks_bit game items words load digits i word plane a fit at is =
-    let e : bit_and (word / 2 ^ (load % 64)) 1 ≡ bit_at (get_or words (place_of game (load / 64) digits) 0) (load % 64) = shr_and_one word (load % 64) ∙ ap (λ w. bit_at w (load % 64)) (is ∙ ap (λ k. get_or words k 0) at) in
+    let e : bit_and (word / 2 ^ (load % 64)) 1 ≡ bit_at (get_or words (place_of game (load / 64) digits) 0) (load % 64) = shr_and_one word (load % 64)
+    ∙ ap (λ w. bit_at w (load % 64)) (is ∙ ap (λ k. get_or words k 0) at) in
     let m = marked game items words load digits plane a fit in (
       λ t. m.0 (sym e ∙ eqb-true _ _ t),
       λ h. eq-eqb _ _ (e ∙ m.1 h),
     )
 
-pub marks_seen : (game : GameNumbers) (items words : List ℕ) (seen : ItemsSent) (load : ℕ) (digits : List ℕ) (half rows row word : ℕ) → sent game items ≡ seen → IsPlaneOf game items words → AreDigits seen.game digits → load ≤ seen.game.capacity → half ≡ load / 64 → rows ≡ rows_of game → row ≡ row_of (game.capacity + 1) digits → word ≡ get_or words (half * rows + row) 0 → IsTrue (eqb (bit_and (word / 2 ^ (load % 64)) 1) 1) ↔ IsStart seen.game seen.items (load ∷ digits)
+pub marks_seen : (game : GameNumbers) (items words : List ℕ) (seen : ItemsSent) (load : ℕ) (digits : List ℕ) (half rows row word : ℕ) → sent game items ≡ seen
+    → IsPlaneOf game items words → AreDigits seen.game digits → load ≤ seen.game.capacity → half ≡ load / 64 → rows ≡ rows_of game → row ≡ row_of (game.capacity + 1) digits
+    → word ≡ get_or words (half * rows + row) 0 → IsTrue (eqb (bit_and (word / 2 ^ (load % 64)) 1) 1) ↔ IsStart seen.game seen.items (load ∷ digits)
 marks_seen game items words seen load digits half rows row word is plane a fit h r q w =
     let at : half * rows + row ≡ place_of game (load / 64) digits = ap (λ n. n * rows + row) h ∙ ap (λ n. load / 64 * n + row) r ∙ ap (λ n. load / 64 * rows_of game + n) q in
-    subst (λ (x : ItemsSent). AreDigits x.game digits → load ≤ x.game.capacity → IsTrue (eqb (bit_and (word / 2 ^ (load % 64)) 1) 1) ↔ IsStart x.game x.items (load ∷ digits)) is (λ a' fit'. marks_bit game items words load digits (half * rows + row) word plane a' fit' at w) a fit
+    subst (λ (x : ItemsSent). AreDigits x.game digits → load ≤ x.game.capacity → IsTrue (eqb (bit_and (word / 2 ^ (load % 64)) 1) 1) ↔ IsStart x.game x.items (load ∷ digits)) is
+    (λ a' fit'. marks_bit game items words load digits (half * rows + row) word plane a' fit' at w) a fit
 
-pub marks_within : (game : GameNumbers) (items words : List ℕ) (seen : ItemsSent) (load : ℕ) (digits : List ℕ) (half rows row : ℕ) → IsGame game → sent game items ≡ seen → IsPlaneOf game items words → AreDigits seen.game digits → load ≤ seen.game.capacity → half ≡ load / 64 → rows ≡ rows_of game → row ≡ row_of (game.capacity + 1) digits → half * rows + row < length words
+pub marks_within : (game : GameNumbers) (items words : List ℕ) (seen : ItemsSent) (load : ℕ) (digits : List ℕ) (half rows row : ℕ) → IsGame game → sent game items ≡ seen
+    → IsPlaneOf game items words → AreDigits seen.game digits → load ≤ seen.game.capacity → half ≡ load / 64 → rows ≡ rows_of game → row ≡ row_of (game.capacity + 1) digits
+    → half * rows + row < length words
 marks_within game items words seen load digits half rows row g is plane a fit h r q =
     let at : half * rows + row ≡ place_of game (load / 64) digits = ap (λ n. n * rows + row) h ∙ ap (λ n. load / 64 * n + row) r ∙ ap (λ n. load / 64 * rows_of game + n) q in
-    let l = subst (λ (x : ItemsSent). AreDigits x.game digits → load ≤ x.game.capacity → place_of game (load / 64) digits < halves_of game * rows_of game) is (λ a' fit'. place-lt game (load / 64) digits a' (omega (arith, fit'))) a fit in
+    let l = subst (λ (x : ItemsSent). AreDigits x.game digits → load ≤ x.game.capacity → place_of game (load / 64) digits < halves_of game * rows_of game) is
+    (λ a' fit'. place-lt game (load / 64) digits a' (omega (arith, fit'))) a fit in
     omega (arith, at, l, plane.size)
 
 -- loads that are split into the first, the last and the others
-pub AreDigits-between : (game : GameNumbers) (loads : List ℕ) (n : ℕ) → IsGame game → length loads ≡ game.bins → All (λ load. load ≤ game.capacity) loads → n ≡ game.bins - 2 → AreDigits game (take n (drop 1 loads))
+pub AreDigits-between : (game : GameNumbers) (loads : List ℕ) (n : ℕ) → IsGame game → length loads ≡ game.bins → All (λ load. load ≤ game.capacity) loads → n ≡ game.bins - 2
+    → AreDigits game (take n (drop 1 loads))
 AreDigits-between game loads n g one_each fit e = record {
   one_each = omega (arith, e, one_each, g.bins.low, length-take-le n (drop 1 loads) (omega (arith, e, one_each, length-drop 1 loads)));
   fit = All-take (λ load. load ≤ game.capacity) n (drop 1 loads) (All-drop (λ load. load ≤ game.capacity) 1 loads fit);
@@ -216,7 +252,8 @@ AreDigits-between game loads n g one_each fit e = record {
 
 split_loads : (loads : List ℕ) (n : ℕ) → length loads ≡ n + 2 → loads ≡ get_or loads 0 0 ∷ (take n (drop 1 loads) ++ get_or loads (n + 1) 0 ∷ [])
 split_loads [] n e = absurd (omega arith)
-split_loads (x ∷ xs) n e = ap (λ ys. x ∷ ys) (front_and_last xs n (omega arith) ∙ ap (λ v. take n xs ++ v ∷ []) (let q : suc n ≡ n + 1 = omega arith in ap (λ k. get_or (x ∷ xs) k 0) q))
+split_loads (x ∷ xs) n e =
+    ap (λ ys. x ∷ ys) (front_and_last xs n (omega arith) ∙ ap (λ v. take n xs ++ v ∷ []) (let q : suc n ≡ n + 1 = omega arith in ap (λ k. get_or (x ∷ xs) k 0) q))
 
 pub sum_fits : (game : GameNumbers) (loads : List ℕ) → IsGame game → length loads ≡ game.bins → All (λ load. load ≤ game.capacity) loads → sum loads ≤ 960
 sum_fits game loads g one_each fit =
@@ -225,7 +262,8 @@ sum_fits game loads g one_each fit =
     omega (arith, most, more)
 
 -- loads that sum to the items' total are reached where the bit of the first ones is set
-pub contains_where : (game : GameNumbers) (items loads : List ℕ) (n : ℕ) → IsGame game → length loads ≡ game.bins → n ≡ game.bins - 2 → sum loads ≡ sum items → IsStart game items (get_or loads 0 0 ∷ take n (drop 1 loads)) ↔ HasTotals game items loads
+pub contains_where : (game : GameNumbers) (items loads : List ℕ) (n : ℕ) → IsGame game → length loads ≡ game.bins → n ≡ game.bins - 2 → sum loads ≡ sum items
+    → IsStart game items (get_or loads 0 0 ∷ take n (drop 1 loads)) ↔ HasTotals game items loads
 contains_where game items loads n g one_each e total =
     let first = get_or loads 0 0 ∷ take n (drop 1 loads) in
     let whole : loads ≡ first ++ get_or loads (n + 1) 0 ∷ [] = split_loads loads n (omega (arith, e, one_each, g.bins.low)) in (
@@ -237,7 +275,8 @@ contains_where game items loads n g one_each e total =
     )
 
 -- no bit is set in one half more
-pub NoBits-more : (rows half : ℕ) (words : List ℕ) → NoBits rows half words → ((k bit : ℕ) → k < rows → bit < 64 → IsSet words (half * rows + k) bit → ⊥) → NoBits rows (half + 1) words
+pub NoBits-more : (rows half : ℕ) (words : List ℕ) → NoBits rows half words → ((k bit : ℕ) → k < rows → bit < 64 → IsSet words (half * rows + k) bit → ⊥)
+    → NoBits rows (half + 1) words
 NoBits-more rows half words none here h row bit lh lr lb is = elim (cases_lt h half) [
   | inl early ↦ none h row bit early lr lb is
   | inr late ↦ let e : h ≡ half = omega (arith, lh, late) in here row bit lr lb (subst (λ n. IsSet words (word_at rows n row) bit) e is)
@@ -251,7 +290,8 @@ pub NoBits-zero : (rows half bits : ℕ) (words : List ℕ) → NoBits rows half
 NoBits-zero rows half bits words none are e =
     NoBits-more rows half words none (λ k bit lk lb is. omega (arith, (are bit).1 (k, lk, is), ap (λ n. bit_at n bit) e, bit_at-zero bit))
 
-pub least_bit : (rows halves half bits : ℕ) (words : List ℕ) → half < halves → NoBits rows half words → AreBitsOf rows half words bits → 0 < bits → bits < 2 ^ 64 → IsLeastBit rows halves words (64 * half + trailing_zeros w64 bits)
+pub least_bit : (rows halves half bits : ℕ) (words : List ℕ) → half < halves → NoBits rows half words → AreBitsOf rows half words bits → 0 < bits → bits < 2 ^ 64
+    → IsLeastBit rows halves words (64 * half + trailing_zeros w64 bits)
 least_bit rows halves half bits words l none are some fits =
     let t = bit_at-trailing_zeros w64 bits some fits in
     let bit : ℕ = trailing_zeros w64 bits in
@@ -279,7 +319,8 @@ pub record AreLoadsAt (game : GameNumbers) (items sums : List ℕ) (total load r
   pub others : get_or sums row 0 ≤ total - load
   pub reached : HasTotals game items (load ∷ (digits_of (game.capacity + 1) (game.bins - 2) row ++ (total - load - get_or sums row 0) ∷ []))
 
-pub loads_at : (game : GameNumbers) (items sums words : List ℕ) (total load row : ℕ) → IsGame game → ArePlanes game items total sums words → row < rows_of game → IsStart game items (load ∷ digits_of (game.capacity + 1) (game.bins - 2) row) → AreLoadsAt game items sums total load row
+pub loads_at : (game : GameNumbers) (items sums words : List ℕ) (total load row : ℕ) → IsGame game → ArePlanes game items total sums words → row < rows_of game
+    → IsStart game items (load ∷ digits_of (game.capacity + 1) (game.bins - 2) row) → AreLoadsAt game items sums total load row
 loads_at game items sums words total load row g planes l start =
     let digits = digits_of (game.capacity + 1) (game.bins - 2) row in
     let s = last_of_start game items (load ∷ digits) start in
@@ -301,7 +342,8 @@ NoBits-words rows half words none all =
     NoBits-more rows half words none (λ k bit lk lb is. omega (arith, is, ap (λ n. bit_at n bit) (all k lk), bit_at-zero bit))
 
 -- the lowest bit of a word that is not 0
-pub start_at_lowest : (game : GameNumbers) (items words : List ℕ) (half row word : ℕ) → IsGame game → IsPlaneOf game items words → half < halves_of game → row < rows_of game → word ≡ get_or words (word_at (rows_of game) half row) 0 → (word ≡ 0 → ⊥) → word < 2 ^ 64 → IsStartAt game items (64 * half + trailing_zeros w64 word) row
+pub start_at_lowest : (game : GameNumbers) (items words : List ℕ) (half row word : ℕ) → IsGame game → IsPlaneOf game items words → half < halves_of game → row < rows_of game
+    → word ≡ get_or words (word_at (rows_of game) half row) 0 → (word ≡ 0 → ⊥) → word < 2 ^ 64 → IsStartAt game items (64 * half + trailing_zeros w64 word) row
 start_at_lowest game items words half row word g plane lh lr e some fits =
     let t = bit_at-trailing_zeros w64 word (omega (arith, some)) fits in
     start_at game items words half row (trailing_zeros w64 word) g plane lh lr t.0 (sym (ap (λ n. bit_at n (trailing_zeros w64 word)) e) ∙ t.1)

@@ -1,13 +1,12 @@
 -- Rows: the numbers that digits spell.
-use Rattle.std.proofs.Common.{◌≡◌, ◌↔◌, ℕ, zero, suc, ◌+◌, ◌-◌, ◌*◌, ◌/◌, ◌%◌, ◌^◌, ◌<◌, ◌≤◌, List, [], ◌∷◌, length, get_or, set, take, drop, sum, refl, sym, ap, ◌∙◌, subst, arith, lit<}
+use Rattle.std.proofs.Common.{◌≡◌, ℕ, zero, suc, ◌+◌, ◌-◌, ◌*◌, ◌/◌, ◌%◌, ◌^◌, ◌<◌, ◌≤◌, List, [], ◌∷◌}
+use Rattle.std.proofs.Common.{length, get_or, set, take, drop, sum, refl, ap, ◌∙◌, subst, arith, lit<}
 use Rattle.std.specs.Prelude.{All}
-use Rattle.std.proofs.lemmas.Bool.{cases_lt}
 use Rattle.std.proofs.lemmas.Nat.{div-mul-add, mod-mul-add, mul-add-lt, div_below, mod_below, mul-le}
 use Rattle.std.proofs.lemmas.List.Elements.{All-head, All-tail, All-nil, All-cons, All-drop, All-weaker}
 use Rattle.std.proofs.lemmas.List.{drop_more, length-drop}
 use Rattle.std.proofs.lemmas.List.Sums.{sum_by-cons}
 use Rattle.std.proofs.Math.Nat.{pow-zero, pow-suc, pow-succ', div-add-mod, pow-le-pow_left, pow-le-pow_right}
-use Rattle.items.specs.Game.{GameNumbers}
 use Rattle.reach_planes.specs.Layout.{row_of, digit_sum, digits_of}
 
 -- a number spelled by digits up to most
@@ -21,10 +20,14 @@ row_of-lt most (d ∷ ds) a =
     omega (arith, p, e)
 
 pub row_of-head : (most d : ℕ) (ds : List ℕ) → d ≤ most → row_of (most + 1) (d ∷ ds) % (most + 1) ≡ d
-row_of-head most d ds l = ap (λ n. n % (most + 1)) (let e : d + (most + 1) * row_of (most + 1) ds ≡ row_of (most + 1) ds * (most + 1) + d = omega arith in e) ∙ mod-mul-add (row_of (most + 1) ds) (most + 1) d (omega arith)
+row_of-head most d ds l =
+    ap (λ n. n % (most + 1)) (let e : d + (most + 1) * row_of (most + 1) ds ≡ row_of (most + 1) ds * (most + 1) + d = omega arith in e)
+    ∙ mod-mul-add (row_of (most + 1) ds) (most + 1) d (omega arith)
 
 pub row_of-tail : (most d : ℕ) (ds : List ℕ) → d ≤ most → row_of (most + 1) (d ∷ ds) / (most + 1) ≡ row_of (most + 1) ds
-row_of-tail most d ds l = ap (λ n. n / (most + 1)) (let e : d + (most + 1) * row_of (most + 1) ds ≡ row_of (most + 1) ds * (most + 1) + d = omega arith in e) ∙ div-mul-add (row_of (most + 1) ds) (most + 1) d (omega arith)
+row_of-tail most d ds l =
+    ap (λ n. n / (most + 1)) (let e : d + (most + 1) * row_of (most + 1) ds ≡ row_of (most + 1) ds * (most + 1) + d = omega arith in e)
+    ∙ div-mul-add (row_of (most + 1) ds) (most + 1) d (omega arith)
 
 -- the sum of a number's digits
 pub digit_sum-row_of : (most : ℕ) (digits : List ℕ) → All (λ d. d ≤ most) digits → digit_sum (most + 1) (length digits) (row_of (most + 1) digits) ≡ sum digits
@@ -42,7 +45,8 @@ length-digits_of base (suc places) number = ap suc (length-digits_of base places
 pub All-digits_of : (most places number : ℕ) → All (λ d. d ≤ most) (digits_of (most + 1) places number)
 All-digits_of most zero number = All-nil (λ d. d ≤ most)
 All-digits_of most (suc places) number =
-    All-cons (λ d. d ≤ most) (number % (most + 1)) (digits_of (most + 1) places (number / (most + 1))) (let l = mod_below number (most + 1) (omega arith) in omega (arith, l)) (All-digits_of most places (number / (most + 1)))
+    All-cons (λ d. d ≤ most) (number % (most + 1)) (digits_of (most + 1) places (number / (most + 1))) (let l = mod_below number (most + 1) (omega arith) in omega (arith, l))
+    (All-digits_of most places (number / (most + 1)))
 
 pub row_of-digits_of : (most places number : ℕ) → number < (most + 1) ^ places → row_of (most + 1) (digits_of (most + 1) places number) ≡ number
 row_of-digits_of most zero number l = omega (arith, l, pow-zero (most + 1))
@@ -56,7 +60,8 @@ sum-digits_of base (suc places) number =
     omega (arith, sum_by-cons (λ x. x) (number % base) (digits_of base places (number / base)), sum-digits_of base places (number / base))
 
 -- a number split at one of its digits
-pub row_of-split : (base k : ℕ) (digits : List ℕ) → k < length digits → row_of base digits ≡ row_of base (take k digits) + base ^ k * (get_or digits k 0 + base * row_of base (drop (suc k) digits))
+pub row_of-split : (base k : ℕ) (digits : List ℕ) → k < length digits
+    → row_of base digits ≡ row_of base (take k digits) + base ^ k * (get_or digits k 0 + base * row_of base (drop (suc k) digits))
 row_of-split base k [] l = absurd (omega arith)
 row_of-split base zero (d ∷ ds) l = omega (arith, ap (λ n. n * (d + base * row_of base ds)) (pow-zero base))
 row_of-split base (suc k) (d ∷ ds) l =
@@ -66,7 +71,8 @@ row_of-split base (suc k) (d ∷ ds) l =
     omega (arith, r, p, ap (λ n. base * n) r)
 
 -- a number with one digit lowered
-pub row_of-lowered : (base k size : ℕ) (digits : List ℕ) → k < length digits → size ≤ get_or digits k 0 → row_of base (set digits k (get_or digits k 0 - size)) + size * base ^ k ≡ row_of base digits
+pub row_of-lowered : (base k size : ℕ) (digits : List ℕ) → k < length digits → size ≤ get_or digits k 0
+    → row_of base (set digits k (get_or digits k 0 - size)) + size * base ^ k ≡ row_of base digits
 row_of-lowered base k size [] l le = absurd (omega arith)
 row_of-lowered base zero size (d ∷ ds) l le = omega (arith, ap (λ n. size * n) (pow-zero base))
 row_of-lowered base (suc k) size (d ∷ ds) l le =
@@ -109,5 +115,6 @@ row_of-bound base j digits low high few all =
     let is : most + 1 ≡ base = omega (arith, low) in
     let fit : All (λ d. d ≤ most) (drop j digits) = All-drop (λ d. d ≤ most) j digits (All-weaker (λ d. d + 1 ≤ base) (λ d. d ≤ most) (λ d h. omega (arith, h)) digits all) in
     let r = subst (λ n. row_of n (drop j digits) < n ^ length (drop j digits)) is (row_of-lt most (drop j digits) fit) in
-    let b = subst (λ n. n ^ length (drop j digits) ≤ 379749833583241) is (pow-bound most (length (drop j digits)) (omega (arith, high)) (omega (arith, few, length-drop j digits))) in
+    let b = subst (λ n. n ^ length (drop j digits) ≤ 379749833583241) is (pow-bound most (length (drop j digits)) (omega (arith, high))
+    (omega (arith, few, length-drop j digits))) in
     omega (arith, r, b)

@@ -1,5 +1,6 @@
 -- What serves private contracts alone: which bit of a plane stands for which loads, and how an item moves the bits.
-use Rattle.std.specs.Prelude.{◌≡◌, ◌↔◌, ℕ, zero, suc, ◌+◌, ◌-◌, ◌*◌, ◌/◌, ◌%◌, ◌^◌, ◌<◌, ◌≤◌, ◌⊎◌, min, List, [], ◌∷◌, ◌++◌, length, sum, All, slice_index}
+use Rattle.std.specs.Prelude.{◌≡◌, ◌↔◌, ℕ, zero, suc, ◌+◌, ◌-◌, ◌*◌, ◌/◌, ◌%◌, ◌^◌, ◌<◌, ◌≤◌}
+use Rattle.std.specs.Prelude.{◌⊎◌, min, List, [], ◌∷◌, ◌++◌, length, sum, All, slice_index}
 use Rattle.items.specs.Game.{GameNumbers}
 use Rattle.reach_planes.specs.Reached.{HasTotals}
 use Rattle.reach_planes.specs.Words.{IsSet}
@@ -74,7 +75,8 @@ pub record IsPutInFirst (rows capacity size : ℕ) (source before after : List �
 
 -- the rows of the plane moved by the size at one digit are joined to those that were there
 pub record IsPutInBin (stride base size : ℕ) (source before after : List ℕ) : Type 0 where
-  pub exact : (block offset bit : ℕ) → offset < base * stride → block * (base * stride) + offset < length before → bit < 64
+  pub exact : (block offset bit : ℕ) → offset < base * stride → block * (base * stride) + offset < length before
+      → bit < 64
       → IsSet after (block * (base * stride) + offset) bit
       ↔ (IsSet before (block * (base * stride) + offset) bit
       ⊎ ((size * stride ≤ offset) × IsSet source (block * (base * stride) + offset - size * stride) bit))
@@ -95,8 +97,10 @@ pub record IsLeastBit (rows halves : ℕ) (words : List ℕ) (load : ℕ) : Type
   pub in_rows : row < rows
   pub in_halves : load / 64 < halves
   pub is_set : IsSet words (word_at rows (load / 64) row) (load % 64)
-  pub none_below : (half r bit : ℕ) → half < halves → r < rows → bit < 64 → 64 * half + bit < load → IsSet words (word_at rows half r) bit → ⊥
+  pub none_below : (half r bit : ℕ) → half < halves → r < rows → bit < 64 → 64 * half + bit < load
+      → IsSet words (word_at rows half r) bit → ⊥
 
 -- no bit is set in so many halves
 abbrev pub NoBits : ℕ → ℕ → List ℕ → Type 0
-NoBits rows halves words = (half row bit : ℕ) → half < halves → row < rows → bit < 64 → IsSet words (word_at rows half row) bit → ⊥
+NoBits rows halves words =
+    (half row bit : ℕ) → half < halves → row < rows → bit < 64 → IsSet words (word_at rows half row) bit → ⊥

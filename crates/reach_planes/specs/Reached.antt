@@ -1,4 +1,4 @@
-use Rattle.std.specs.Prelude.{◌≡◌, ℕ, ◌≤◌, List, map, All, Contains}
+use Rattle.std.specs.Prelude.{ℕ, ◌≤◌, List, map, All, Contains}
 use Rattle.std.specs.List.{range_with_len}
 use Rattle.items.specs.Game.{GameNumbers}
 use Rattle.items.specs.Multiset.{Same}

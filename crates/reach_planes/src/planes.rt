@@ -1,6 +1,7 @@
 //! The loads that assignments reach, kept as bits.
 
-ghost use Rattle.std.specs.Prelude.{◌≡◌, ◌↔◌, ℕ, ◌+◌, ◌-◌, ◌<◌, ◌≤◌, [], ◌∷◌, ◌++◌, length, replicate, sum, IsTrue, All, MatchOption, IfOk};
+ghost use Rattle.std.specs.Prelude.{◌≡◌, ◌↔◌, ℕ, ◌+◌, ◌-◌, ◌<◌, ◌≤◌, [], ◌∷◌, ◌++◌, length};
+ghost use Rattle.std.specs.Prelude.{replicate, sum, IsTrue, All, MatchOption, IfOk};
 ghost use Rattle.items.specs.Packable.{Packable};
 ghost use Rattle.reach_planes.specs.Layout.{AreDigits, IsStart, digits_of, rows_of};
 ghost use Rattle.reach_planes.specs.Planes.{FitsInPlanes};
@@ -46,7 +47,7 @@ impl Planes {
         (u64::from(game.g()) + 1).pow(u32::from(game.m()) - 1) <= MOST_BITS
     }
 
-    /// The list of no items. Fails only for want of memory.
+    /// The list of no items. Fails only where memory runs out.
     pub fn start(alloc: Global, game: &Game) -> Result<Planes, AllocError>
         requires { FitsInPlanes game.now }
         ensures ok { IfOk result (λ made. made ≡ sent game.now []) }
@@ -64,7 +65,7 @@ impl Planes {
     }
 
     /// The list with one more item, of size `s`, at its end; the items may then fit no longer. Copies the
-    /// plane once, and passes over it once for each bin. Fails only for want of memory.
+    /// plane once, and passes over it once for each bin. Fails only where memory runs out.
     pub fn add(&self, s: u16) -> Result<Planes, AllocError>
         requires low { 1 ≤ s }
         requires high { s ≤ self.now.game.capacity }
@@ -116,7 +117,8 @@ impl Planes {
     /// The least load of a bin under any assignment of the items; None exactly where they have none. Looks
     /// at each word of the plane once. Takes no memory.
     pub fn least_load(&self) -> Option<u16>
-        ensures exact { MatchOption result (¬ Packable self.now.game self.now.items) (IsLeastLoad self.now.game self.now.items) }
+        ensures exact { MatchOption result
+            (¬ Packable self.now.game self.now.items) (IsLeastLoad self.now.game self.now.items) }
     {
         let rows = self.sums.len();
         let last = self.game.g() / 64;
@@ -130,9 +132,10 @@ impl Planes {
     }
 
     /// The loads of some assignment of the items, by bin number; None exactly where they have none. Which
-    /// loads they are is free. Fails only for want of memory.
+    /// loads they are is free. Fails only where memory runs out.
     pub fn some_loads(&self) -> Result<Option<Nums>, AllocError>
-        ensures exact { IfOk result (λ found. MatchOption found (¬ Packable self.now.game self.now.items) (HasTotals self.now.game self.now.items)) }
+        ensures exact { IfOk result (λ found. MatchOption found
+            (¬ Packable self.now.game self.now.items) (HasTotals self.now.game self.now.items)) }
     {
         let rows = self.sums.len();
         let last = self.game.g() / 64;
@@ -160,7 +163,8 @@ impl Planes {
     // The loads by bin number, from that of the first bin and the number that the others spell.
     fn loads_of(&self, load: u16, row: usize) -> Result<Nums, AllocError>
         requires row { row < rows_of self.now.game }
-        requires start { IsStart self.now.game self.now.items (load ∷ digits_of (self.now.game.capacity + 1) (self.now.game.bins - 2) row) }
+        requires start { IsStart self.now.game self.now.items
+            (load ∷ digits_of (self.now.game.capacity + 1) (self.now.game.bins - 2) row) }
         ensures { IfOk result (HasTotals self.now.game self.now.items) }
     {
         let mut loads = Nums::new(self.items.allocator());

@@ -1,10 +1,12 @@
 //! The rows of a plane, and what an item does to them.
 
-ghost use Rattle.std.specs.Prelude.{◌≡◌, ◌↔◌, ℕ, ◌+◌, ◌-◌, ◌*◌, ◌/◌, ◌%◌, ◌^◌, ◌<◌, ◌≤◌, ◌∷◌, ◌++◌, ◌⊎◌, List, [], length, slice_index, sum, IfOk, OnOk, All, MatchOption};
+ghost use Rattle.std.specs.Prelude.{◌≡◌, ◌↔◌, ℕ, ◌+◌, ◌-◌, ◌*◌, ◌/◌, ◌%◌, ◌^◌, ◌<◌, ◌≤◌, ◌∷◌, ◌++◌, ◌⊎◌};
+ghost use Rattle.std.specs.Prelude.{List, [], length, slice_index, sum, IfOk, OnOk, All, MatchOption};
 ghost use Rattle.std.specs.Int.{bit_at};
 ghost use Rattle.items.specs.Multiset.{IsSize};
 ghost use Rattle.reach_planes.specs.Words.{IsSet};
-ghost use Rattle.reach_planes.specs.Layout.{AreDigitSums, IsKept, IsPlaneOf, IsPutInBin, IsPutInFirst, digit_sum, digits_of, halves_of, held_total, row_of, rows_of, word_at};
+ghost use Rattle.reach_planes.specs.Layout.{AreDigitSums, IsKept, IsPlaneOf, IsPutInBin, IsPutInFirst, digit_sum};
+ghost use Rattle.reach_planes.specs.Layout.{digits_of, halves_of, held_total, row_of, rows_of, word_at};
 ghost use Rattle.reach_planes.specs.Planes.{FitsInPlanes};
 
 use crate::words::{Move, join};
@@ -155,8 +157,10 @@ fn keep(words: &mut [u64], sums: &[u16], halves: usize, lack: u16)
 fn keep_half(words: &mut [u64], from: usize, sums: &[u16], lack: u16)
     requires { from + length sums.now ≤ length words.old }
     ensures kept { (row bit : ℕ) → row < length sums.now → bit < 64
-        → IsSet words.new (from + row) bit ↔ (IsSet words.old (from + row) bit × (lack ≤ bit + slice_index sums.now row)) }
-    ensures others { (i : ℕ) → (i < from) ⊎ (from + length sums.now ≤ i) → slice_index words.new i ≡ slice_index words.old i }
+        → IsSet words.new (from + row) bit
+        ↔ (IsSet words.old (from + row) bit × (lack ≤ bit + slice_index sums.now row)) }
+    ensures others { (i : ℕ) → (i < from) ⊎ (from + length sums.now ≤ i)
+        → slice_index words.new i ≡ slice_index words.old i }
 {
     for (row, sum) in sums.iter().enumerate() {
         words[from + row] &= ones_from(lack.saturating_sub(*sum));
@@ -188,7 +192,8 @@ fn put_in_half(words: &mut [u64], source: &[u64], rows: usize, capacity: u16, ha
         ↔ (IsSet words.old (word_at rows half row) bit
         ⊎ ((s ≤ 64 * half + bit) × (64 * half + bit ≤ capacity)
         × IsSet source.now (word_at rows ((64 * half + bit - s) / 64) row) ((64 * half + bit - s) % 64))) }
-    ensures others { (i : ℕ) → (i < half * rows) ⊎ (half * rows + rows ≤ i) → slice_index words.new i ≡ slice_index words.old i }
+    ensures others { (i : ℕ) → (i < half * rows) ⊎ (half * rows + rows ≤ i)
+        → slice_index words.new i ≡ slice_index words.old i }
 {
     put_up(words, source, rows, capacity, half, s);
     put_down(words, source, rows, capacity, half, s);
@@ -205,7 +210,8 @@ fn put_up(words: &mut [u64], source: &[u64], rows: usize, capacity: u16, half: u
         ↔ (IsSet words.old (word_at rows half row) bit
         ⊎ ((s / 64 ≤ half) × (s % 64 ≤ bit) × (64 * half + bit ≤ capacity)
         × IsSet source.now (word_at rows (half - s / 64) row) (bit - s % 64))) }
-    ensures others { (i : ℕ) → (i < half * rows) ⊎ (half * rows + rows ≤ i) → slice_index words.new i ≡ slice_index words.old i }
+    ensures others { (i : ℕ) → (i < half * rows) ⊎ (half * rows + rows ≤ i)
+        → slice_index words.new i ≡ slice_index words.old i }
 {
     let whole = usize::from(s / 64);
     if half < whole {
@@ -231,7 +237,8 @@ fn put_down(words: &mut [u64], source: &[u64], rows: usize, capacity: u16, half:
         ↔ (IsSet words.old (word_at rows half row) bit
         ⊎ ((s / 64 < half) × (bit < s % 64) × (64 * half + bit ≤ capacity)
         × IsSet source.now (word_at rows (half - s / 64 - 1) row) (bit + 64 - s % 64))) }
-    ensures others { (i : ℕ) → (i < half * rows) ⊎ (half * rows + rows ≤ i) → slice_index words.new i ≡ slice_index words.old i }
+    ensures others { (i : ℕ) → (i < half * rows) ⊎ (half * rows + rows ≤ i)
+        → slice_index words.new i ≡ slice_index words.old i }
 {
     let whole = usize::from(s / 64);
     if half <= whole || s % 64 == 0 {

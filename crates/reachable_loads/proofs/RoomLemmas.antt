@@ -2,26 +2,25 @@
 use Rattle.std.proofs.Common.{◌≡◌, ◌↔◌, ℕ, sum, ◌*◌, ◌+◌, ◌-◌, ◌<◌, ◌≤◌, List, [], ◌∷◌, ◌++◌, length, get_or, set, sym, ap, ◌∙◌, subst, arith}
 use Rattle.std.specs.Prelude.{All, Contains}
 use Rattle.std.proofs.lemmas.List.{get_or-set_same, get_or_default, length-set, set-set, set-get_or}
-use Rattle.std.proofs.lemmas.List.Elements.{All-contains, All-from_get_or, Contains-get_or}
+use Rattle.std.proofs.lemmas.List.Elements.{All-contains}
 use Rattle.std.proofs.lemmas.List.Sums.{sum_by-append, sum_by-cons}
 use Rattle.items.specs.Game.{GameNumbers}
 use Rattle.items.specs.Multiset.{IsSize, Same}
 use Rattle.items.specs.Packable.{IsAssignment, Packable, IsRoom, bin_total}
-use Rattle.items.proofs.MultisetLemmas.{count_push}
-use Rattle.items.proofs.SameLemmas.{Same-refl, Same-sym}
+use Rattle.items.proofs.SameLemmas.{Same-push, Same-refl, Same-sym}
 use Rattle.packing_witness.proofs.PackableLemmas.{Packable-Same, sum-Packable-le}
 use Rattle.packing_witness.proofs.PackingLemmas.{size_of_last}
 use Rattle.loads.proofs.CountLemmas.{Contains-Same}
-use Rattle.reach_planes.specs.Reached.{totals, HasTotals, IsReached, IsLeastLoad}
+use Rattle.reach_planes.specs.Reached.{totals, HasTotals, IsLeastLoad}
 use Rattle.reach_planes.proofs.AssignmentLemmas.{length-totals, get_or-totals, IsAssignment-push}
-use Rattle.reach_planes.proofs.TotalsLemmas.{All-HasTotals, length-HasTotals, HasBinToTake, bin_to_take, HasTotals-put}
+use Rattle.reach_planes.proofs.TotalsLemmas.{All-HasTotals, bin_to_take, HasTotals-put}
 use Rattle.reach_planes.proofs.LoadLemmas.{descending_form, Same-descending_form, IsReached-from_totals, HasTotals-reached}
-use Rattle.reachable_loads.proofs.ReachLemmas.{IsRoom-from_law}
 
 -- what the room is where the items do not fit
 pub IsRoom-none : (game : GameNumbers) (items : List ℕ) → (Packable game items → ⊥) → (size : ℕ) → Packable game (items ++ size ∷ []) ↔ (1 ≤ size) × (size ≤ 0)
 IsRoom-none game items none size = (
-  λ p. let b = bin_to_take game items (totals game (items ++ size ∷ []) p.0) size (p.0, p.1, Same-refl (totals game (items ++ size ∷ []) p.0)) in absurd (none (b.before.0, b.before.1)),
+  λ p. let b =
+      bin_to_take game items (totals game (items ++ size ∷ []) p.0) size (p.0, p.1, Same-refl (totals game (items ++ size ∷ []) p.0)) in absurd (none (b.before.0, b.before.1)),
   λ h. absurd (omega (arith, h.0, h.1)),
 )
 
@@ -32,7 +31,8 @@ restored loads k size l =
     set-set loads k (get_or loads k 0 + size) _ ∙ ap (set loads k) e ∙ set-get_or loads k 0
 
 -- an item that the least load leaves room for fits, and no larger one
-pub law_of_least : (game : GameNumbers) (items : List ℕ) (least : ℕ) → IsLeastLoad game items least → (size : ℕ) → Packable game (items ++ size ∷ []) ↔ (1 ≤ size) × (size ≤ game.capacity - least)
+pub law_of_least : (game : GameNumbers) (items : List ℕ) (least : ℕ) → IsLeastLoad game items least → (size : ℕ) → Packable game (items ++ size ∷ []) ↔ (1 ≤ size)
+    × (size ≤ game.capacity - least)
 law_of_least game items least h size = (
   λ p.
       let loads = totals game (items ++ size ∷ []) p.0 in
@@ -40,9 +40,14 @@ law_of_least game items least h size = (
       let b = bin_to_take game items loads size t in
       let low = set loads b.bin (get_or loads b.bin 0 - size) in
       let fit = All-HasTotals game (items ++ size ∷ []) loads t b.bin 0 b.in_range in
-      let here : Contains low (get_or loads b.bin 0 - size) = (b.bin, omega (arith, b.in_range, length-set loads b.bin (get_or loads b.bin 0 - size)), get_or-set_same loads b.bin (get_or loads b.bin 0 - size) (get_or loads b.bin 0 - size) b.in_range) in
+      let here : Contains low (get_or loads b.bin 0 - size) = (
+        b.bin,
+        omega (arith, b.in_range, length-set loads b.bin (get_or loads b.bin 0 - size)),
+        get_or-set_same loads b.bin (get_or loads b.bin 0 - size) (get_or loads b.bin 0 - size) b.in_range,
+      ) in
       let member = Contains-Same (get_or loads b.bin 0 - size) low (descending_form low) (Same-descending_form low) here in
-      let bound = All-contains (λ load. least ≤ load) (descending_form low) (get_or loads b.bin 0 - size) (h.bound (descending_form low) (IsReached-from_totals game items low b.before)) member in
+      let bound = All-contains (λ load. least ≤ load) (descending_form low) (get_or loads b.bin 0 - size) (h.bound (descending_form low)
+      (IsReached-from_totals game items low b.before)) member in
       (b.of_game.low, omega (arith, bound, b.held, fit)),
   λ (some, within).
       let was = HasTotals-reached game items h.loads h.reached in
@@ -51,7 +56,8 @@ law_of_least game items least h size = (
       let e : get_or h.loads k 0 ≡ least = get_or_default h.loads k 0 least l ∙ h.member.2 in
       let raised = set h.loads k (get_or h.loads k 0 + size) in
       let at : get_or raised k 0 ≡ get_or h.loads k 0 + size = get_or-set_same h.loads k (get_or h.loads k 0 + size) 0 l in
-      let after = HasTotals-put game items raised size k (record { low = some; high = omega (arith, within) }) (omega (arith, l, length-set h.loads k (get_or h.loads k 0 + size))) (omega (arith, at, e, within, some)) (omega (arith, at)) (subst (HasTotals game items) (sym (restored h.loads k size l)) was) in
+      let after = HasTotals-put game items raised size k (record { low = some; high = omega (arith, within) }) (omega (arith, l, length-set h.loads k (get_or h.loads k 0 + size)))
+      (omega (arith, at, e, within, some)) (omega (arith, at)) (subst (HasTotals game items) (sym (restored h.loads k size l)) was) in
       (after.0, after.1),
 )
 
@@ -62,13 +68,7 @@ least-le_capacity_of_game game items least h =
 pub Packable-from_least : (game : GameNumbers) (items : List ℕ) (least : ℕ) → IsLeastLoad game items least → Packable game items
 Packable-from_least game items least h = (h.reached.0, h.reached.1.assigned)
 
--- what lists of the same items have in common
-pub Same-push : (xs ys : List ℕ) (size : ℕ) → Same xs ys → Same (xs ++ size ∷ []) (ys ++ size ∷ [])
-Same-push xs ys size s x = omega (arith, s x, count_push x size xs, count_push x size ys)
-
-pub All-Same : (P : ℕ → Type 0) (xs ys : List ℕ) → Same xs ys → All P ys → All P xs
-All-Same P xs ys s a = All-from_get_or P xs 0 (λ k l. All-contains P ys (get_or xs k 0) a (Contains-Same (get_or xs k 0) xs ys s (Contains-get_or xs k 0 l)))
-
+-- lists of the same items have the same room
 pub IsRoom-Same : (game : GameNumbers) (xs ys : List ℕ) (room : ℕ) → Same xs ys → IsRoom game xs room → IsRoom game ys room
 IsRoom-Same game xs ys room s r = record {
   within = r.within;
@@ -77,7 +77,8 @@ IsRoom-Same game xs ys room s r = record {
 }
 
 -- a bound on the room that is the size of an item that may come is the room
-pub IsRoom-bound : (game : GameNumbers) (items : List ℕ) (room : ℕ) → room ≤ game.capacity → ((size : ℕ) → Packable game (items ++ size ∷ []) → size ≤ room) → (1 ≤ room → Packable game (items ++ room ∷ [])) → IsRoom game items room
+pub IsRoom-bound : (game : GameNumbers) (items : List ℕ) (room : ℕ) → room ≤ game.capacity → ((size : ℕ) → Packable game (items ++ size ∷ []) → size ≤ room)
+    → (1 ≤ room → Packable game (items ++ room ∷ [])) → IsRoom game items room
 IsRoom-bound game items room within bound may = record {
   within = within;
   may_come = may;
@@ -85,13 +86,15 @@ IsRoom-bound game items room within bound may = record {
 }
 
 -- what the capacity and the total of the bins leave is a bound on the room
-pub bound_by_volume : (game : GameNumbers) (items : List ℕ) (size : ℕ) → Packable game (items ++ size ∷ []) → (size ≤ game.capacity) × (sum items + size ≤ game.bins * game.capacity)
+pub bound_by_volume : (game : GameNumbers) (items : List ℕ) (size : ℕ) → Packable game (items ++ size ∷ []) → (size ≤ game.capacity)
+    × (sum items + size ≤ game.bins * game.capacity)
 bound_by_volume game items size p =
     let total = sum-Packable-le game (items ++ size ∷ []) p in
     ((size_of_last game items size p).high, omega (arith, total, sum_by-append (λ x. x) items (size ∷ []), sum_by-cons (λ x. x) size []))
 
 -- an item that one bin of an assignment has room for may come
-pub Packable-with_room : (game : GameNumbers) (items bins loads : List ℕ) (size bin : ℕ) → IsAssignment game items bins → loads ≡ totals game items bins → IsSize game.capacity size → bin < length loads → get_or loads bin 0 + size ≤ game.capacity → Packable game (items ++ size ∷ [])
+pub Packable-with_room : (game : GameNumbers) (items bins loads : List ℕ) (size bin : ℕ) → IsAssignment game items bins → loads ≡ totals game items bins → IsSize game.capacity size
+    → bin < length loads → get_or loads bin 0 + size ≤ game.capacity → Packable game (items ++ size ∷ [])
 Packable-with_room game items bins loads size bin a e s l fit =
     let within : bin < game.bins = omega (arith, l, ap length e, length-totals game items bins) in
     let at : get_or loads bin 0 ≡ bin_total bin items bins = ap (λ xs. get_or xs bin 0) e ∙ get_or-totals game items bins bin 0 within in

@@ -9,4 +9,6 @@ prefixes_of game items longest = map (λ n. sent game (take n items)) (range_wit
 
 -- the bin has at least the size, and without it the loads are those of an assignment
 abbrev pub CanTakeOut : ItemsSent → List ℕ → ℕ → ℕ → Type 0
-CanTakeOut before loads bin size = (size ≤ slice_index loads bin) × HasTotals before.game before.items (slice_set loads bin (slice_index loads bin - size))
+CanTakeOut before loads bin size =
+    (size ≤ slice_index loads bin)
+    × HasTotals before.game before.items (slice_set loads bin (slice_index loads bin - size))

@@ -25,7 +25,8 @@ HasRoom capacity size loads = (load : ℕ) × Contains loads load × (load + siz
 
 -- these are the loads after the item went to a load that has room for it
 abbrev pub IsAfter : ℕ → ℕ → List ℕ → List ℕ → Type 0
-IsAfter capacity size after before = (load : ℕ) × Contains before load × (load + size ≤ capacity) × (after ≡ loads_after before load size)
+IsAfter capacity size after before =
+    (load : ℕ) × Contains before load × (load + size ≤ capacity) × (after ≡ loads_after before load size)
 
 -- the least of the loads
 pub record IsLeast (loads : List ℕ) (least : ℕ) : Type 0 where

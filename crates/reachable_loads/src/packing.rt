@@ -1,6 +1,7 @@
 //! A packing of items, and the walk back through the loads that the prefixes of their list reach.
 
-ghost use Rattle.std.specs.Prelude.{◌≡◌, ℕ, ◌+◌, ◌-◌, ◌<◌, ◌≤◌, [], ◌∷◌, ◌++◌, length, slice_index, slice_set, All, IfOk, MatchOption};
+ghost use Rattle.std.specs.Prelude.{◌≡◌, ℕ, ◌+◌, ◌-◌, ◌<◌, ◌≤◌, [], ◌∷◌, ◌++◌, length};
+ghost use Rattle.std.specs.Prelude.{slice_index, slice_set, All, IfOk, MatchOption};
 ghost use Rattle.std.specs.Bool.{OnTrue, OnFalse};
 ghost use Rattle.items.specs.Multiset.{IsSize};
 ghost use Rattle.items.specs.Packable.{IsAssignment, IsPacking, Packable};
@@ -18,9 +19,10 @@ use std::alloc::{AllocError, Global};
 /// A packing of the items; None exactly where they do not fit offline. Which packing it is, is free: that of
 /// best fit where it places them, else in games of up to four bins one found by walking back through the
 /// loads of all prefixes of the items, which are kept, and in the others one found by placing. Fails only
-/// for want of memory.
+/// where memory runs out.
 pub fn pack(alloc: Global, game: &Game, items: &Items) -> Result<Option<Packing>, AllocError>
-    ensures exact { IfOk result (λ found. MatchOption found (¬ Packable game.now items.now) (λ packing. IsPacking game.now packing items.now)) }
+    ensures exact { IfOk result (λ found. MatchOption found
+        (¬ Packable game.now items.now) (λ packing. IsPacking game.now packing items.now)) }
 {
     if items.largest() > game.g() {
         return Ok(None);
@@ -38,7 +40,8 @@ pub fn pack(alloc: Global, game: &Game, items: &Items) -> Result<Option<Packing>
 // A bin for each item; None exactly where the items do not fit.
 fn assign(alloc: Global, game: &Game, items: &[u16]) -> Result<Option<Vec<usize>>, AllocError>
     requires { All (IsSize game.now.capacity) items.now }
-    ensures { IfOk result (λ found. MatchOption found (¬ Packable game.now items.now) (λ bins. IsAssignment game.now items.now bins.items)) }
+    ensures { IfOk result (λ found. MatchOption found
+        (¬ Packable game.now items.now) (λ bins. IsAssignment game.now items.now bins.items)) }
 {
     match best_fit(alloc, game, items)? {
         Some(bins) => Ok(Some(bins)),
@@ -53,7 +56,8 @@ fn assign_exactly(
     items: &[u16],
 ) -> Result<Option<Vec<usize>>, AllocError>
     requires { All (IsSize game.now.capacity) items.now }
-    ensures { IfOk result (λ found. MatchOption found (¬ Packable game.now items.now) (λ bins. IsAssignment game.now items.now bins.items)) }
+    ensures { IfOk result (λ found. MatchOption found
+        (¬ Packable game.now items.now) (λ bins. IsAssignment game.now items.now bins.items)) }
 {
     if game.m() < 5 {
         assign_by_loads(alloc, game, items)
@@ -69,7 +73,8 @@ fn assign_by_loads(
     items: &[u16],
 ) -> Result<Option<Vec<usize>>, AllocError>
     requires { All (IsSize game.now.capacity) items.now }
-    ensures { IfOk result (λ found. MatchOption found (¬ Packable game.now items.now) (λ bins. IsAssignment game.now items.now bins.items)) }
+    ensures { IfOk result (λ found. MatchOption found
+        (¬ Packable game.now items.now) (λ bins. IsAssignment game.now items.now bins.items)) }
 {
     let sets = prefixes(alloc, game, items)?;
     match sets[items.len()].some_loads(alloc)? {
@@ -138,7 +143,8 @@ fn takes_out(before: &Reach, left: &mut [u16], bin: usize, s: u16) -> bool
     requires in_range { bin < length left.old }
     requires one_each { length left.old ≡ before.now.game.bins }
     requires fits { All (λ load. load ≤ before.now.game.capacity) left.old }
-    ensures taken { OnTrue result (CanTakeOut before.now left.old bin s × (left.new ≡ slice_set left.old bin (slice_index left.old bin - s))) }
+    ensures taken { OnTrue result
+        (CanTakeOut before.now left.old bin s × (left.new ≡ slice_set left.old bin (slice_index left.old bin - s))) }
     ensures kept { OnFalse result ((CanTakeOut before.now left.old bin s → ⊥) × (left.new ≡ left.old)) }
 {
     if left[bin] < s {

@@ -38,7 +38,7 @@ impl Model for Reach {
 }
 
 impl Reach {
-    /// The list of no items, whose one member is the load 0 of each bin. Fails only for want of memory.
+    /// The list of no items, whose one member is the load 0 of each bin. Fails only where memory runs out.
     pub fn start(alloc: Global, game: &Game) -> Result<Reach, AllocError>
         ensures ok { IfOk result (λ made. made ≡ sent game.now []) }
     {
@@ -51,7 +51,7 @@ impl Reach {
     }
 
     /// The list with one more item, of size `s`, at its end; the items may then fit no longer. Copies the
-    /// bits once, or takes a time near linear in the number of sorted loads. Fails only for want of memory.
+    /// bits once, or takes a time near linear in the number of sorted loads. Fails only where memory runs out.
     pub fn add(&self, s: u16) -> Result<Reach, AllocError>
         requires low { 1 ≤ s }
         requires high { s ≤ self.now.game.capacity }
@@ -89,7 +89,8 @@ impl Reach {
 
     // The loads of some assignment; None exactly where the items do not fit.
     pub(crate) fn some_loads(&self, alloc: Global) -> Result<Option<Nums>, AllocError>
-        ensures { IfOk result (λ found. MatchOption found (¬ Packable self.now.game self.now.items) (HasTotals self.now.game self.now.items)) }
+        ensures { IfOk result (λ found. MatchOption found
+            (¬ Packable self.now.game self.now.items) (HasTotals self.now.game self.now.items)) }
     {
         match &self.loads {
             Kept::Bits(planes) => planes.some_loads(),
@@ -134,7 +135,8 @@ fn room_by_bits(planes: &Planes) -> u16
 
 // The loads of some assignment of the items of some sets.
 fn loads_by_lists(alloc: Global, sets: &Sets) -> Result<Option<Nums>, AllocError>
-    ensures { IfOk result (λ found. MatchOption found (¬ Packable sets.now.game sets.now.items) (HasTotals sets.now.game sets.now.items)) }
+    ensures { IfOk result (λ found. MatchOption found
+        (¬ Packable sets.now.game sets.now.items) (HasTotals sets.now.game sets.now.items)) }
 {
     match sets.some_loads() {
         Some(loads) => {

@@ -13,7 +13,7 @@ use std::alloc::{AllocError, Global};
 
 /// The greatest size of an item that may come next, so that the items still fit; 0 where none may, and
 /// where the items do not fit. Mostly best fit shows it at once; else the loads that the items reach do,
-/// or in games of five bins and more the placing of the items with one more. Fails only for want of memory.
+/// or in games of five bins and more the placing of the items with one more. Fails only where memory runs out.
 pub fn room_of(alloc: Global, game: &Game, items: &Items) -> Result<u16, AllocError>
     ensures exact { IfOk result (IsRoom game.now items.now) }
 {
@@ -40,7 +40,7 @@ pub fn room_up_to(alloc: Global, game: &Game, items: &Items, most: u16) -> Resul
     room_by_placing(alloc, game, items, most)
 }
 
-/// Whether the items fit: whether they have an assignment. Fails only for want of memory.
+/// Whether the items fit: whether they have an assignment. Fails only where memory runs out.
 pub fn packable(alloc: Global, game: &Game, items: &Items) -> Result<bool, AllocError>
     ensures exact { IfOk result (λ fits. IsTrue fits ↔ Packable game.now items.now) }
 {

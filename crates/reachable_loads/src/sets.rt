@@ -1,6 +1,7 @@
 //! The sorted loads of all assignments of a list of items, each kept once in a set.
 
-ghost use Rattle.std.specs.Prelude.{◌≡◌, ◌↔◌, ℕ, ◌+◌, ◌<◌, ◌≤◌, ◌⊎◌, List, [], ◌∷◌, ◌++◌, length, IsTrue, Contains, All, MatchOption, IfOk, OnOk};
+ghost use Rattle.std.specs.Prelude.{◌≡◌, ◌↔◌, ℕ, ◌+◌, ◌<◌, ◌≤◌, ◌⊎◌, List, [], ◌∷◌, ◌++◌};
+ghost use Rattle.std.specs.Prelude.{length, IsTrue, Contains, All, MatchOption, IfOk, OnOk};
 ghost use Rattle.items.specs.Packable.{Packable, IsRoom};
 ghost use Rattle.reachable_loads.specs.Reached.{FitOffline, HasTotals, IsAfter, IsLeast, IsReached, sent};
 
@@ -85,7 +86,8 @@ impl Sets {
 
     /// Some sorted loads of an assignment; None exactly where the items do not fit.
     pub fn some_loads(&self) -> Option<&Loads>
-        ensures { MatchOption result (¬ Packable self.now.game self.now.items) (λ loads. IsReached self.now.game self.now.items loads.now) }
+        ensures { MatchOption result
+            (¬ Packable self.now.game self.now.items) (λ loads. IsReached self.now.game self.now.items loads.now) }
     {
         self.members.first()
     }
@@ -111,7 +113,8 @@ fn put_after(
 ) -> Result<(), AllocError>
     requires of_game { FitOffline game.now loads.now }
     requires size { s ≤ game.now.capacity }
-    ensures ok { OnOk result ((after : List ℕ) → Contains members.new.keys after ↔ (Contains members.old.keys after ⊎ IsAfter game.now.capacity s after loads.now)) }
+    ensures ok { OnOk result ((after : List ℕ) → Contains members.new.keys after
+        ↔ (Contains members.old.keys after ⊎ IsAfter game.now.capacity s after loads.now)) }
 {
     let capacity = game.g();
     for i in 0..loads.distinct_count() {

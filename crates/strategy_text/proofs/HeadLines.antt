@@ -1,5 +1,5 @@
 -- The lines of a game and of a number of nodes are read as what they spell, and no other lines.
-use Rattle.std.proofs.Common.{◌≡◌, ℕ, ◌≤◌, Bool, true, false, cond, ◌==◌, List, [], ◌∷◌, decimal, codes, Option, Some, None, refl, sym, ap, subst, ◌∙◌, arith}
+use Rattle.std.proofs.Common.{◌≡◌, ℕ, ◌≤◌, true, false, ◌==◌, List, [], ◌∷◌, decimal, codes, Option, Some, None, refl, sym, ap, subst, ◌∙◌, arith}
 use Rattle.std.specs.Prelude.{MatchOption}
 use Rattle.std.proofs.lemmas.Bool.Decides.{nat_tests}
 use Rattle.std.specs.Option.{option_map}
@@ -9,6 +9,7 @@ use Rattle.strategy_text.specs.Spelling.{SpellsGame, SpellsCount}
 use Rattle.strategy_text.specs.Words.{words_left}
 use Rattle.strategy_text.specs.Reading.{whole, game_at, count_at}
 use Rattle.strategy_text.proofs.Lines.{words_again, line_takes, decimal_word}
+use Rattle.strategy_text.proofs.Numerals.{none_or}
 use Rattle.strategy_text.proofs.Steps.{after_then, number_then, after_again, number_at_again, whole_takes}
 
 abbrev game_words : GameNumbers → List (List ℕ)
@@ -50,10 +51,6 @@ pub game_exact : (line : List ℕ) (r : Option (ℕ × ℕ × ℕ)) → option_m
 game_exact line None e = λ game h. (let z = game_again line game h in absurd cc)
 game_exact line (Some x) e = game_takes line (numbers x.0 x.1 x.2) (sym e)
 
-count_test : (b : Bool) (x : Option ℕ) (n : ℕ) → cond b None x ≡ Some n → (b ≡ false) × (x ≡ Some n)
-count_test true x n e = absurd cc
-count_test false x n e = (refl, e)
-
 low_test : (n : ℕ) → (n == 0) ≡ false → 1 ≤ n
 low_test n e = grind (arith, nat_tests)
 
@@ -65,7 +62,7 @@ unfolding count_at count_line
 count_takes line nodes e =
     after_then _ (words_left (Some line)) _ nodes _ e
     (λ r0 e0 k0. number_then 4000000000 r0 _ nodes _ (omega arith) k0
-    (λ n r1 e1 high k1. let t = count_test (n == 0) (whole n r1) nodes k1 in
+    (λ n r1 e1 high k1. let t = none_or (n == 0) (whole n r1) nodes k1 in
     let w = whole_takes n nodes r1 t.1 in
     let all : words_left (Some line) ≡ codes "nodes" ∷ decimal n ∷ [] = e0 ∙ rw (e1, w.0) refl in
     let spells : SpellsCount line n = record { low = low_test n t.0; high = high; spelled = line_takes line _ all } in

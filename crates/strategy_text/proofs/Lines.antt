@@ -7,6 +7,7 @@ use Rattle.strategy_text.specs.Laws.{IsOneLine}
 use Rattle.std.specs.Char.{is_ascii_digit}
 use Rattle.std.specs.Str.{all_ascii_digits}
 use Rattle.std.proofs.lemmas.Fmt.{digits_decimal}
+use Rattle.std.proofs.lemmas.Bool.{and_from}
 use Rattle.std.proofs.lemmas.Bool.Decides.{nat_tests}
 use Rattle.std.proofs.lemmas.List.Splits.{join_with_byte-slice_split}
 use Rattle.strategy_text.proofs.Numerals.{own, and_parts}
@@ -68,20 +69,17 @@ abbrev pub is_line : List ℕ → Bool
 is_line [] = true
 is_line (c ∷ cs) = not (c == 10) && is_line cs
 
-both : (a b : Bool) → a ≡ true → b ≡ true → (a && b) ≡ true
-both a b p q = rw (p, q) refl
-
 word_line : (w : List ℕ) → is_word w ≡ true → is_line w ≡ true
 word_line [] h = refl
 word_line (c ∷ cs) h =
     let p = and_parts (not (c == 32) && not (c == 10)) (is_word cs) h in
-    both (not (c == 10)) (is_line cs) (and_parts (not (c == 32)) _ p.0).1 (word_line cs p.1)
+    and_from (not (c == 10)) (is_line cs) (and_parts (not (c == 32)) _ p.0).1 (word_line cs p.1)
 
 line_append : (a b : List ℕ) → is_line a ≡ true → is_line b ≡ true → is_line (a ++ b) ≡ true
 line_append [] b p q = q
 line_append (c ∷ cs) b p q =
     let h = and_parts (not (c == 10)) (is_line cs) p in
-    both (not (c == 10)) (is_line (cs ++ b)) h.0 (line_append cs b h.1 q)
+    and_from (not (c == 10)) (is_line (cs ++ b)) h.0 (line_append cs b h.1 q)
 
 -- a line of words has no line feed
 pub words_line : (ws : List (List ℕ)) → AreWords ws → is_line (join_with_byte 32 ws) ≡ true

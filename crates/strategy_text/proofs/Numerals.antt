@@ -64,9 +64,10 @@ spelled high n word small some lead e =
     let back = decimal-digits_value own word r.digits some lead (omega (arith, r.value)) in
     (sym back ∙ ap decimal r.value, le)
 
-lead_test : (b : Bool) (x : Option ℕ) (n : ℕ) → cond b None x ≡ Some n → (b ≡ false) × (x ≡ Some n)
-lead_test true x n e = absurd cc
-lead_test false x n e = (refl, e)
+-- a test of which one side fails
+pub none_or : (b : Bool) (x : Option ℕ) (n : ℕ) → cond b None x ≡ Some n → (b ≡ false) × (x ≡ Some n)
+none_or true x n e = absurd cc
+none_or false x n e = (refl, e)
 
 not_equal : (a b : ℕ) → (a == b) ≡ false → a ≡ b → ⊥
 not_equal a b e h = grind (arith, nat_tests)
@@ -80,7 +81,7 @@ unfolding number_of
 number_takes high n [] small e = absurd cc
 number_takes high n (c ∷ []) small e = spelled high n (c ∷ []) small (omega arith) (λ _. refl) e
 number_takes high n (c ∷ d ∷ cs) small e =
-    let t = lead_test (c == 48) _ n e in
+    let t = none_or (c == 48) _ n e in
     spelled high n (c ∷ d ∷ cs) small (omega arith) (λ z. absurd (not_equal c 48 t.0 z)) t.1
 
 read_again : (high n : ℕ) (word : List ℕ) → high < 2 ^ 64 → n ≤ high → word ≡ decimal n → digits_after high 0 word ≡ Some n

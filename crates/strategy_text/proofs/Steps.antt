@@ -3,6 +3,7 @@ use Rattle.std.proofs.Common.{◌≡◌, ◌≢◌, ℕ, suc, ◌<◌, ◌≤◌
 use Rattle.std.specs.Option.{option_map}
 use Rattle.std.specs.Str.{bytes_eq}
 use Rattle.std.proofs.lemmas.Bool.Decides.{nat_tests}
+use Rattle.std.proofs.lemmas.Option.{cond_some}
 use Rattle.std.proofs.lemmas.Slice.Eq.{bytes_eq-Decides}
 use Rattle.strategy_text.specs.Words.{number_of, after, number_at}
 use Rattle.strategy_text.specs.declared.node.Format.{Format}
@@ -18,10 +19,6 @@ bind_some (Some x) f y e = (x, refl, e)
 pub some_is : {A : Type 0} (x y : A) → (let o : Option A = Some x in o) ≡ Some y → x ≡ y
 some_is x y e = cc
 
-pub test_some : {A : Type 0} (b : Bool) (x y : A) → cond b (Some x) None ≡ Some y → (b ≡ true) × (x ≡ y)
-test_some true x y e = (refl, cc)
-test_some false x y e = absurd cc
-
 -- words that differ at a test
 pub apart : (a b : List ℕ) → bytes_eq a b ≡ false → a ≢ b
 apart a b h e =
@@ -32,7 +29,7 @@ pub after_takes : (word : List ℕ) (words rest : List (List ℕ)) → after wor
 unfolding after
 after_takes word [] rest e = absurd cc
 after_takes word (w ∷ ws) rest e =
-    let t = test_some (bytes_eq w word) ws rest e in
+    let t = cond_some (bytes_eq w word) ws rest e in
     let same : w ≡ word = (bytes_eq-Decides w word).0 t.0 in
     cc
 

@@ -26,15 +26,12 @@ pub pack_bins : (bin : List ℕ) (bins : List (List ℕ)) → pack_words (bin �
 pack_bins bin [] = sym (append-nil (list_words bin))
 pack_bins bin (next ∷ bins) = ap (λ (t : List (List ℕ)). list_words bin ++ codes "/" ∷ t) (pack_bins next bins)
 
-not_nil : {X : Type 0} (x : X) (xs : List X) → x ∷ xs ≢ []
-not_nil x xs e = cc
-
 each_all : (bins : List (List ℕ)) → AllByRecursion (AllByRecursion IsNumber) bins → AllByRecursion (All IsNumber) bins
 each_all [] h = tt
 each_all (bin ∷ bins) h = (All-from_recursion IsNumber bin h.0, each_all bins h.1)
 
 is_pack : (bin : List ℕ) (bins : List (List ℕ)) → AllByRecursion (AllByRecursion IsNumber) (bin ∷ bins) → IsPack (bin ∷ bins)
-is_pack bin bins h = record { some = not_nil bin bins; each = All-from_recursion (All IsNumber) (bin ∷ bins) (each_all (bin ∷ bins) h) }
+is_pack bin bins h = record { some = λ e. cc; each = All-from_recursion (All IsNumber) (bin ∷ bins) (each_all (bin ∷ bins) h) }
 
 bins_takes : (first : List ℕ) (words : List (List ℕ)) (x : List (List ℕ) × List (List ℕ)) → AllByRecursion IsNumber first → bins_at first words ≡ Some x
     → Begins (list_words first ++ words) (pack_words x.0) x.1 (IsPack x.0)

@@ -4,12 +4,13 @@ use Rattle.std.proofs.Common.{append_assoc, length-append, All}
 use Rattle.std.specs.List.{flat_map, AllByRecursion}
 use Rattle.std.proofs.lemmas.Bool.{eqb-true}
 use Rattle.std.proofs.lemmas.List.Elements.{All-from_recursion}
+use Rattle.std.proofs.lemmas.Option.{cond_some}
 use Rattle.strategy_text.specs.Text.{list_words, position_words}
 use Rattle.strategy_text.specs.Spelling.{IsNumber}
 use Rattle.strategy_text.specs.Words.{number_of}
 use Rattle.strategy_text.specs.Reading.{◌>>=◌, numbers_from, numbers_at, list_at, prepended, many_from, many_at, numbered_at, labelled_at, position_at}
 use Rattle.strategy_text.proofs.Numerals.{number_takes}
-use Rattle.strategy_text.proofs.Steps.{bind_some, some_is, test_some, after_then, some_takes, number_then, choose_then}
+use Rattle.strategy_text.proofs.Steps.{bind_some, some_is, after_then, some_takes, number_then, choose_then}
 use Rattle.strategy_text.proofs.Loops.{Item, Beginning}
 
 -- words that begin with the words of a value, which is in its ranges
@@ -109,7 +110,7 @@ numbered_takes : (number : ℕ) (words rest : List (List ℕ)) → numbered_at n
 unfolding numbered_at
 numbered_takes number words rest e =
     number_then 4294967295 words _ rest _ (omega arith) e
-    (λ n r1 e1 le k1. let t = test_some (n == number) r1 rest k1 in
+    (λ n r1 e1 le k1. let t = cond_some (n == number) r1 rest k1 in
     let same : n ≡ number = eqb-true n number t.0 in
     e1 ∙ rw (same, t.1) refl)
 

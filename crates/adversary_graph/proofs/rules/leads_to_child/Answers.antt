@@ -1,6 +1,6 @@
 use Rattle.std.proofs.Common.{◌+◌, ◌<◌, arith, sum, ap}
 use Rattle.loads.proofs.LoadsLemmas.{sum-loads_after}
-use Rattle.adversary_graph.proofs.RuleLemmas.{loads_total}
+use Rattle.loads.proofs.LoadsLemmas.{loads_total}
 use Rattle.adversary_graph.proofs.rules.leads_to_child.Goals as goal
 
 pub returns-in_default-all : goal.returns-in_default-all

@@ -1,4 +1,4 @@
-use Rattle.adversary_graph.proofs.RuleLemmas.{sizes_are_sizes}
+use Rattle.items.proofs.SizesLemmas.{sizes_are_sizes}
 use Rattle.adversary_graph.proofs.rules.node_fault.Goals as goal
 
 pub judge-requires-clause-sizes : goal.judge-requires-clause-sizes

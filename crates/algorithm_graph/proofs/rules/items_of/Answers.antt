@@ -1,4 +1,4 @@
-use Rattle.algorithm_graph.proofs.RuleLemmas.{multiset_from_items}
+use Rattle.loads.proofs.LoadsLemmas.{multiset_from_items}
 use Rattle.algorithm_graph.proofs.rules.items_of.Goals as goal
 
 pub returns-in_default : goal.returns-in_default

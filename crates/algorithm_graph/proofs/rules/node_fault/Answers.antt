@@ -1,4 +1,4 @@
-use Rattle.algorithm_graph.proofs.RuleLemmas.{sizes_are_sizes}
+use Rattle.items.proofs.SizesLemmas.{sizes_are_sizes}
 use Rattle.algorithm_graph.proofs.rules.node_fault.Goals as goal
 
 pub judge-requires : goal.judge-requires

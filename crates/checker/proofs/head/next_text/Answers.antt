@@ -11,4 +11,5 @@ returns-else-is_text-clause-refused g c =
     let new_left = g.S.Source.left c.next_line.new.source in
     let h = c.in-Ok.ensures in
     subst (λ (fault : CheckFault). RefusesNext c.args.line AnyLine NoRule fault old left new_left) (sym c.syntax.ensures)
-    (refuses_ending c.args.line c.in-Ok.found _ old c.next_line.new.self left new_left (λ e. not_true (c.if-is_text.ensures.1 e)) h.reads (none_met old.ending c.requires h.shown) (none_met old.ending c.requires h.answer))
+    (refuses_ending c.args.line c.in-Ok.found _ old c.next_line.new.self left new_left
+    (λ e. not_true (c.if-is_text.ensures.1 e)) h.reads (none_met old.ending c.requires h.shown) (none_met old.ending c.requires h.answer))

@@ -1,9 +1,9 @@
-use Rattle.std.proofs.Common.{◌≡◌, ◌∙◌, sym, refl, subst}
+use Rattle.std.proofs.Common.{◌≡◌, ◌∙◌, sym, subst}
 use Rattle.strategy_text.specs.declared.rule.Rule.TheVariants as rules
-use Rattle.checker.specs.FirstFault.{IsFirstLine, IsGameLine, IsSideLine, IsCountLine}
-use Rattle.checker.specs.Progress.{AnyLine, NoRule, BreaksGame, BreaksSide, RefusesNext}
+use Rattle.checker.specs.FirstFault.{IsCountLine}
+use Rattle.checker.specs.Progress.{NoRule, RefusesNext}
 use Rattle.checker.specs.declared.fault.CheckFault.{CheckFault}
-use Rattle.checker.proofs.ProgressLemmas.{passed_on, refuses_next, refuses_form, refuses_rule, not_true}
+use Rattle.checker.proofs.ProgressLemmas.{passed_on, refuses_next, refuses_form}
 use Rattle.checker.proofs.head.read_count.Goals as goal
 
 pub returns-in_err-next_text-clause-refused : goal.returns-in_err-next_text-clause-refused
@@ -20,4 +20,5 @@ returns-in_default-clause-refused g c =
     let left = g.S.Source.left c.args.source.now in
     let new_left = g.S.Source.left c.next_text.new.source in
     subst (λ (fault : CheckFault). RefusesNext 4 IsCountLine NoRule fault old left new_left) (sym c.syntax.ensures)
-    (refuses_form 4 IsCountLine NoRule c.next_text.new.lines.text old c.next_text.new.lines left new_left c.in_ok-next_text.ensures.ok (λ form. c.in_default.ensures.exact form.0 (rw c.text.ensures form.1)))
+    (refuses_form 4 IsCountLine NoRule c.next_text.new.lines.text old c.next_text.new.lines left new_left c.in_ok-next_text.ensures.ok
+    (λ form. c.in_default.ensures.exact form.0 (rw c.text.ensures form.1)))

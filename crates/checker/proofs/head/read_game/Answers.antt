@@ -1,11 +1,11 @@
 use Rattle.std.proofs.Common.{◌≡◌, ◌∙◌, sym, refl, subst}
 use Rattle.strategy_text.specs.declared.rule.Rule.TheVariants as rules
-use Rattle.checker.specs.FirstFault.{IsFirstLine, IsGameLine, IsSideLine, IsCountLine}
-use Rattle.checker.specs.Progress.{AnyLine, NoRule, BreaksGame, BreaksSide, RefusesNext}
+use Rattle.checker.specs.FirstFault.{IsGameLine}
+use Rattle.checker.specs.Progress.{BreaksGame, RefusesNext}
 use Rattle.checker.specs.declared.fault.CheckFault.{CheckFault}
 use Rattle.items.specs.Game.{numbers}
 use Rattle.checker.proofs.HeadLemmas.{no_game}
-use Rattle.checker.proofs.ProgressLemmas.{passed_on, refuses_next, refuses_form, refuses_rule, not_true}
+use Rattle.checker.proofs.ProgressLemmas.{passed_on, refuses_next, refuses_form, refuses_rule}
 use Rattle.checker.proofs.head.read_game.Goals as goal
 
 pub returns-in_err-next_text-clause-refused : goal.returns-in_err-next_text-clause-refused
@@ -22,7 +22,8 @@ returns-in_default-clause-refused g c =
     let left = g.S.Source.left c.args.source.now in
     let new_left = g.S.Source.left c.next_text.new.source in
     subst (λ (fault : CheckFault). RefusesNext 2 IsGameLine BreaksGame fault old left new_left) (sym c.syntax.ensures)
-    (refuses_form 2 IsGameLine BreaksGame c.next_text.new.lines.text old c.next_text.new.lines left new_left c.in_ok-next_text.ensures.ok (λ form. c.in_default.ensures.exact form.0 (rw c.text.ensures form.1)))
+    (refuses_form 2 IsGameLine BreaksGame c.next_text.new.lines.text old c.next_text.new.lines left new_left c.in_ok-next_text.ensures.ok
+    (λ form. c.in_default.ensures.exact form.0 (rw c.text.ensures form.1)))
 
 pub returns-in-Err-clause-refused : goal.returns-in-Err-clause-refused
 returns-in-Err-clause-refused g c =

@@ -22,9 +22,11 @@ returns-in_err-game-clause-refused g c =
     let left = g.S.Source.left c.args.source.now in
     let new_left = g.S.Source.left c.read_game.new.source in
     let first = c.in_ok-format.ensures.ok in
-    passed_on (λ (fault : CheckFault). IsFaultOf c.args.wanted old.held fault left new_left) c.in_err-game.field-0.0 c.from_residual-in_err-game.result c.from_residual-in_err-game.ensures.1
+    passed_on (λ (fault : CheckFault). IsFaultOf c.args.wanted old.held fault left new_left) c.in_err-game.field-0.0 c.from_residual-in_err-game.result
+    c.from_residual-in_err-game.ensures.1
     (exit_game c.args.wanted c.in_ok-format.format c.in_err-game.field-0.0 old left new_left
-    (RefusesAfter-then (first_line c.in_ok-format.format ∷ []) [] (IsWrongNext 2 IsGameLine BreaksGame) c.in_err-game.field-0.0 old c.read_first.new.lines left (g.S.Source.left c.read_first.new.source) new_left first c.in_err-game.ensures.refused))
+    (RefusesAfter-then (first_line c.in_ok-format.format ∷ []) [] (IsWrongNext 2 IsGameLine BreaksGame) c.in_err-game.field-0.0 old c.read_first.new.lines left
+    (g.S.Source.left c.read_first.new.source) new_left first c.in_err-game.ensures.refused))
 
 pub returns-in_err-side-clause-refused : goal.returns-in_err-side-clause-refused
 returns-in_err-side-clause-refused g c =
@@ -33,10 +35,14 @@ returns-in_err-side-clause-refused g c =
     let new_left = g.S.Source.left c.read_side.new.source in
     let first = c.in_ok-format.ensures.ok in
     let game = c.in_ok-game.ensures.ok in
-    let reads = ReadsLines-then (first_line c.in_ok-format.format ∷ []) (game_line c.in_ok-game.game ∷ []) old c.read_first.new.lines c.read_game.new.lines left (g.S.Source.left c.read_first.new.source) (g.S.Source.left c.read_game.new.source) first game in
-    passed_on (λ (fault : CheckFault). IsFaultOf c.args.wanted old.held fault left new_left) c.in_err-side.field-0.0 c.from_residual-in_err-side.result c.from_residual-in_err-side.ensures.1
+    let reads = ReadsLines-then (first_line c.in_ok-format.format ∷ []) (game_line c.in_ok-game.game ∷ []) old c.read_first.new.lines c.read_game.new.lines left
+    (g.S.Source.left c.read_first.new.source) (g.S.Source.left c.read_game.new.source) first game in
+    passed_on (λ (fault : CheckFault). IsFaultOf c.args.wanted old.held fault left new_left) c.in_err-side.field-0.0 c.from_residual-in_err-side.result
+    c.from_residual-in_err-side.ensures.1
     (exit_side c.args.wanted c.in_ok-format.format c.in_ok-game.game c.in_err-side.field-0.0 old left new_left c.in_ok-game.ensures.legal
-    (RefusesAfter-then (first_line c.in_ok-format.format ∷ game_line c.in_ok-game.game ∷ []) [] (IsWrongNext 3 IsSideLine (BreaksSide c.args.wanted)) c.in_err-side.field-0.0 old c.read_game.new.lines left (g.S.Source.left c.read_game.new.source) new_left reads c.in_err-side.ensures.refused))
+    (RefusesAfter-then (first_line c.in_ok-format.format ∷ game_line c.in_ok-game.game ∷ []) []
+    (IsWrongNext 3 IsSideLine (BreaksSide c.args.wanted)) c.in_err-side.field-0.0 old c.read_game.new.lines left
+    (g.S.Source.left c.read_game.new.source) new_left reads c.in_err-side.ensures.refused))
 
 pub returns-in_err-count-clause-refused : goal.returns-in_err-count-clause-refused
 returns-in_err-count-clause-refused g c =
@@ -46,11 +52,17 @@ returns-in_err-count-clause-refused g c =
     let first = c.in_ok-format.ensures.ok in
     let game = c.in_ok-game.ensures.ok in
     let side = c.in_ok-side.ensures.ok in
-    let reads = ReadsLines-then (first_line c.in_ok-format.format ∷ game_line c.in_ok-game.game ∷ []) (side_line c.in_ok-side.side ∷ []) old c.read_game.new.lines c.read_side.new.lines left (g.S.Source.left c.read_game.new.source) (g.S.Source.left c.read_side.new.source)
-    (ReadsLines-then (first_line c.in_ok-format.format ∷ []) (game_line c.in_ok-game.game ∷ []) old c.read_first.new.lines c.read_game.new.lines left (g.S.Source.left c.read_first.new.source) (g.S.Source.left c.read_game.new.source) first game) side in
-    passed_on (λ (fault : CheckFault). IsFaultOf c.args.wanted old.held fault left new_left) c.in_err-count.field-0.0 c.from_residual-in_err-count.result c.from_residual-in_err-count.ensures.1
-    (exit_count c.args.wanted c.in_ok-format.format c.in_ok-game.game c.in_ok-side.side c.in_err-count.field-0.0 old left new_left c.in_ok-game.ensures.legal c.in_ok-side.ensures.wanted
-    (RefusesAfter-then (first_line c.in_ok-format.format ∷ game_line c.in_ok-game.game ∷ side_line c.in_ok-side.side ∷ []) [] (IsWrongNext 4 IsCountLine NoRule) c.in_err-count.field-0.0 old c.read_side.new.lines left (g.S.Source.left c.read_side.new.source) new_left reads c.in_err-count.ensures.refused))
+    let reads = ReadsLines-then (first_line c.in_ok-format.format ∷ game_line c.in_ok-game.game ∷ [])
+    (side_line c.in_ok-side.side ∷ []) old c.read_game.new.lines c.read_side.new.lines left (g.S.Source.left c.read_game.new.source) (g.S.Source.left c.read_side.new.source)
+    (ReadsLines-then (first_line c.in_ok-format.format ∷ []) (game_line c.in_ok-game.game ∷ []) old c.read_first.new.lines c.read_game.new.lines left
+    (g.S.Source.left c.read_first.new.source) (g.S.Source.left c.read_game.new.source) first game) side in
+    passed_on (λ (fault : CheckFault). IsFaultOf c.args.wanted old.held fault left new_left) c.in_err-count.field-0.0 c.from_residual-in_err-count.result
+    c.from_residual-in_err-count.ensures.1
+    (exit_count c.args.wanted c.in_ok-format.format c.in_ok-game.game c.in_ok-side.side c.in_err-count.field-0.0 old left new_left c.in_ok-game.ensures.legal
+    c.in_ok-side.ensures.wanted
+    (RefusesAfter-then (first_line c.in_ok-format.format ∷ game_line c.in_ok-game.game ∷ side_line c.in_ok-side.side ∷ []) []
+    (IsWrongNext 4 IsCountLine NoRule) c.in_err-count.field-0.0 old c.read_side.new.lines left
+    (g.S.Source.left c.read_side.new.source) new_left reads c.in_err-count.ensures.refused))
 
 pub returns-clause-ok : goal.returns-clause-ok
 returns-clause-ok g c =
@@ -60,6 +72,9 @@ returns-clause-ok g c =
     let game = c.in_ok-game.ensures.ok in
     let side = c.in_ok-side.ensures.ok in
     let count = c.in_ok-count.ensures.ok in
-    ReadsLines-then (first_line c.in_ok-format.format ∷ game_line c.in_ok-game.game ∷ side_line c.in_ok-side.side ∷ []) (count_line c.in_ok-count.count ∷ []) old c.read_side.new.lines c.read_count.new.lines left (g.S.Source.left c.read_side.new.source) (g.S.Source.left c.read_count.new.source)
-    (ReadsLines-then (first_line c.in_ok-format.format ∷ game_line c.in_ok-game.game ∷ []) (side_line c.in_ok-side.side ∷ []) old c.read_game.new.lines c.read_side.new.lines left (g.S.Source.left c.read_game.new.source) (g.S.Source.left c.read_side.new.source)
-    (ReadsLines-then (first_line c.in_ok-format.format ∷ []) (game_line c.in_ok-game.game ∷ []) old c.read_first.new.lines c.read_game.new.lines left (g.S.Source.left c.read_first.new.source) (g.S.Source.left c.read_game.new.source) first game) side) count
+    ReadsLines-then (first_line c.in_ok-format.format ∷ game_line c.in_ok-game.game ∷ side_line c.in_ok-side.side ∷ [])
+    (count_line c.in_ok-count.count ∷ []) old c.read_side.new.lines c.read_count.new.lines left (g.S.Source.left c.read_side.new.source) (g.S.Source.left c.read_count.new.source)
+    (ReadsLines-then (first_line c.in_ok-format.format ∷ game_line c.in_ok-game.game ∷ []) (side_line c.in_ok-side.side ∷ []) old c.read_game.new.lines c.read_side.new.lines left
+    (g.S.Source.left c.read_game.new.source) (g.S.Source.left c.read_side.new.source)
+    (ReadsLines-then (first_line c.in_ok-format.format ∷ []) (game_line c.in_ok-game.game ∷ []) old c.read_first.new.lines c.read_game.new.lines left
+    (g.S.Source.left c.read_first.new.source) (g.S.Source.left c.read_game.new.source) first game) side) count

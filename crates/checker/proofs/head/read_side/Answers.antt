@@ -1,9 +1,9 @@
 use Rattle.std.proofs.Common.{◌≡◌, ◌∙◌, sym, refl, subst}
 use Rattle.strategy_text.specs.declared.rule.Rule.TheVariants as rules
-use Rattle.checker.specs.FirstFault.{IsFirstLine, IsGameLine, IsSideLine, IsCountLine}
-use Rattle.checker.specs.Progress.{AnyLine, NoRule, BreaksGame, BreaksSide, RefusesNext}
+use Rattle.checker.specs.FirstFault.{IsSideLine}
+use Rattle.checker.specs.Progress.{BreaksSide, RefusesNext}
 use Rattle.checker.specs.declared.fault.CheckFault.{CheckFault}
-use Rattle.checker.proofs.ProgressLemmas.{passed_on, refuses_next, refuses_form, refuses_rule, not_true, both_ways}
+use Rattle.checker.proofs.ProgressLemmas.{passed_on, refuses_next, refuses_form, refuses_rule, both_ways}
 use Rattle.checker.proofs.head.read_side.Goals as goal
 
 pub returns-in_err-next_text-clause-refused : goal.returns-in_err-next_text-clause-refused
@@ -11,7 +11,8 @@ returns-in_err-next_text-clause-refused g c =
     let old = c.args.lines.now in
     let left = g.S.Source.left c.args.source.now in
     let new_left = g.S.Source.left c.next_text.new.source in
-    passed_on (λ (fault : CheckFault). RefusesNext 3 IsSideLine (BreaksSide c.args.wanted) fault old left new_left) c.in_err-next_text.field-0.0 c.from_residual.result c.from_residual.ensures.1
+    passed_on (λ (fault : CheckFault). RefusesNext 3 IsSideLine (BreaksSide c.args.wanted) fault old left new_left) c.in_err-next_text.field-0.0 c.from_residual.result
+    c.from_residual.ensures.1
     (refuses_next 3 IsSideLine (BreaksSide c.args.wanted) c.in_err-next_text.field-0.0 old left new_left c.in_err-next_text.ensures.refused)
 
 pub returns-in_default-clause-refused : goal.returns-in_default-clause-refused
@@ -20,7 +21,8 @@ returns-in_default-clause-refused g c =
     let left = g.S.Source.left c.args.source.now in
     let new_left = g.S.Source.left c.next_text.new.source in
     subst (λ (fault : CheckFault). RefusesNext 3 IsSideLine (BreaksSide c.args.wanted) fault old left new_left) (sym c.syntax.ensures)
-    (refuses_form 3 IsSideLine (BreaksSide c.args.wanted) c.next_text.new.lines.text old c.next_text.new.lines left new_left c.in_ok-next_text.ensures.ok (λ form. c.in_default.ensures.exact form.0 (rw c.text.ensures form.1)))
+    (refuses_form 3 IsSideLine (BreaksSide c.args.wanted) c.next_text.new.lines.text old c.next_text.new.lines left new_left c.in_ok-next_text.ensures.ok
+    (λ form. c.in_default.ensures.exact form.0 (rw c.text.ensures form.1)))
 
 pub returns-then-not-is_wanted-clause-refused : goal.returns-then-not-is_wanted-clause-refused
 returns-then-not-is_wanted-clause-refused g c =

@@ -16,5 +16,7 @@ pub returns-in-Adversary : goal.returns-in-Adversary
 returns-in-Adversary c =
     let head = told_by c.args.head.now in
     record {
-      exact = subst (λ (n : Node). MatchResult c.judge-judged.result (λ position. (position ≡ position_of (any_node n)) × MeetsRules head c.args.earlier.now c.args.last (any_node n)) (Breaks head c.args.earlier.now c.args.last (any_node n))) (sym c.in-Adversary.is) (rw c.of_game-sizes.ensures.value at c.judge-judged.ensures.exact);
+      exact = subst (λ (n : Node). MatchResult c.judge-judged.result
+          (λ position. (position ≡ position_of (any_node n)) × MeetsRules head c.args.earlier.now c.args.last (any_node n))
+          (Breaks head c.args.earlier.now c.args.last (any_node n))) (sym c.in-Adversary.is) (rw c.of_game-sizes.ensures.value at c.judge-judged.ensures.exact);
     }

@@ -12,7 +12,9 @@ use Rattle.checker.proofs.reading.check.Goals as goal
 pub returns-clause-accepted : goal.returns-clause-accepted
 returns-clause-accepted g c =
     let text = c.in_ok-head.ensures.ok in
-    Accepts-from Either (told_by c.in_ok-head.head) text.0 _ c.in_ok-lines.lines c.judge_text.new.lines (g.S.Source.left c.args.source.now) (g.S.Source.left c.judge_text.new.source) (g.S.Source.left c.read_past.new.source) (ap (λ reader. reader.held) c.in_ok-lines.ensures) text.1 c.in_ok-read_past.ensures.ok refl refl refl
+    Accepts-from Either (told_by c.in_ok-head.head) text.0 _ c.in_ok-lines.lines c.judge_text.new.lines (g.S.Source.left c.args.source.now)
+    (g.S.Source.left c.judge_text.new.source) (g.S.Source.left c.read_past.new.source)
+    (ap (λ reader. reader.held) c.in_ok-lines.ensures) text.1 c.in_ok-read_past.ensures.ok refl refl refl
 
 pub returns-in_err-head-clause-fault : goal.returns-in_err-head-clause-fault
 returns-in_err-head-clause-fault g c =
@@ -29,7 +31,9 @@ returns-in_err-read_past-clause-fault g c =
     let fault = c.in_err-read_past.field-0.0 in
     let text = c.in_ok-head.ensures.ok in
     passed_on (λ (f : CheckFault). IsFaultOf Either [] f left new_left) fault c.from_residual-in_err-read_past.result c.from_residual-in_err-read_past.ensures.1
-    (past_fault_of Either (told_by c.in_ok-head.head) text.0 (6 + c.from.result) fault c.in_ok-lines.lines c.judge_text.new.lines left (g.S.Source.left c.judge_text.new.source) new_left (ap (λ reader. reader.held) c.in_ok-lines.ensures) (ap (λ (i : ℕ). 6 + i) (sym c.from.ensures)) text.1 c.in_err-read_past.ensures.refused)
+    (past_fault_of Either (told_by c.in_ok-head.head) text.0 (6 + c.from.result) fault c.in_ok-lines.lines c.judge_text.new.lines left
+    (g.S.Source.left c.judge_text.new.source) new_left (ap (λ reader. reader.held) c.in_ok-lines.ensures)
+    (ap (λ (i : ℕ). 6 + i) (sym c.from.ensures)) text.1 c.in_err-read_past.ensures.refused)
 
 pub returns-in_err-lines-clause-fault : goal.returns-in_err-lines-clause-fault
 returns-in_err-lines-clause-fault g c =

@@ -1,4 +1,4 @@
-use Rattle.std.proofs.Common.{◌≡◌, ◌++◌, ◌∷◌, [], ◌<◌, length, map, refl, arith, ap, ◌∙◌}
+use Rattle.std.proofs.Common.{◌≡◌, ◌++◌, ◌∷◌, [], ◌<◌, length, refl, arith, ap, ◌∙◌}
 use Rattle.std.proofs.lemmas.List.{length_push, length-map}
 use Rattle.checker.specs.Head.{position_of}
 use Rattle.checker.specs.Progress.{RefusesNode, told_by, any_node}
@@ -37,4 +37,5 @@ returns-in_err-read_node-clause-refused g c =
     let i = c.loop-k.invariant.0 in
     let few : length i.0 < head.count = omega (arith, i.1, c.loop-k-test.true) in
     passed_on (λ (fault : CheckFault). RefusesNode head fault old left new_left) c.in_err-read_node.field-0.0 c.from_residual.result c.from_residual.ensures.1
-    (RefusesNode-from head i.0 c.loop-k.positions c.in_err-read_node.field-0.0 old c.loop-k.lines left (g.S.Source.left c.loop-k.source) new_left refl i.2 few i.3 i.4 c.in_err-read_node.ensures.refused)
+    (RefusesNode-from head i.0 c.loop-k.positions c.in_err-read_node.field-0.0 old c.loop-k.lines left
+    (g.S.Source.left c.loop-k.source) new_left refl i.2 few i.3 i.4 c.in_err-read_node.ensures.refused)

@@ -1,7 +1,6 @@
-use Rattle.std.proofs.Common.{◌≡◌, ◌∷◌, [], ◌++◌, ◌+◌, ℕ, refl, sym, ap, ◌∙◌, subst}
+use Rattle.std.proofs.Common.{◌≡◌, ◌∷◌, [], ◌++◌, ◌+◌, ℕ, ◌∙◌, subst}
 use Rattle.strategy_text.specs.Text.{node_lines, nodes_of, end_line}
 use Rattle.checker.specs.Accepted.{IsFaultOf}
-use Rattle.checker.specs.Head.{position_of, IsNodeLine, IsBrokenNodeLine}
 use Rattle.checker.specs.Progress.{IsWrongNext, NoRule, RefusesAfter, lines_of_head, told_by}
 use Rattle.checker.specs.declared.fault.CheckFault.{CheckFault}
 use Rattle.checker.proofs.FaultLemmas.{exit_node, exit_end}
@@ -18,7 +17,8 @@ returns-in_err-keep_nodes-clause-refused g c =
     let r = c.in_err-keep_nodes.ensures.refused in
     passed_on (λ (f : CheckFault). IsFaultOf c.args.wanted old.held f left new_left) fault c.from_residual-in_err-keep_nodes.result c.from_residual-in_err-keep_nodes.ensures.1
     (exit_node c.args.wanted head r.nodes fault old left new_left c.in_ok-head.ensures.legal r.judged r.few
-    (RefusesAfter-then (lines_of_head head) (node_lines 0 r.nodes) _ fault old c.read_head.new.lines left (g.S.Source.left c.read_head.new.source) new_left c.in_ok-head.ensures.ok r.refused))
+    (RefusesAfter-then (lines_of_head head) (node_lines 0 r.nodes) _ fault old c.read_head.new.lines left
+    (g.S.Source.left c.read_head.new.source) new_left c.in_ok-head.ensures.ok r.refused))
 
 pub returns-in_err-read_end-clause-refused : goal.returns-in_err-read_end-clause-refused
 returns-in_err-read_end-clause-refused g c =
@@ -30,11 +30,14 @@ returns-in_err-read_end-clause-refused g c =
     let r = c.in_ok-keep_nodes.ensures.ok in
     let nodes = nodes_of c.keep_nodes.new.nodes in
     let given = lines_of_head head ++ node_lines 0 nodes in
-    let reads = ReadsLines-then (lines_of_head head) (node_lines 0 nodes) old c.read_head.new.lines c.keep_nodes.new.lines left (g.S.Source.left c.read_head.new.source) (g.S.Source.left c.keep_nodes.new.source) c.in_ok-head.ensures.ok r.reads in
+    let reads = ReadsLines-then (lines_of_head head) (node_lines 0 nodes) old c.read_head.new.lines c.keep_nodes.new.lines left (g.S.Source.left c.read_head.new.source)
+    (g.S.Source.left c.keep_nodes.new.source) c.in_ok-head.ensures.ok r.reads in
     passed_on (λ (f : CheckFault). IsFaultOf c.args.wanted old.held f left new_left) fault c.from_residual-in_err-read_end.result c.from_residual-in_err-read_end.ensures.1
     (exit_end c.args.wanted head nodes fault old left new_left c.in_ok-head.ensures.legal r.judged r.number
-    (RefusesNext-after given (IsWrongNext (head.start + head.count) (λ line. line ≡ end_line) NoRule) fault old c.keep_nodes.new.lines left (g.S.Source.left c.keep_nodes.new.source) new_left reads
-    (subst (λ (i : ℕ). RefusesAfter [] (IsWrongNext (5 + i) (λ line. line ≡ end_line) NoRule) fault c.keep_nodes.new.lines (g.S.Source.left c.keep_nodes.new.source) new_left) c.from.ensures c.in_err-read_end.ensures.refused)))
+    (RefusesNext-after given (IsWrongNext (head.start + head.count) (λ line. line ≡ end_line) NoRule) fault old c.keep_nodes.new.lines left
+    (g.S.Source.left c.keep_nodes.new.source) new_left reads
+    (subst (λ (i : ℕ). RefusesAfter [] (IsWrongNext (5 + i) (λ line. line ≡ end_line) NoRule) fault c.keep_nodes.new.lines
+    (g.S.Source.left c.keep_nodes.new.source) new_left) c.from.ensures c.in_err-read_end.ensures.refused)))
 
 pub returns-clause-ok : goal.returns-clause-ok
 returns-clause-ok g c =
@@ -47,6 +50,8 @@ returns-clause-ok g c =
       is_head = c.in_ok-head.ensures.legal;
       number = r.number;
       judged = r.judged;
-      reads = ReadsLines-then (lines_of_head head) (node_lines 0 nodes ++ end_line ∷ []) old c.read_head.new.lines c.read_end.new.lines left (g.S.Source.left c.read_head.new.source) (g.S.Source.left c.read_end.new.source) c.in_ok-head.ensures.ok
-          (ReadsLines-then (node_lines 0 nodes) (end_line ∷ []) c.read_head.new.lines c.keep_nodes.new.lines c.read_end.new.lines (g.S.Source.left c.read_head.new.source) (g.S.Source.left c.keep_nodes.new.source) (g.S.Source.left c.read_end.new.source) r.reads c.in_ok-read_end.ensures.ok);
+      reads = ReadsLines-then (lines_of_head head) (node_lines 0 nodes ++ end_line ∷ []) old c.read_head.new.lines c.read_end.new.lines left
+          (g.S.Source.left c.read_head.new.source) (g.S.Source.left c.read_end.new.source) c.in_ok-head.ensures.ok
+          (ReadsLines-then (node_lines 0 nodes) (end_line ∷ []) c.read_head.new.lines c.keep_nodes.new.lines c.read_end.new.lines (g.S.Source.left c.read_head.new.source)
+          (g.S.Source.left c.keep_nodes.new.source) (g.S.Source.left c.read_end.new.source) r.reads c.in_ok-read_end.ensures.ok);
     }

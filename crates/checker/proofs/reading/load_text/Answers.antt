@@ -9,7 +9,9 @@ use Rattle.checker.proofs.reading.load_text.Goals as goal
 
 pub returns-clause-ok : goal.returns-clause-ok
 returns-clause-ok g c =
-    Loads-from c.args.wanted (told_by c.in_ok-head.head) c.keep_text.new.nodes c.args.lines.now c.keep_text.new.lines (g.S.Source.left c.args.source.now) (g.S.Source.left c.keep_text.new.source) (g.S.Source.left c.read_past.new.source) c.requires.fresh c.in_ok-head.ensures.side c.in_ok-head.ensures.ok c.in_ok-read_past.ensures.ok
+    Loads-from c.args.wanted (told_by c.in_ok-head.head) c.keep_text.new.nodes c.args.lines.now c.keep_text.new.lines (g.S.Source.left c.args.source.now)
+    (g.S.Source.left c.keep_text.new.source) (g.S.Source.left c.read_past.new.source) c.requires.fresh c.in_ok-head.ensures.side c.in_ok-head.ensures.ok
+    c.in_ok-read_past.ensures.ok
 
 pub returns-in_err-head-clause-fault : goal.returns-in_err-head-clause-fault
 returns-in_err-head-clause-fault g c =
@@ -25,4 +27,5 @@ returns-in_err-read_past-clause-fault g c =
     let new_left = g.S.Source.left c.read_past.new.source in
     let fault = c.in_err-read_past.field-0.0 in
     passed_on (λ (f : CheckFault). IsFaultOf c.args.wanted [] f left new_left) fault c.from_residual-in_err-read_past.result c.from_residual-in_err-read_past.ensures.1
-    (past_fault_of c.args.wanted (told_by c.in_ok-head.head) (nodes_of c.keep_text.new.nodes) (6 + c.from.result) fault c.args.lines.now c.keep_text.new.lines left (g.S.Source.left c.keep_text.new.source) new_left c.requires.fresh (ap (λ (i : ℕ). 6 + i) (sym c.from.ensures)) c.in_ok-head.ensures.ok c.in_err-read_past.ensures.refused)
+    (past_fault_of c.args.wanted (told_by c.in_ok-head.head) (nodes_of c.keep_text.new.nodes) (6 + c.from.result) fault c.args.lines.now c.keep_text.new.lines left
+    (g.S.Source.left c.keep_text.new.source) new_left c.requires.fresh (ap (λ (i : ℕ). 6 + i) (sym c.from.ensures)) c.in_ok-head.ensures.ok c.in_err-read_past.ensures.refused)

@@ -1,4 +1,4 @@
-use Rattle.std.proofs.Common.{◌≡◌, ◌∙◌, List, ℕ, sym, subst}
+use Rattle.std.proofs.Common.{◌≡◌, ◌∙◌, sym, subst}
 use Rattle.strategy_text.specs.Text.{end_line}
 use Rattle.checker.specs.Progress.{NoRule, RefusesNext}
 use Rattle.checker.specs.declared.fault.CheckFault.{CheckFault}
@@ -10,7 +10,8 @@ returns-in_err-next_text-clause-refused g c =
     let old = c.args.lines.now in
     let left = g.S.Source.left c.args.source.now in
     let new_left = g.S.Source.left c.next_text.new.source in
-    passed_on (λ (fault : CheckFault). RefusesNext c.args.line (λ text. text ≡ end_line) NoRule fault old left new_left) c.in_err-next_text.field-0.0 c.from_residual.result c.from_residual.ensures.1
+    passed_on (λ (fault : CheckFault). RefusesNext c.args.line (λ text. text ≡ end_line) NoRule fault old left new_left) c.in_err-next_text.field-0.0 c.from_residual.result
+    c.from_residual.ensures.1
     (refuses_next c.args.line (λ text. text ≡ end_line) NoRule c.in_err-next_text.field-0.0 old left new_left c.in_err-next_text.ensures.refused)
 
 pub returns-then-not-parse_end-clause-refused : goal.returns-then-not-parse_end-clause-refused
@@ -19,4 +20,5 @@ returns-then-not-parse_end-clause-refused g c =
     let left = g.S.Source.left c.args.source.now in
     let new_left = g.S.Source.left c.next_text.new.source in
     subst (λ (fault : CheckFault). RefusesNext c.args.line (λ text. text ≡ end_line) NoRule fault old left new_left) (sym c.syntax.ensures)
-    (refuses_form c.args.line (λ text. text ≡ end_line) NoRule c.next_text.new.lines.text old c.next_text.new.lines left new_left c.in_ok-next_text.ensures.ok (λ e. both_ways c.parse_end.result c.if-not-parse_end.true (c.parse_end.ensures.exact.1 (c.text.ensures ∙ e))))
+    (refuses_form c.args.line (λ text. text ≡ end_line) NoRule c.next_text.new.lines.text old c.next_text.new.lines left new_left c.in_ok-next_text.ensures.ok
+    (λ e. both_ways c.parse_end.result c.if-not-parse_end.true (c.parse_end.ensures.exact.1 (c.text.ensures ∙ e))))

@@ -1,5 +1,4 @@
 use Rattle.std.proofs.Common.{◌≡◌, [], subst, sym}
-use Rattle.port_io.specs.declared.lines.Line.{Line}
 use Rattle.checker.specs.Progress.{IsPastEnd, RefusesAfter}
 use Rattle.checker.specs.declared.fault.CheckFault.{CheckFault}
 use Rattle.checker.proofs.ProgressLemmas.{refuses_past, ended, none_met, not_true}
@@ -20,4 +19,5 @@ returns-then-is_end-clause-ok g c =
     let left = g.S.Source.left c.args.source.now in
     let new_left = g.S.Source.left c.next_line.new.source in
     let h = c.in-Ok.ensures in
-    ended c.in-Ok.found _ old c.next_line.new.self left new_left (c.is_end.ensures.0 c.if-is_end.true) h.reads (none_met old.ending c.requires h.shown) (none_met old.ending c.requires h.answer)
+    ended c.in-Ok.found _ old c.next_line.new.self left new_left (c.is_end.ensures.0 c.if-is_end.true) h.reads (none_met old.ending c.requires h.shown)
+    (none_met old.ending c.requires h.answer)

@@ -9,7 +9,9 @@ index-requires c = omega (arith, ap length c.loop-i.invariant, length-prefixes_o
 
 -- the set that was read is that of the prefix
 at : (c : After-index) → c.index.result.now ≡ sent c.args.game.now (take c.loop-i.i c.args.items.now)
-at c = at_prefix c.args.game.now c.args.items.now c.loop-i.i c.loop-i.i c.index.result.now (omega arith) (c.index.ensures ∙ ap (λ xs. get_or xs c.loop-i.i c.index.result.now) c.loop-i.invariant)
+at c =
+    at_prefix c.args.game.now c.args.items.now c.loop-i.i c.loop-i.i c.index.result.now (omega arith)
+    (c.index.ensures ∙ ap (λ xs. get_or xs c.loop-i.i c.index.result.now) c.loop-i.invariant)
 
 pub add-requires : goal.add-requires
 add-requires c =
@@ -20,4 +22,5 @@ add-requires c =
 pub loop-i-preserved : goal.loop-i-preserved
 loop-i-preserved c =
     let x = at (goal.at.loop-i-preserved c).After-index in
-    c.in_ok-push-2.ensures.items ∙ ap (λ (xs : List ItemsSent). xs ++ c.in_ok-next.next ∷ []) c.loop-i.invariant ∙ prefixes_of-more c.args.game.now c.args.items.now c.loop-i.i c.index.result.now c.in_ok-next.next c.loop-i-test.true x c.in_ok-next.ensures.ok
+    c.in_ok-push-2.ensures.items ∙ ap (λ (xs : List ItemsSent). xs ++ c.in_ok-next.next ∷ []) c.loop-i.invariant
+    ∙ prefixes_of-more c.args.game.now c.args.items.now c.loop-i.i c.index.result.now c.in_ok-next.next c.loop-i-test.true x c.in_ok-next.ensures.ok

@@ -1,4 +1,4 @@
-use Rattle.std.proofs.Common.{◌≡◌, ◌-◌, ◌≤◌, ◌∙◌, sym, ap, subst, arith, ℕ}
+use Rattle.std.proofs.Common.{◌≡◌, ◌-◌, ◌∙◌, sym, ap, subst, arith}
 use Rattle.items.specs.Game.{GameNumbers}
 use Rattle.reachable_loads.proofs.ReachLemmas.{IsRoom-from_law, AreSizesThatFit}
 use Rattle.reachable_loads.proofs.RoomLemmas.{IsRoom-none, law_of_least, least-le_capacity_of_game}
@@ -9,7 +9,9 @@ capacity : (c : After-g) → c.g.result ≡ c.args.planes.now.game.capacity
 capacity c = c.g.ensures.value ∙ ap (λ (game : GameNumbers). game.capacity) c.game.ensures.value
 
 law : (c : After-g) → AreSizesThatFit c.args.planes.now.game c.args.planes.now.items (c.g.result - c.in-Some.least)
-law c = subst (λ n. AreSizesThatFit c.args.planes.now.game c.args.planes.now.items (n - c.in-Some.least)) (sym (capacity c)) (law_of_least c.args.planes.now.game c.args.planes.now.items c.in-Some.least c.in-Some.ensures.exact)
+law c =
+    subst (λ n. AreSizesThatFit c.args.planes.now.game c.args.planes.now.items (n - c.in-Some.least)) (sym (capacity c))
+    (law_of_least c.args.planes.now.game c.args.planes.now.items c.in-Some.least c.in-Some.ensures.exact)
 
 pub overflow_sub-result : goal.overflow_sub-result
 overflow_sub-result c =

@@ -1,10 +1,8 @@
-use Rattle.std.proofs.Common.{◌≡◌, ◌∙◌, ◌++◌, ◌∷◌, [], List, ℕ, sym, subst, arith}
-use Rattle.std.specs.Prelude.{All}
+use Rattle.std.proofs.Common.{◌∙◌, ◌++◌, ◌∷◌, [], sym, subst}
 use Rattle.items.specs.Multiset.{IsSize, Same, put_ascending}
 use Rattle.items.proofs.MultisetLemmas.{Same-push_put}
-use Rattle.items.proofs.SameLemmas.{All-put_ascending, Same-sym, Same-trans}
+use Rattle.items.proofs.SameLemmas.{All-Same, All-put_ascending, Same-sym}
 use Rattle.packing_witness.proofs.PackableLemmas.{Packable-Same}
-use Rattle.reachable_loads.proofs.RoomLemmas.{All-Same}
 use Rattle.reachable_loads.proofs.rooms.fits_with.Goals as goal
 use Rattle.reachable_loads.proofs.rooms.fits_with.Goals.{After-as_slice}
 
@@ -18,7 +16,9 @@ same c x = same_put c x ∙ sym (Same-push_put c.args.size c.args.items.now x)
 pub fits_by_placing-requires : goal.fits_by_placing-requires
 fits_by_placing-requires c =
     let b = goal.at.fits_by_placing-requires c in
-    All-Same (IsSize c.args.game.now.capacity) c.as_slice.result.now (put_ascending c.args.size c.args.items.now) (same_put b.After-as_slice) (All-put_ascending (IsSize c.args.game.now.capacity) c.args.size c.args.items.now c.requires.of_game c.requires.sizes)
+    let more = put_ascending c.args.size c.args.items.now in
+    All-Same (IsSize c.args.game.now.capacity) more c.as_slice.result.now (Same-sym c.as_slice.result.now more (same_put b.After-as_slice))
+    (All-put_ascending (IsSize c.args.game.now.capacity) c.args.size c.args.items.now c.requires.of_game c.requires.sizes)
 
 pub returns : goal.returns
 returns c =

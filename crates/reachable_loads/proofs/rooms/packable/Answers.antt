@@ -1,19 +1,21 @@
-use Rattle.std.proofs.Common.{◌≡◌, ◌∙◌, List, ℕ, refl, sym, subst, arith}
-use Rattle.std.specs.Prelude.{All}
+use Rattle.std.proofs.Common.{refl, sym, subst, arith}
 use Rattle.std.proofs.lemmas.Bool.{false≢true}
 use Rattle.std.specs.Bool.{OnTrue}
 use Rattle.items.specs.Packable.{Packable}
 use Rattle.items.specs.Multiset.{IsSize, Same}
-use Rattle.items.proofs.SameLemmas.{Same-sym}
+use Rattle.items.proofs.SameLemmas.{All-Same, Same-sym}
 use Rattle.packing_witness.proofs.PackableLemmas.{Packable-Same}
 use Rattle.reachable_loads.proofs.PackLemmas.{sizes_from_largest, not_packable_from_largest}
-use Rattle.reachable_loads.proofs.RoomLemmas.{All-Same}
 use Rattle.reachable_loads.proofs.rooms.packable.Goals as goal
 use Rattle.reachable_loads.proofs.rooms.packable.Goals.{After-as_slice}
 
 pub returns-then-largest-g : goal.returns-then-largest-g
 returns-then-largest-g c = record {
-  exact = (λ t. absurd (false≢true t), λ p. absurd (not_packable_from_largest c.args.game.now c.args.items.now (omega (arith, c.if-largest-g.true, c.largest.ensures.value, c.g.ensures.value)) p));
+  exact = (
+    λ t. absurd (false≢true t),
+    λ p. absurd (not_packable_from_largest c.args.game.now c.args.items.now
+        (omega (arith, c.if-largest-g.true, c.largest.ensures.value, c.g.ensures.value)) p),
+  );
 }
 
 -- the list has the items
@@ -24,7 +26,7 @@ pub fits_by_best_fit-requires : goal.fits_by_best_fit-requires
 fits_by_best_fit-requires c =
     let b = goal.at.fits_by_best_fit-requires c in
     let sizes = sizes_from_largest c.args.game.now c.args.items.now c.largest.ensures.multiset (omega (arith, c.if-largest-g.false, c.largest.ensures.value, c.g.ensures.value)) in
-    All-Same (IsSize c.args.game.now.capacity) c.as_slice.result.now c.args.items.now (same b.After-as_slice) sizes
+    All-Same (IsSize c.args.game.now.capacity) c.args.items.now c.as_slice.result.now (Same-sym c.as_slice.result.now c.args.items.now (same b.After-as_slice)) sizes
 
 pub returns-then-branch : goal.returns-then-branch
 returns-then-branch c =
@@ -36,7 +38,7 @@ pub fits_by_placing-requires : goal.fits_by_placing-requires
 fits_by_placing-requires c =
     let s : Same c.as_slice-2.result.now c.args.items.now = subst (λ xs. Same xs c.args.items.now) (sym c.as_slice-2.ensures.value) c.in_ok-list.ensures in
     let sizes = sizes_from_largest c.args.game.now c.args.items.now c.largest.ensures.multiset (omega (arith, c.if-largest-g.false, c.largest.ensures.value, c.g.ensures.value)) in
-    All-Same (IsSize c.args.game.now.capacity) c.as_slice-2.result.now c.args.items.now s sizes
+    All-Same (IsSize c.args.game.now.capacity) c.args.items.now c.as_slice-2.result.now (Same-sym c.as_slice-2.result.now c.args.items.now s) sizes
 
 pub returns : goal.returns
 returns c =

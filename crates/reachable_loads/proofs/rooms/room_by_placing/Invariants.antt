@@ -1,4 +1,4 @@
-use Rattle.std.proofs.Common.{◌≡◌, ◌≤◌, ◌++◌, ◌∷◌, [], ℕ}
+use Rattle.std.proofs.Common.{◌≤◌, ◌++◌, ◌∷◌, [], ℕ}
 use Rattle.items.specs.Packable.{Packable}
 use Rattle.reachable_loads.proofs.rooms.room_by_placing.Given as goal
 

@@ -21,19 +21,27 @@ overflow_add-load c =
 pub place-requires : goal.place-requires
 place-requires c =
     let g = c.g-capacity.ensures.legal in
-    record { of_game = IsLoads-offline c.args.game.now c.args.loads.now g c.requires.of_game; below_target = omega (arith, c.if-load-s.true, c.g-capacity.ensures.value, g.target.low) }
+    record {
+      of_game = IsLoads-offline c.args.game.now c.args.loads.now g c.requires.of_game;
+      below_target = omega (arith, c.if-load-s.true, c.g-capacity.ensures.value, g.target.low);
+    }
 
 pub loop-i-preserved : goal.loop-i-preserved
 loop-i-preserved c = elim c.if-load-s.branch [
   | then-load-s+in_ok-insert w ↦
       let load = c.distinct_at-load.ensures.value in
-      let after : w.unwrap.result ≡ loads_after c.args.loads.now (get_or (distinct c.args.loads.now) c.loop-i.i 0) c.args.s = unwrapped _ _ _ _ _ w.place.ensures.exact w.unwrap.ensures ∙ ap (λ l. loads_after c.args.loads.now l c.args.s) load in
+      let after : w.unwrap.result ≡ loads_after c.args.loads.now (get_or (distinct c.args.loads.now) c.loop-i.i 0) c.args.s =
+      unwrapped _ _ _ _ _ w.place.ensures.exact w.unwrap.ensures ∙ ap (λ l. loads_after c.args.loads.now l c.args.s) load in
       let put = inserted nat_list_cmp_total exact_bytes _ _ _ w.in_ok-insert.ensures.updates in
       let placed = subst (λ xs. (x : List ℕ) → Contains w.insert.new.self.keys x ↔ (Contains c.loop-i.members.keys x ⊎ (x ≡ xs))) after put in
-      subst (λ (m : BTreeSet (List ℕ)). HasPut (λ x. IsAfterEarly c.g-capacity.result c.args.s x c.args.loads.now (c.loop-i.i + 1)) c.args.members.now.keys m.keys) (sym w.members-is) (HasPut-more c.g-capacity.result c.args.s c.args.loads.now c.loop-i.i c.args.members.now.keys c.loop-i.members.keys w.insert.new.self.keys (omega (arith, w.if-load-s.true, load)) c.loop-i.invariant placed)
+      subst (λ (m : BTreeSet (List ℕ)). HasPut (λ x. IsAfterEarly c.g-capacity.result c.args.s x c.args.loads.now (c.loop-i.i + 1)) c.args.members.now.keys m.keys)
+      (sym w.members-is) (HasPut-more c.g-capacity.result c.args.s c.args.loads.now c.loop-i.i c.args.members.now.keys c.loop-i.members.keys w.insert.new.self.keys
+      (omega (arith, w.if-load-s.true, load)) c.loop-i.invariant placed)
   | else-load-s w ↦
       let load = c.distinct_at-load.ensures.value in
-      subst (λ (m : BTreeSet (List ℕ)). HasPut (λ x. IsAfterEarly c.g-capacity.result c.args.s x c.args.loads.now (c.loop-i.i + 1)) c.args.members.now.keys m.keys) (sym w.members-is) (HasPut-past c.g-capacity.result c.args.s c.args.loads.now c.loop-i.i c.args.members.now.keys c.loop-i.members.keys (omega (arith, w.if-load-s.false, load)) c.loop-i.invariant)
+      subst (λ (m : BTreeSet (List ℕ)). HasPut (λ x. IsAfterEarly c.g-capacity.result c.args.s x c.args.loads.now (c.loop-i.i + 1)) c.args.members.now.keys m.keys)
+      (sym w.members-is) (HasPut-past c.g-capacity.result c.args.s c.args.loads.now c.loop-i.i c.args.members.now.keys c.loop-i.members.keys
+      (omega (arith, w.if-load-s.false, load)) c.loop-i.invariant)
 ]
 
 pub loop-i-init : goal.loop-i-init

@@ -1,4 +1,4 @@
-use Rattle.std.proofs.Common.{◌≡◌, List, ℕ, Contains, sym, subst}
+use Rattle.std.proofs.Common.{List, ℕ, Contains, sym, subst}
 use Rattle.items.proofs.SizesLemmas.{size_from_Contains, Contains_from_size}
 use Rattle.items.proofs.sizes.Sizes.contains.Goals as goal
 

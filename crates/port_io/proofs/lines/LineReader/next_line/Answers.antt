@@ -13,7 +13,9 @@ returns-in-Whole-clause-input g c =
     let now = c.find_next.new in
     let n = c.in-Whole.length in
     let found = rw c.in-Whole.is at c.in_ok-length.ensures.found in
-    rw c.give.ensures (prepend_known-given c.args.self.now.held c.forget.new.self.held now.ahead.held (with_lf (take n now.ahead.held)) (drop (n + 1) now.ahead.held) (g.S.Source.left c.args.source.now) (g.S.Source.left now.source) (sym (ap held_of c.self.view_is) ∙ sym (ap ahead_of c.forget.ensures)) c.find_next.ensures.reads (with_lf-found n now.ahead.held found))
+    rw c.give.ensures (prepend_known-given c.args.self.now.held c.forget.new.self.held now.ahead.held (with_lf (take n now.ahead.held)) (drop (n + 1) now.ahead.held)
+    (g.S.Source.left c.args.source.now) (g.S.Source.left now.source) (sym (ap held_of c.self.view_is) ∙ sym (ap ahead_of c.forget.ensures)) c.find_next.ensures.reads
+    (with_lf-found n now.ahead.held found))
 
 pub returns-in-Whole-clause-text : goal.returns-in-Whole-clause-text
 returns-in-Whole-clause-text g c =
@@ -26,7 +28,9 @@ returns-in-Whole-clause-answer g c =
     let ahead_of : Ahead → _ = λ a. a.held in
     let now = c.find_next.new in
     let found = rw c.in-Whole.is at c.in_ok-length.ensures.found in
-    IfNone-any _ (IfSome-read (StandsNext Text) c.args.self.now.held c.forget.new.self.held now.ahead.held _ (g.S.Source.left now.source) (sym (ap held_of c.self.view_is) ∙ sym (ap ahead_of c.forget.ensures)) c.find_next.ensures.reads (Text-found c.in-Whole.length now.ahead.held (g.S.Source.left now.source) found))
+    IfNone-any _ (IfSome-read (StandsNext Text) c.args.self.now.held c.forget.new.self.held now.ahead.held _ (g.S.Source.left now.source)
+    (sym (ap held_of c.self.view_is) ∙ sym (ap ahead_of c.forget.ensures)) c.find_next.ensures.reads
+    (Text-found c.in-Whole.length now.ahead.held (g.S.Source.left now.source) found))
 
 pub returns-in-Whole-clause-only : goal.returns-in-Whole-clause-only
 returns-in-Whole-clause-only g c =
@@ -34,7 +38,9 @@ returns-in-Whole-clause-only g c =
     let ahead_of : Ahead → _ = λ a. a.held in
     let now = c.find_next.new in
     let found = rw c.in-Whole.is at c.in_ok-length.ensures.found in
-    IfNone-any _ (only-told _ Text (IfSome-read (StandsNext Text) c.args.self.now.held c.forget.new.self.held now.ahead.held _ (g.S.Source.left now.source) (sym (ap held_of c.self.view_is) ∙ sym (ap ahead_of c.forget.ensures)) c.find_next.ensures.reads (Text-found c.in-Whole.length now.ahead.held (g.S.Source.left now.source) found)))
+    IfNone-any _ (only-told _ Text (IfSome-read (StandsNext Text) c.args.self.now.held c.forget.new.self.held now.ahead.held _ (g.S.Source.left now.source)
+    (sym (ap held_of c.self.view_is) ∙ sym (ap ahead_of c.forget.ensures)) c.find_next.ensures.reads
+    (Text-found c.in-Whole.length now.ahead.held (g.S.Source.left now.source) found)))
 
 pub returns-in-Ending-clause-answer : goal.returns-in-Ending-clause-answer
 returns-in-Ending-clause-answer g c =
@@ -43,7 +49,8 @@ returns-in-Ending-clause-answer g c =
     let now = c.find_next.new in
     let ending = c.in-Ending.ending in
     let found = rw c.in-Ending.is at c.in_ok-length.ensures.found in
-    IfNone-any _ (IfSome-read (StandsNext ending) c.args.self.now.held c.forget.new.self.held now.ahead.held _ (g.S.Source.left now.source) (sym (ap held_of c.self.view_is) ∙ sym (ap ahead_of c.forget.ensures)) c.find_next.ensures.reads (Ending-found ending now.ahead.held (g.S.Source.left now.source) found))
+    IfNone-any _ (IfSome-read (StandsNext ending) c.args.self.now.held c.forget.new.self.held now.ahead.held _ (g.S.Source.left now.source)
+    (sym (ap held_of c.self.view_is) ∙ sym (ap ahead_of c.forget.ensures)) c.find_next.ensures.reads (Ending-found ending now.ahead.held (g.S.Source.left now.source) found))
 
 pub returns-in-Ending-clause-only : goal.returns-in-Ending-clause-only
 returns-in-Ending-clause-only g c =
@@ -52,7 +59,8 @@ returns-in-Ending-clause-only g c =
     let now = c.find_next.new in
     let ending = c.in-Ending.ending in
     let found = rw c.in-Ending.is at c.in_ok-length.ensures.found in
-    IfNone-any _ (only-told _ ending (IfSome-read (StandsNext ending) c.args.self.now.held c.forget.new.self.held now.ahead.held _ (g.S.Source.left now.source) (sym (ap held_of c.self.view_is) ∙ sym (ap ahead_of c.forget.ensures)) c.find_next.ensures.reads (Ending-found ending now.ahead.held (g.S.Source.left now.source) found)))
+    IfNone-any _ (only-told _ ending (IfSome-read (StandsNext ending) c.args.self.now.held c.forget.new.self.held now.ahead.held _ (g.S.Source.left now.source)
+    (sym (ap held_of c.self.view_is) ∙ sym (ap ahead_of c.forget.ensures)) c.find_next.ensures.reads (Ending-found ending now.ahead.held (g.S.Source.left now.source) found)))
 
 pub returns-in-Whole-clause-shown : goal.returns-in-Whole-clause-shown
 returns-in-Whole-clause-shown g c =

@@ -9,6 +9,7 @@ returns-clause-reads g c =
     let ys = c.read_behind.new.bytes.items in
     let held_of : Ahead → _ = λ a. a.held in (
       slice_range ys end (end + c.in_ok-count.count),
-      slice_range-filled c.args.self.now.held c.move_to_front-end.new.bytes.items ys end c.in_ok-count.count (c.move_to_front-end.ensures.moved ∙ ap held_of c.self.view_is) c.read_behind.ensures.before,
+      slice_range-filled c.args.self.now.held c.move_to_front-end.new.bytes.items ys end c.in_ok-count.count
+          (c.move_to_front-end.ensures.moved ∙ ap held_of c.self.view_is) c.read_behind.ensures.before,
       c.in_ok-count.ensures.given,
     )

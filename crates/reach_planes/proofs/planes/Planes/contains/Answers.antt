@@ -1,8 +1,8 @@
-use Rattle.std.proofs.Common.{◌≡◌, ◌↔◌, ◌∙◌, ◌<◌, ◌≤◌, ◌-◌, ◌∷◌, ap, sym, subst, get_or, take, drop, length, sum, arith, ℕ, List}
-use Rattle.std.specs.Prelude.{All, IsTrue}
+use Rattle.std.proofs.Common.{◌≡◌, ◌↔◌, ◌∙◌, ◌≤◌, ◌-◌, ◌∷◌, ap, sym, subst, get_or, take, drop, length, sum, arith}
+use Rattle.std.specs.Prelude.{All}
 use Rattle.std.proofs.lemmas.Bool.{eqb-true}
 use Rattle.items.specs.Game.{GameNumbers}
-use Rattle.reach_planes.specs.Reached.{ItemsSent, sent, HasTotals}
+use Rattle.reach_planes.specs.Reached.{ItemsSent, HasTotals}
 use Rattle.reach_planes.specs.Layout.{AreDigits, IsStart}
 use Rattle.reach_planes.proofs.TotalsLemmas.{sum-HasTotals}
 use Rattle.reach_planes.proofs.LoadLemmas.{AreDigits-between, sum_fits, contains_where}
@@ -24,8 +24,13 @@ bound c = sum_fits c.self.inside.game c.args.loads.now c.m.ensures.legal (one_ea
 between : (c : After-from-last) → c.from-last.result - 1 - 1 ≡ c.self.inside.game.bins - 2
 between c = omega (arith, c.from-last.ensures, c.m.ensures.value)
 
-where_ : (c : After-from-last) → sum c.args.loads.now ≡ sum c.self.inside.items → IsStart c.args.self.now.game c.args.self.now.items (get_or c.args.loads.now 0 0 ∷ take (c.from-last.result - 1 - 1) (drop 1 c.args.loads.now)) ↔ HasTotals c.args.self.now.game c.args.self.now.items c.args.loads.now
-where_ c e = subst (λ (x : ItemsSent). IsStart x.game x.items (get_or c.args.loads.now 0 0 ∷ take (c.from-last.result - 1 - 1) (drop 1 c.args.loads.now)) ↔ HasTotals x.game x.items c.args.loads.now) c.self.view_is (contains_where c.self.inside.game c.self.inside.items c.args.loads.now (c.from-last.result - 1 - 1) c.m.ensures.legal (one_each c) (between c) e)
+where_ : (c : After-from-last) → sum c.args.loads.now ≡ sum c.self.inside.items
+    → IsStart c.args.self.now.game c.args.self.now.items (get_or c.args.loads.now 0 0 ∷ take (c.from-last.result - 1 - 1) (drop 1 c.args.loads.now))
+    ↔ HasTotals c.args.self.now.game c.args.self.now.items c.args.loads.now
+where_ c e =
+    subst (λ (x : ItemsSent). IsStart x.game x.items (get_or c.args.loads.now 0 0 ∷ take (c.from-last.result - 1 - 1) (drop 1 c.args.loads.now))
+    ↔ HasTotals x.game x.items c.args.loads.now) c.self.view_is (contains_where c.self.inside.game c.self.inside.items c.args.loads.now
+    (c.from-last.result - 1 - 1) c.m.ensures.legal (one_each c) (between c) e)
 
 total : (c : After-from-last) → HasTotals c.args.self.now.game c.args.self.now.items c.args.loads.now → sum c.args.loads.now ≡ sum c.self.inside.items
 total c h = sum-HasTotals c.args.self.now.game c.args.self.now.items c.args.loads.now h ∙ sym (ap (λ (x : ItemsSent). sum x.items) c.self.view_is)
@@ -36,7 +41,9 @@ sum_of-requires c = let b = goal.at.sum_of-requires c in omega (arith, bound b.A
 pub marks-requires-clause-digits : goal.marks-requires-clause-digits
 marks-requires-clause-digits c =
     let b = goal.at.marks-requires-clause-digits c in
-    subst (λ (g : GameNumbers). AreDigits g (take (c.from-last.result - 1 - 1) (drop 1 c.args.loads.now))) (game_is b.After-from-last) (AreDigits-between c.self.inside.game c.args.loads.now (c.from-last.result - 1 - 1) c.m.ensures.legal (one_each b.After-from-last) (fit b.After-from-last) (between b.After-from-last))
+    subst (λ (g : GameNumbers). AreDigits g (take (c.from-last.result - 1 - 1) (drop 1 c.args.loads.now))) (game_is b.After-from-last)
+    (AreDigits-between c.self.inside.game c.args.loads.now (c.from-last.result - 1 - 1) c.m.ensures.legal (one_each b.After-from-last) (fit b.After-from-last)
+    (between b.After-from-last))
 
 pub returns-then-sum_of-self : goal.returns-then-sum_of-self
 returns-then-sum_of-self c =

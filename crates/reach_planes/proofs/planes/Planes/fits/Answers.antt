@@ -5,5 +5,6 @@ use Rattle.reach_planes.proofs.planes.Planes.fits.Goals as goal
 pub pow-requires : goal.pow-requires
 pow-requires c =
     let legal = c.g.ensures.legal in
-    let bound = pow-bound c.from.result (c.from-2.result - 1) (omega (arith, c.from.ensures, c.g.ensures.value, legal.capacity.high)) (omega (arith, c.from-2.ensures, c.m.ensures.value, legal.bins.high)) in
+    let bound = pow-bound c.from.result (c.from-2.result - 1) (omega (arith, c.from.ensures, c.g.ensures.value, legal.capacity.high))
+    (omega (arith, c.from-2.ensures, c.m.ensures.value, legal.bins.high)) in
     omega (arith, bound)

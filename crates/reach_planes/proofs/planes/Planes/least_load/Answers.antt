@@ -1,4 +1,4 @@
-use Rattle.std.proofs.Common.{◌≡◌, ◌∙◌, ◌<◌, ◌+◌, ◌*◌, ◌/◌, ap, subst, arith, ℕ, List}
+use Rattle.std.proofs.Common.{◌≡◌, ◌<◌, ◌+◌, ◌*◌, ◌/◌, ap, subst, arith, ℕ}
 use Rattle.std.specs.Int.{trailing_zeros, w64}
 use Rattle.items.specs.Packable.{Packable}
 use Rattle.reach_planes.specs.Reached.{ItemsSent, IsLeastLoad}
@@ -17,10 +17,14 @@ returns-then-bits-ne0 c =
     let game = c.self.inside.game in
     let rows : c.len-rows.result ≡ rows_of game = omega (arith, c.len-rows.ensures, c.self.invariant.sums_are.size) in
     let within : c.loop-half.half < halves_of game = omega (arith, c.loop-half-test.true, c.from-half-end.ensures, ap (λ n. n / 64) c.g-last.ensures.value) in
-    let least = least_bit c.len-rows.result (halves_of game) c.loop-half.half c.any_of-bits.result c.self.inside.words.items within c.loop-half.invariant (bits b.After-any_of-bits) (omega (arith, c.if-bits-ne0.true)) (omega (arith, c.any_of-bits.type_inv)) in
+    let least = least_bit c.len-rows.result (halves_of game) c.loop-half.half c.any_of-bits.result c.self.inside.words.items within c.loop-half.invariant (bits b.After-any_of-bits)
+    (omega (arith, c.if-bits-ne0.true)) (omega (arith, c.any_of-bits.type_inv)) in
     let load : ℕ = 64 * c.loop-half.half + trailing_zeros w64 c.any_of-bits.result in
     let at = subst (λ n. IsLeastBit n (halves_of game) c.self.inside.words.items load) rows least in
-    record { exact = subst (λ (x : ItemsSent). IsLeastLoad x.game x.items load) c.self.view_is (IsLeastLoad-from_bit game c.self.inside.items c.self.inside.words.items load c.g-last.ensures.legal c.self.invariant.plane at) }
+    record {
+      exact = subst (λ (x : ItemsSent). IsLeastLoad x.game x.items load) c.self.view_is
+          (IsLeastLoad-from_bit game c.self.inside.items c.self.inside.words.items load c.g-last.ensures.legal c.self.invariant.plane at);
+    }
 
 pub loop-half-preserved : goal.loop-half-preserved
 loop-half-preserved c =
@@ -31,6 +35,16 @@ pub returns : goal.returns
 returns c =
     let game = c.self.inside.game in
     let rows : c.len-rows.result ≡ rows_of game = omega (arith, c.len-rows.ensures, c.self.invariant.sums_are.size) in
-    let all : c.loop-half.half ≡ halves_of game = omega (arith, c.loop-half-test.false, c.loop-half.auto.half-end, c.from-half-end.ensures, ap (λ n. n / 64) c.g-last.ensures.value) in
-    let none : NoBits (rows_of game) (halves_of game) c.self.inside.words.items = subst (λ n. NoBits n (halves_of game) c.self.inside.words.items) rows (subst (λ n. NoBits c.len-rows.result n c.self.inside.words.items) all c.loop-half.invariant) in
-    record { exact = subst (λ (x : ItemsSent). Packable x.game x.items → ⊥) c.self.view_is (not_packable_from_bits game c.self.inside.items c.self.inside.words.items c.g-last.ensures.legal c.self.invariant.plane none) }
+    let all : c.loop-half.half ≡ halves_of game = omega (
+      arith,
+      c.loop-half-test.false,
+      c.loop-half.auto.half-end,
+      c.from-half-end.ensures,
+      ap (λ n. n / 64) c.g-last.ensures.value,
+    ) in
+    let none : NoBits (rows_of game) (halves_of game) c.self.inside.words.items = subst
+    (λ n. NoBits n (halves_of game) c.self.inside.words.items) rows (subst (λ n. NoBits c.len-rows.result n c.self.inside.words.items) all c.loop-half.invariant) in
+    record {
+      exact = subst (λ (x : ItemsSent). Packable x.game x.items
+          → ⊥) c.self.view_is (not_packable_from_bits game c.self.inside.items c.self.inside.words.items c.g-last.ensures.legal c.self.invariant.plane none);
+    }

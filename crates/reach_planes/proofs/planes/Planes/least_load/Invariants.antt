@@ -1,4 +1,3 @@
-use Rattle.std.proofs.Common.{length}
 use Rattle.reach_planes.specs.Layout.{NoBits}
 use Rattle.reach_planes.proofs.planes.Planes.least_load.Given as goal
 

@@ -1,4 +1,4 @@
-use Rattle.std.proofs.Common.{◌≡◌, ◌∙◌, ◌≤◌, ◌<◌, ◌-◌, ◌*◌, ◌+◌, [], ap, sym, subst, set, replicate, length, arith, ℕ, List}
+use Rattle.std.proofs.Common.{◌≡◌, ◌∙◌, ◌≤◌, ◌-◌, ◌*◌, ◌+◌, [], ap, sym, subst, set, replicate, length, arith, ℕ}
 use Rattle.std.proofs.lemmas.List.{length-replicate}
 use Rattle.std.proofs.lemmas.Nat.{mul-le}
 use Rattle.std.proofs.Math.Nat.{one-le-pow}
@@ -22,13 +22,19 @@ overflow_mul-halves c = record { fits = omega (arith, words_fit c.args.game.now 
 
 pub index_mut-requires : goal.index_mut-requires
 index_mut-requires c =
-    omega (arith, ap length c.in_ok-words.ensures, length-replicate {A = ℕ} (c.halves.result * c.rows.result) 0, some_word c.args.game.now c.halves.result c.rows.result c.halves.ensures c.rows.ensures)
+    omega (
+      arith,
+      ap length c.in_ok-words.ensures,
+      length-replicate {A = ℕ} (c.halves.result * c.rows.result) 0,
+      some_word c.args.game.now c.halves.result c.rows.result c.halves.ensures c.rows.ensures,
+    )
 
 pub invariant_of-result : goal.invariant_of-result
 invariant_of-result c =
     let game = c.args.game.now in
     let n : ℕ = c.halves.result * c.rows.result in
-    let plane : IsPlaneOf game [] (set (replicate n 0) 0 1) = IsPlaneOf-none game n c.m.ensures.legal (ap (λ k. k * c.rows.result) c.halves.ensures ∙ ap (λ k. halves_of game * k) c.rows.ensures) in
+    let plane : IsPlaneOf game [] (set (replicate n 0) 0 1) = IsPlaneOf-none game n c.m.ensures.legal
+    (ap (λ k. k * c.rows.result) c.halves.ensures ∙ ap (λ k. halves_of game * k) c.rows.ensures) in
     subst (λ items. ArePlanes game items 0 c.in_ok-digit_sums.field-0.items (set c.in_ok-words.words.items 0 1)) (sym c.new.ensures.empty) (record {
       total_is = omega arith;
       sums_are = c.in_ok-digit_sums.ensures;

@@ -13,4 +13,5 @@ pub returns : goal.returns
 returns c =
     let r = IsReachOf-seen _ _ _ _ c.self.view_is c.self.invariant in
     let finds = λ (loads : List ℕ). (btree_set_contains_iff nat_list_cmp_total exact_bytes c.self.inside.members loads).0 in
-    some_or_not_packable c.args.self.now.game c.args.self.now.items c.self.inside.members.keys (contains (slice_cmp nat_cmp) c.self.inside.members) c.first.result r finds c.first.ensures.variant.1 c.first.ensures.member
+    some_or_not_packable c.args.self.now.game c.args.self.now.items c.self.inside.members.keys
+    (contains (slice_cmp nat_cmp) c.self.inside.members) c.first.result r finds c.first.ensures.variant.1 c.first.ensures.member
