@@ -23,7 +23,7 @@ own_game : (game : GameNumbers) → is_same_game game game ≡ true
 own_game game = rw (eq-eqb game.bins game.bins refl, eq-eqb game.capacity game.capacity refl, eq-eqb game.target game.target refl) refl
 
 -- to its own game a file answers its replies
-own_answer : (file : Pool) → file_answer file file.game ≡ replies file.game file.nodes
+pub own_answer : (file : Pool) → file_answer file file.game ≡ replies file.game file.nodes
 own_answer file = ap (λ (same : Bool). λ (history : List ℕ). cond same (replies file.game file.nodes history) 0) (own_game file.game)
 
 pub file_keeps_below : (file : Pool) → IsLegal file.format file.game (sizes_of file.game) file.nodes → KeepsBelow file.game (file_answer file file.game)

@@ -50,6 +50,13 @@ impl FileAlgorithm {
     {
         self.pool.game()
     }
+
+    // The nodes are a legal strategy.
+    pub(crate) fn see_legal(&self)
+        ensures legal { let file = self.now in IsLegal file.format file.game (sizes_of file.game) file.nodes }
+    {
+        let _count = self.pool.len();
+    }
 }
 
 impl Online for FileAlgorithm {

@@ -2,11 +2,13 @@
 #![tactic(auto)]
 
 mod answered;
+mod answers;
 pub mod laws;
 mod lines;
 mod words;
 
-pub use answered::Answered;
+pub use answers::answer;
+pub use answered::{AnswerFault, Answered};
 pub use lines::{answer_text, match_text};
 
 #[cfg(test)]
