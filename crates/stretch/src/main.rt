@@ -6,7 +6,8 @@
 mod streams;
 
 use crate::streams::{StdSink, StdSource};
-use std::alloc::AllocError;
+use online_play::{BestFit, FirstFit, LeastLoaded, Name, Online, Player};
+use std::alloc::{AllocError, Global};
 use std::io::ErrorKind;
 use std::process::ExitCode;
 use std::{env, io};
@@ -43,14 +44,33 @@ fn words_of(rt: &HostRuntime) -> Result<Vec<String>, WordsFault> {
     Ok(words)
 }
 
+/// A player under its name.
+fn player(alloc: Global, name: &str, player: Box<dyn Online>) -> Result<Player, AllocError> {
+    Ok(Player {
+        name: Name::new(alloc, name)?,
+        player,
+    })
+}
+
+/// Runs the words against the three named players.
+fn run(alloc: Global, words: &[String], rt: &HostRuntime) -> Result<Status, AllocError> {
+    let mut players = Vec::new(alloc);
+    players.push(player(alloc, "first-fit", Box::new(alloc, FirstFit)?)?)?;
+    players.push(player(alloc, "best-fit", Box::new(alloc, BestFit)?)?)?;
+    players.push(player(alloc, "least-loaded", Box::new(alloc, LeastLoaded)?)?)?;
+    let mut source = StdSource::new(rt.stdin());
+    let mut sink = StdSink::new(rt.stdout());
+    Ok(run_bench(alloc, words, &players, &mut source, &mut sink))
+}
+
 fn main(rt: HostRuntime) -> ExitCode {
     let words = match words_of(&rt) {
         Ok(words) => words,
         Err(WordsFault::Memory) => return ExitCode::from(Status::OutOfMemory.code()),
         Err(WordsFault::Other) => return ExitCode::from(NO_WORDS),
     };
-    let mut source = StdSource::new(rt.stdin());
-    let mut sink = StdSink::new(rt.stdout());
-    let status = run_bench(rt.alloc(), words.as_slice(), &mut source, &mut sink);
-    ExitCode::from(status.code())
+    match run(rt.alloc(), words.as_slice(), &rt) {
+        Ok(status) => ExitCode::from(status.code()),
+        Err(AllocError) => ExitCode::from(Status::OutOfMemory.code()),
+    }
 }

@@ -1,5 +1,5 @@
 -- What follows from a text that is due.
-use Rattle.std.proofs.Common.{◌≡◌, ◌≤◌, ℕ, List, [], ◌++◌, length, get_or, take, drop, Option, Some, None, refl, ap, sym, subst, ◌∙◌, arith, append_assoc, append-nil, take-append-drop}
+use Rattle.std.proofs.Common.{◌≡◌, ◌≤◌, ℕ, List, [], ◌∷◌, ◌++◌, length, get_or, take, drop, codes, Option, Some, None, inl, inr, refl, ap, sym, subst, ◌∙◌, arith, append_assoc, append-nil, take-append-drop}
 use Rattle.std.proofs.lemmas.List.{append_cancel_left}
 use Rattle.std.specs.Prelude.{unwrap_or, IfSome, ◌↔◌}
 use Rattle.std.proofs.lemmas.List.{length-map}
@@ -8,29 +8,37 @@ use Rattle.port_io.specs.Told.{AppendsSome}
 use Rattle.items.specs.Game.{GameNumbers, IsGame}
 use Rattle.items.specs.Multiset.{sizes_of}
 use Rattle.online_play.specs.Algorithm.{ForcesEvery}
+use Rattle.online_play.specs.declared.transcript.Transcript.{Transcript}
 use Rattle.strategy_text.specs.Spelling.{most_nodes}
-use Rattle.strategy_text.specs.Text.{of_adversary, of_algorithm, nodes_of, side_of, text_of}
+use Rattle.strategy_text.specs.Text.{of_adversary, of_algorithm, nodes_of, side_of, text_of, line_of, text_of_lines}
+use Rattle.strategy_text.specs.Writing.{spaced}
+use Rattle.strategy_text.proofs.Spaced.{line_spaced}
 use Rattle.strategy_text.specs.declared.node.Format.{Format}
 use Rattle.strategy_text.specs.declared.node.Nodes.{Nodes}
 use Rattle.strategy_text.specs.declared.node.Nodes.TheVariants as sides
 use Rattle.strategy_text.specs.declared.node.Side.TheVariants.{Adversary, Algorithm}
-use Rattle.adversary_graph.proofs.WonLemmas.{legal_strategy_forces}
+use Rattle.strategy_text.specs.declared.node.Strategy.{Strategy}
 use Rattle.algorithm_graph.proofs.BelowLemmas.{legal_replies_keep_below}
 use Rattle.algorithm_graph.proofs.ReplayLemmas.{replies_are_an_algorithm}
 use Rattle.checker.specs.Head.{AreLegalNodes}
 use Rattle.checker.specs.declared.fault.Accepted.{Accepted}
 use Rattle.checker.specs.Accepted.{Accepts, Loads}
 use Rattle.checker.specs.FirstFault.{FirstFault, IsLegalText}
-use Rattle.checker.specs.declared.fault.Wanted.TheVariants.{Either}
+use Rattle.checker.specs.declared.fault.Wanted.{Wanted}
+use Rattle.checker.specs.declared.fault.Wanted.TheVariants.{Either, Only}
+use Rattle.checker.proofs.ForcedLemmas as forced
 use Rattle.checker.proofs.LegalText.{legal_text_has_no_fault}
-use Rattle.stretch_bench.specs.declared.command.Command.TheVariants.{Check}
+use Rattle.match_player.specs.declared.answered.Answered.{Answered}
+use Rattle.match_player.specs.Lines.{game_words, run_lines, pack_line, play_text, answer_text}
+use Rattle.stretch_bench.specs.declared.command.Command.{Command}
+use Rattle.stretch_bench.specs.declared.command.Command.TheVariants.{Check, Play, Answer}
 use Rattle.stretch_bench.specs.declared.status.Status.{Status}
 use Rattle.stretch_bench.specs.declared.status.Status.TheVariants.{Done, Rejected, Usage, Undecided, ReadFault, WriteFault, OutOfMemory, Unpackable}
-use Rattle.stretch_bench.specs.Answer.{Run, IsAnswer, IsStopped}
+use Rattle.stretch_bench.specs.Answer.{Run, IsAnswer, IsServed, IsStopped}
 use Rattle.stretch_bench.specs.Words.{Spells, SpellsNone}
 use Rattle.stretch_bench.specs.Lines.{accepted_line, adversary_accepted, algorithm_accepted}
 use Rattle.stretch_bench.specs.Replying.{Replying}
-use Rattle.stretch_bench.specs.Due.{IsDue}
+use Rattle.stretch_bench.specs.Due.{Call, IsDue, IsOutcome, wanted_by}
 use Rattle.stretch_bench.specs.Written.{WritesFirst}
 use Rattle.stretch_bench.proofs.Fronts.{HasSmallNumbers, same_line}
 
@@ -51,34 +59,67 @@ legal_numbers accepted left new_left stands =
       nodes = omega (arith, small.1, stands.number);
     }
 
+abbrev made_call : List (List ℕ) → List (GameNumbers → List ℕ → ℕ) → List (List ℕ) → Option (List ℕ) → Option (List ℕ) → Call
+made_call names answers words left new_left = record { names = names; answers = answers; words = words; left = left; new_left = new_left }
+
 -- where no command is spelled, usage is due
-pub usage_due : (words : List (List ℕ)) (left new_left : Option (List ℕ)) (status : Status) (text : List ℕ) → IsDue words left new_left status text → SpellsNone words
-    → status ≡ Usage
-usage_due words left new_left Done text due none = absurd (none Check due.command)
-usage_due words left new_left Rejected text due none = absurd (none Check due.command)
-usage_due words left new_left Usage text due none = refl
-usage_due words left new_left Undecided text due none = absurd due
-usage_due words left new_left ReadFault text due none = absurd due
-usage_due words left new_left WriteFault text due none = absurd due
-usage_due words left new_left OutOfMemory text due none = absurd due
-usage_due words left new_left Unpackable text due none = absurd due
+pub usage_due : (names : List (List ℕ)) (answers : List (GameNumbers → List ℕ → ℕ)) (words : List (List ℕ)) (left new_left : Option (List ℕ)) (status : Status) (text : List ℕ)
+    → IsDue (made_call names answers words left new_left) status text → SpellsNone names words → status ≡ Usage
+usage_due names answers words left new_left status text (inl due) none = absurd (none due.0 due.1)
+usage_due names answers words left new_left status text (inr due) none = due.0
 
--- behind an accepted line stands a legal strategy
-pub stands_behind : (words : List (List ℕ)) (left new_left : Option (List ℕ)) (status : Status) (text : List ℕ) (accepted : Accepted) (more : List ℕ)
-    → IsDue words left new_left status text → text ≡ accepted_line accepted ++ more → Accepts Either accepted left new_left
-stands_behind words left new_left Done text accepted more due e =
+-- the first line of a text begins with its first word
+first_line_of : (word : List ℕ) (words lines : List (List ℕ))
+    → text_of_lines (line_of (word ∷ words) ∷ lines) ≡ ((word ++ spaced words) ++ 10 ∷ []) ++ text_of_lines lines
+first_line_of word words lines = ap (λ (line : List ℕ). (line ++ 10 ∷ []) ++ text_of_lines lines) (line_spaced word words)
+
+-- a play begins with another letter than an accepted line, and answers differ from it in their second
+not_played : (name : List ℕ) (game : GameNumbers) (transcript : Transcript) (accepted : Accepted) (more : List ℕ)
+    → play_text name game transcript ≡ accepted_line accepted ++ more → ⊥
+unfolding play_text
+not_played name game transcript accepted more e =
+    let lines = run_lines transcript.items transcript.bins transcript.loads ++ pack_line transcript.packing ∷ [] in
+    let text : ((codes "play" ++ spaced (name ∷ game_words game)) ++ 10 ∷ []) ++ text_of_lines lines ≡ accepted_line accepted ++ more =
+    sym (first_line_of (codes "play") (name ∷ game_words game) lines) ∙ e in
+    absurd (let other : 112 ≡ 97 = ap (λ (l : List ℕ). get_or l 0 0) text in omega arith)
+
+not_answered : (game : GameNumbers) (answered : Answered) (accepted : Accepted) (more : List ℕ) → answer_text game answered ≡ accepted_line accepted ++ more → ⊥
+unfolding answer_text
+not_answered game answered accepted more e =
+    let lines = run_lines answered.items answered.bins answered.loads in
+    let text : ((codes "answer" ++ spaced (game_words game)) ++ 10 ∷ []) ++ text_of_lines lines ≡ accepted_line accepted ++ more =
+    sym (first_line_of (codes "answer") (game_words game) lines) ∙ e in
+    absurd (let other : 110 ≡ 99 = ap (λ (l : List ℕ). get_or l 1 0) text in omega arith)
+
+-- a legal strategy stands after an accepted line
+outcome_stands : (names : List (List ℕ)) (answers : List (GameNumbers → List ℕ → ℕ)) (left new_left : Option (List ℕ)) (command : Command) (status : Status) (text : List ℕ) (accepted : Accepted) (more : List ℕ)
+    → IsOutcome names answers left new_left command status text → text ≡ accepted_line accepted ++ more → Accepts Either accepted left new_left
+outcome_stands names answers left new_left Check Done text accepted more due e =
     subst (λ a. Accepts Either a left new_left) (same_line due.accepted accepted more (legal_numbers due.accepted left new_left due.accepts) (sym due.line ∙ e)) due.accepts
-stands_behind words left new_left Rejected text accepted more due e =
-    absurd (let differ : 114 ≡ 97 = ap (λ l. get_or l 0 0) (sym due.line ∙ e) in omega arith)
-stands_behind words left new_left Usage text accepted more due e =
-    absurd (let differ : 117 ≡ 97 = ap (λ l. get_or l 0 0) (sym due.line ∙ e) in omega arith)
-stands_behind words left new_left Undecided text accepted more due e = absurd due
-stands_behind words left new_left ReadFault text accepted more due e = absurd due
-stands_behind words left new_left WriteFault text accepted more due e = absurd due
-stands_behind words left new_left OutOfMemory text accepted more due e = absurd due
-stands_behind words left new_left Unpackable text accepted more due e = absurd due
+outcome_stands names answers left new_left (Play place) Done text accepted more due e =
+    let played = due.read.is in absurd (not_played due.name due.read.strategy.game played.transcript accepted more (sym played.lines ∙ e))
+outcome_stands names answers left new_left (Answer items) Done text accepted more due e =
+    absurd (not_answered due.strategy.game _ accepted more (sym due.is.lines ∙ e))
+outcome_stands names answers left new_left command Rejected text accepted more due e =
+    absurd (let other : 114 ≡ 97 = ap (λ l. get_or l 0 0) (sym due.line ∙ e) in omega arith)
+outcome_stands names answers left new_left command Usage text accepted more due e = absurd due
+outcome_stands names answers left new_left command Undecided text accepted more due e = absurd due
+outcome_stands names answers left new_left command ReadFault text accepted more due e = absurd due
+outcome_stands names answers left new_left command WriteFault text accepted more due e = absurd due
+outcome_stands names answers left new_left command OutOfMemory text accepted more due e = absurd due
+outcome_stands names answers left new_left Check Unpackable text accepted more due e = absurd due
+outcome_stands names answers left new_left (Play place) Unpackable text accepted more due e = absurd due
+outcome_stands names answers left new_left (Answer items) Unpackable text accepted more due e =
+    absurd (let other : 117 ≡ 97 = ap (λ l. get_or l 0 0) (sym due.is.line ∙ e) in omega arith)
 
--- what was written first is the front of what was appended
+stands_after : (call : Call) (status : Status) (text : List ℕ) (accepted : Accepted) (more : List ℕ) → IsDue call status text
+    → text ≡ accepted_line accepted ++ more → Accepts Either accepted call.left call.new_left
+stands_after call status text accepted more (inl due) e =
+    outcome_stands call.names call.answers call.left call.new_left due.0 status text accepted more due.2 e
+stands_after call status text accepted more (inr due) e =
+    absurd (let other : 117 ≡ 97 = ap (λ l. get_or l 0 0) (sym due.1.line ∙ e) in omega arith)
+
+-- what was written first is the beginning of what was appended
 first_of : (old new : Option (List ℕ)) (text bytes : List ℕ) → new ≡ append_known old text → WritesFirst old new bytes → (more : List ℕ) × (text ≡ bytes ++ more)
 first_of None new text bytes e first = absurd first
 first_of (Some xs) new text bytes e first =
@@ -98,76 +139,122 @@ none_written known accepted first =
     not_empty (accepted_line accepted ++ found.0) found.1 refl
 
 -- the text was written whole, as a piece of the same bytes
-pub behind_whole : (words : List (List ℕ)) (left new_left : Option (List ℕ)) (status : Status) (text piece : List ℕ) (old new : Option (List ℕ)) (accepted : Accepted)
-    → IsDue words left new_left status text → piece ≡ text → new ≡ append_known old piece → WritesFirst old new (accepted_line accepted)
-    → Accepts Either accepted left new_left
-behind_whole words left new_left status text piece old new accepted due same whole first =
+pub after_whole : (names : List (List ℕ)) (answers : List (GameNumbers → List ℕ → ℕ)) (words : List (List ℕ)) (left new_left : Option (List ℕ)) (status : Status) (text piece : List ℕ) (old new : Option (List ℕ)) (accepted : Accepted)
+    → IsDue (made_call names answers words left new_left) status text
+    → piece ≡ text → new ≡ append_known old piece → WritesFirst old new (accepted_line accepted) → Accepts Either accepted left new_left
+after_whole names answers words left new_left status text piece old new accepted due same whole first =
     let found = first_of old new piece (accepted_line accepted) whole first in
-    stands_behind words left new_left status text accepted found.0 due (sym same ∙ found.1)
+    stands_after (made_call names answers words left new_left) status text accepted found.0 due (sym same ∙ found.1)
 
--- a front of the text was written
-pub behind_front : (words : List (List ℕ)) (left new_left : Option (List ℕ)) (status : Status) (text piece : List ℕ) (old new : Option (List ℕ)) (accepted : Accepted)
-    → IsDue words left new_left status text → piece ≡ text → AppendsSome old new piece → WritesFirst old new (accepted_line accepted)
-    → Accepts Either accepted left new_left
-behind_front words left new_left status text piece old new accepted due same some first =
+-- a prefix of the text was written
+pub after_prefix : (names : List (List ℕ)) (answers : List (GameNumbers → List ℕ → ℕ)) (words : List (List ℕ)) (left new_left : Option (List ℕ)) (status : Status) (text piece : List ℕ) (old new : Option (List ℕ)) (accepted : Accepted)
+    → IsDue (made_call names answers words left new_left) status text
+    → piece ≡ text → AppendsSome old new piece → WritesFirst old new (accepted_line accepted) → Accepts Either accepted left new_left
+after_prefix names answers words left new_left status text piece old new accepted due same some first =
     let n = some.0 in
     let found = first_of old new (take n piece) (accepted_line accepted) some.2 first in
-    stands_behind words left new_left status text accepted (found.0 ++ drop n piece) due
+    stands_after (made_call names answers words left new_left) status text accepted (found.0 ++ drop n piece) due
     (sym same ∙ sym (take-append-drop n piece) ∙ ap (λ l. l ++ drop n piece) found.1 ∙ append_assoc (accepted_line accepted) found.0 (drop n piece))
 
--- where all bytes were read, they are the text of the accepted strategy
-legal_bytes : (accepted : Accepted) (bytes : List ℕ) (new_left : Option (List ℕ)) → Accepts Either accepted (Some bytes) new_left → IsLegalText Either bytes
-legal_bytes accepted bytes None stands = let gone : Some bytes ≡ None = stands.loads.spells.gone in absurd cc
-legal_bytes accepted bytes (Some rest) stands =
-    let spells = stands.loads.spells in
-    let none : rest ≡ [] = stands.loads.whole in
+-- where all bytes were read, they are the text of the strategy
+legal_bytes : (wanted : Wanted) (strategy : Strategy) (bytes : List ℕ) (new_left : Option (List ℕ)) → Loads wanted strategy (Some bytes) new_left
+    → IsLegalText wanted bytes
+legal_bytes wanted strategy bytes None loads = let gone : Some bytes ≡ None = loads.spells.gone in absurd cc
+legal_bytes wanted strategy bytes (Some rest) loads =
+    let spells = loads.spells in
+    let none : rest ≡ [] = loads.whole in
     let all : bytes ≡ spells.read ++ rest = (let gone : Some bytes ≡ Some (spells.read ++ rest) = spells.gone in cc) in
     record {
-      strategy = stands.strategy;
+      strategy = strategy;
       legal = spells.legal;
       wanted_side = spells.wanted_side;
-      spelled = all ∙ ap (λ (more : List ℕ). spells.read ++ more) none ∙ append-nil spells.read ∙ spells.spelled ∙ append-nil (text_of stands.strategy);
+      spelled = all ∙ ap (λ (more : List ℕ). spells.read ++ more) none ∙ append-nil spells.read ∙ spells.spelled ∙ append-nil (text_of strategy);
     }
 
--- what is due for a check is done exactly where the bytes are a legal text
-pub exact_due : (words : List (List ℕ)) (left new_left : Option (List ℕ)) (status : Status) (text : List ℕ) → IsDue words left new_left status text → Spells words Check
-    → IfSome left (λ bytes. ¬ IsStopped status → (status ≡ Done) ↔ IsLegalText Either bytes)
-exact_due words None new_left status text due check = tt
-exact_due words (Some bytes) new_left Done text due check = λ on. (λ e. legal_bytes due.accepted bytes new_left due.accepts, λ legal. refl)
-exact_due words (Some bytes) new_left Rejected text due check = λ on. (λ e. absurd cc, λ legal. absurd (legal_text_has_no_fault Either bytes legal due.at due.why due.rejects.first_of_input.has))
-exact_due words (Some bytes) new_left Usage text due check = λ on. absurd (due.no_command Check check)
-exact_due words (Some bytes) new_left Undecided text due check = absurd due
-exact_due words (Some bytes) new_left ReadFault text due check = absurd due
-exact_due words (Some bytes) new_left WriteFault text due check = absurd due
-exact_due words (Some bytes) new_left OutOfMemory text due check = absurd due
-exact_due words (Some bytes) new_left Unpackable text due check = absurd due
+-- words of one command spell no other that wants another side
+first_letters : (words : List (List ℕ)) (first other : List ℕ) (rest more : List (List ℕ)) → words ≡ first ∷ rest → words ≡ other ∷ more → get_or first 0 0 ≡ get_or other 0 0
+first_letters words first other rest more e f = ap (λ (ws : List (List ℕ)). get_or (get_or ws 0 []) 0 0) (sym e ∙ f)
+
+same_wanted : (names words : List (List ℕ)) (one other : Command) → Spells names words one → Spells names words other → wanted_by one ≡ wanted_by other
+same_wanted names words Check Check e f = refl
+same_wanted names words (Play i) (Play j) e f = refl
+same_wanted names words (Answer xs) (Answer ys) e f = refl
+same_wanted names words Check (Play j) e f = absurd (let d : 99 ≡ 112 = first_letters words _ _ _ _ e f.1 in omega arith)
+same_wanted names words Check (Answer ys) e f = absurd (let d : 99 ≡ 97 = first_letters words _ _ _ _ e f.0 in omega arith)
+same_wanted names words (Play i) Check e f = absurd (let d : 112 ≡ 99 = first_letters words _ _ _ _ e.1 f in omega arith)
+same_wanted names words (Play i) (Answer ys) e f = absurd (let d : 112 ≡ 97 = first_letters words _ _ _ _ e.1 f.0 in omega arith)
+same_wanted names words (Answer xs) Check e f = absurd (let d : 97 ≡ 99 = first_letters words _ _ _ _ e.0 f in omega arith)
+same_wanted names words (Answer xs) (Play j) e f = absurd (let d : 97 ≡ 112 = first_letters words _ _ _ _ e.0 f.1 in omega arith)
+
+-- a command is served exactly where the bytes are a legal text of the side that it wants
+outcome_exact : (names : List (List ℕ)) (answers : List (GameNumbers → List ℕ → ℕ)) (bytes : List ℕ) (new_left : Option (List ℕ)) (command : Command) (status : Status) (text : List ℕ)
+    → IsOutcome names answers (Some bytes) new_left command status text → IsServed status ↔ IsLegalText (wanted_by command) bytes
+outcome_exact names answers bytes new_left Check Done text due = (λ served. legal_bytes Either due.accepts.strategy bytes new_left due.accepts.loads, λ legal. tt)
+outcome_exact names answers bytes new_left (Play place) Done text due = (λ served. legal_bytes (Only Adversary) due.read.strategy bytes new_left due.read.loads, λ legal. tt)
+outcome_exact names answers bytes new_left (Answer items) Done text due = (λ served. legal_bytes (Only Algorithm) due.strategy bytes new_left due.loads, λ legal. tt)
+outcome_exact names answers bytes new_left command Rejected text due =
+    (λ served. absurd served, λ legal. absurd (legal_text_has_no_fault (wanted_by command) bytes legal due.at due.why due.rejects.first_of_input.has))
+outcome_exact names answers bytes new_left command Usage text due = absurd due
+outcome_exact names answers bytes new_left command Undecided text due = absurd due
+outcome_exact names answers bytes new_left command ReadFault text due = absurd due
+outcome_exact names answers bytes new_left command WriteFault text due = absurd due
+outcome_exact names answers bytes new_left command OutOfMemory text due = absurd due
+outcome_exact names answers bytes new_left Check Unpackable text due = absurd due
+outcome_exact names answers bytes new_left (Play place) Unpackable text due = absurd due
+outcome_exact names answers bytes new_left (Answer items) Unpackable text due = (λ served. legal_bytes (Only Algorithm) due.strategy bytes new_left due.loads, λ legal. tt)
+
+pub exact_due : (names : List (List ℕ)) (answers : List (GameNumbers → List ℕ → ℕ)) (words : List (List ℕ)) (left new_left : Option (List ℕ)) (status : Status) (text : List ℕ)
+    → IsDue (made_call names answers words left new_left) status text → (command : Command) → Spells names words command
+    → IfSome left (λ bytes. ¬ IsStopped status → IsServed status ↔ IsLegalText (wanted_by command) bytes)
+exact_due names answers words None new_left status text due command spelled = tt
+exact_due names answers words (Some bytes) new_left status text (inl due) command spelled =
+    λ on.
+    subst (λ wanted. IsServed status ↔ IsLegalText wanted bytes) (same_wanted names words due.0 command due.1 spelled)
+    (outcome_exact names answers bytes new_left due.0 status text due.2)
+exact_due names answers words (Some bytes) new_left status text (inr due) command spelled = absurd (due.1.no_command command spelled)
 
 -- a run that was stopped says nothing of the input
-pub stopped_any : (left : Option (List ℕ)) (status : Status) → IsStopped status → IfSome left (λ bytes. ¬ IsStopped status → (status ≡ Done) ↔ IsLegalText Either bytes)
-stopped_any None status h = tt
-stopped_any (Some bytes) status h = λ on. absurd (on h)
+pub stopped_any : (left : Option (List ℕ)) (status : Status) (command : Command) → IsStopped status
+    → IfSome left (λ bytes. ¬ IsStopped status → IsServed status ↔ IsLegalText (wanted_by command) bytes)
+stopped_any None status command h = tt
+stopped_any (Some bytes) status command h = λ on. absurd (on h)
+
+-- no status but four is due with a text
+never_due : (call : Call) (status : Status) (text : List ℕ) → IsDue call status text → IsStopped status → ⊥
+never_due call Done text due stopped = stopped
+never_due call Rejected text due stopped = stopped
+never_due call Usage text due stopped = stopped
+never_due call Undecided text due stopped = stopped
+never_due call Unpackable text due stopped = stopped
+never_due call ReadFault text (inl due) stopped = due.2
+never_due call ReadFault text (inr due) stopped = absurd cc
+never_due call WriteFault text (inl due) stopped = due.2
+never_due call WriteFault text (inr due) stopped = absurd cc
+never_due call OutOfMemory text (inl due) stopped = due.2
+never_due call OutOfMemory text (inr due) stopped = absurd cc
+
+never_undecided : (call : Call) (text : List ℕ) → IsDue call Undecided text → ⊥
+never_undecided call text (inl due) = due.2
+never_undecided call text (inr due) = absurd cc
 
 -- a text that is due was written whole
-pub answer_due : (run : Run) (status : Status) (text : List ℕ) → IsDue run.words run.left run.new_left status text → run.new_written ≡ append_known run.written text
+pub answer_due : (run : Run) (status : Status) (text : List ℕ) → IsDue run.call status text → run.new_written ≡ append_known run.written text
     → IsAnswer run status
 answer_due run Done text due e = (text, due, e)
 answer_due run Rejected text due e = (text, due, e)
 answer_due run Usage text due e = (text, due, e)
-answer_due run Undecided text due e = due
-answer_due run ReadFault text due e = absurd due
-answer_due run WriteFault text due e = absurd due
-answer_due run OutOfMemory text due e = absurd due
-answer_due run Unpackable text due e = due
+answer_due run Undecided text due e = never_undecided run.call text due
+answer_due run ReadFault text due e = absurd (never_due run.call ReadFault text due tt)
+answer_due run WriteFault text due e = absurd (never_due run.call WriteFault text due tt)
+answer_due run OutOfMemory text due e = absurd (never_due run.call OutOfMemory text due tt)
+answer_due run Unpackable text due e = (text, due, e)
 
--- a legal strategy of the adversary forces every algorithm of its game
-adversary_forces : (format : Format) (game : GameNumbers) (nodes : Nodes) → AreLegalNodes format game (sizes_of game) nodes → side_of nodes ≡ Adversary → ForcesEvery game
-adversary_forces format game (sides.Adversary list) legal e = legal_strategy_forces format game list legal
-adversary_forces format game (sides.Algorithm list) legal e = absurd cc
+pub answer_written : (run : Run) (status : Status) (text piece : List ℕ) → IsDue run.call status text → piece ≡ text
+    → run.new_written ≡ append_known run.written piece → IsAnswer run status
+answer_written run status text piece due same e = answer_due run status text due (e ∙ ap (λ (p : List ℕ). append_known run.written p) same)
 
 pub accepted_forces : (game : GameNumbers) (nodes : ℕ) (left new_left : Option (List ℕ)) → Accepts Either (adversary_accepted game nodes) left new_left → ForcesEvery game
-accepted_forces game nodes left new_left stands =
-    let strategy = stands.strategy in
-    subst ForcesEvery (sym stands.game) (adversary_forces strategy.format strategy.game strategy.nodes stands.loads.spells.legal (sym stands.side))
+accepted_forces game nodes left new_left stands = forced.accepted_forces Either (adversary_accepted game nodes) left new_left stands refl
 
 -- the replies of a legal strategy of the algorithm keep every load below the target
 strategy_replies : (format : Format) (game : GameNumbers) (number : ℕ) (nodes : Nodes) (left new_left : Option (List ℕ))
@@ -190,3 +277,7 @@ accepted_replies game nodes left new_left stands =
     let strategy = stands.strategy in
     subst (λ g. Replying g nodes left new_left) (sym stands.game)
     (strategy_replies strategy.format strategy.game nodes strategy.nodes left new_left stands.loads stands.number (sym stands.side))
+
+-- a prefix of the same bytes
+pub same_some : (old new : Option (List ℕ)) (piece text : List ℕ) → piece ≡ text → AppendsSome old new piece → AppendsSome old new text
+same_some old new piece text e some = subst (λ (p : List ℕ). AppendsSome old new p) e some

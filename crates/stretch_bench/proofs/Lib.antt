@@ -2,3 +2,4 @@ mod LineLemmas
 mod WordLemmas
 mod Fronts
 mod DueLemmas
+mod OutcomeLemmas

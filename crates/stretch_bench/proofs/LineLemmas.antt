@@ -6,7 +6,7 @@ use Rattle.checker.specs.declared.fault.Accepted.{Accepted}
 use Rattle.checker.specs.declared.fault.Why.{Why}
 use Rattle.checker.specs.declared.fault.Why.TheVariants as why
 use Rattle.strategy_text.specs.declared.rule.Rule.{Rule}
-use Rattle.stretch_bench.specs.Lines.{accepted_line, rejected_line}
+use Rattle.stretch_bench.specs.Lines.{accepted_line, rejected_line, unpackable_line}
 use Rattle.strategy_text.specs.Rules.{rule_word}
 use Rattle.strategy_text.specs.Text.{side_word}
 
@@ -28,3 +28,6 @@ pub rule_text : (line : ℕ) (fault : Why) (rule : Rule) (name : List ℕ) → f
 rule_text line fault rule name e same =
     let P : Why → Type 0 = λ f. codes "rejected line " ++ (decimal line ++ (codes " rule " ++ (name ++ codes "\n"))) ≡ rejected_line line f in
     subst P (sym e) (rw same)
+
+pub unpackable_text : (place : ℕ) → codes "unpackable " ++ (decimal place ++ codes "\n") ≡ unpackable_line place
+unpackable_text place = refl

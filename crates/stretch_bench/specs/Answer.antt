@@ -2,18 +2,16 @@
 use Rattle.std.specs.Prelude.{◌≡◌, ℕ, List, [], Option}
 use Rattle.port_io.specs.Faults.{Rose}
 use Rattle.checker.specs.Accepted.{IsInterrupted}
-use Rattle.checker.specs.declared.fault.Wanted.TheVariants.{Either}
 use Rattle.stretch_bench.specs.declared.status.Status.{Status}
-use Rattle.stretch_bench.specs.declared.status.Status.TheVariants.{Done, Rejected, Usage, Undecided, ReadFault, WriteFault, OutOfMemory, Unpackable}
-use Rattle.stretch_bench.specs.Due.{IsDue, IsDueText}
+use Rattle.stretch_bench.specs.declared.status.Status.TheVariants.{Done, Rejected, Usage, Undecided, ReadFault}
+use Rattle.stretch_bench.specs.declared.status.Status.TheVariants.{WriteFault, OutOfMemory, Unpackable}
+use Rattle.stretch_bench.specs.Due.{Call, IsCommanded, IsDue, IsDueText, wanted_by}
 use Rattle.stretch_bench.specs.Written.{WritesWhole, WritesFront}
 
--- a run: its words; what the source had left and has left, and its faults before and after; what the sink had written
--- and has written, and its faults before and after
+-- a run: what it is about; the faults of the source before and after; what the sink had written and has written, and its
+-- faults before and after
 pub record Run : Type 0 where
-  pub words : List (List ℕ)
-  pub left : Option (List ℕ)
-  pub new_left : Option (List ℕ)
+  pub call : Call
   pub reads_failed : ℕ
   pub new_reads_failed : ℕ
   pub written : Option (List ℕ)
@@ -23,25 +21,29 @@ pub record Run : Type 0 where
 
 -- the text that is due with a status was written whole
 abbrev pub IsWritten : Run → Status → Type 0
-IsWritten run status = WritesWhole run.written run.new_written (IsDue run.words run.left run.new_left status)
+IsWritten run status = WritesWhole run.written run.new_written (IsDue run.call status)
+
+-- no whole line of the bytes that a call read has a fault
+abbrev pub IsCutShort : Call → Type 0
+IsCutShort call = IsCommanded call (λ command. IsInterrupted (wanted_by command) [] call.left call.new_left)
 
 -- a read failed in this run, and no whole line of the bytes that were read has a fault
 pub record IsReadFault (run : Run) : Type 0 where
   pub rose : Rose run.reads_failed run.new_reads_failed
-  pub interrupted : IsInterrupted Either [] run.left run.new_left
+  pub interrupted : IsCutShort run.call
 
 -- a write failed in this run, and what was written is a prefix of a text that was due
 pub record IsWriteFault (run : Run) : Type 0 where
   pub rose : Rose run.writes_failed run.new_writes_failed
-  pub prefix : WritesFront run.written run.new_written (IsDueText run.words run.left run.new_left)
+  pub prefix : WritesFront run.written run.new_written (IsDueText run.call)
 
--- what each status stands for; two of them are those of commands to come, and no run ends with them
+-- what each status stands for; one of them is that of a command to come, and no run ends with it
 abbrev pub IsAnswer : Run → Status → Type 0
 IsAnswer run Done = IsWritten run Done
 IsAnswer run Rejected = IsWritten run Rejected
 IsAnswer run Usage = IsWritten run Usage
 IsAnswer run Undecided = ⊥
-IsAnswer run Unpackable = ⊥
+IsAnswer run Unpackable = IsWritten run Unpackable
 IsAnswer run ReadFault = IsReadFault run
 IsAnswer run WriteFault = IsWriteFault run
 IsAnswer run OutOfMemory = Unit {0}
@@ -56,3 +58,14 @@ IsStopped Unpackable = ⊥
 IsStopped ReadFault = Unit {0}
 IsStopped WriteFault = Unit {0}
 IsStopped OutOfMemory = Unit {0}
+
+-- the command was carried out, or would have been with other items
+abbrev pub IsServed : Status → Type 0
+IsServed Done = Unit {0}
+IsServed Rejected = ⊥
+IsServed Usage = ⊥
+IsServed Undecided = ⊥
+IsServed Unpackable = Unit {0}
+IsServed ReadFault = ⊥
+IsServed WriteFault = ⊥
+IsServed OutOfMemory = ⊥

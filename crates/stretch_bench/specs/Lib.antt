@@ -1,6 +1,7 @@
 pub mod Words
 pub mod Lines
 pub mod Due
+pub mod Outcomes
 pub mod Written
 pub mod Answer
 pub mod Codes

@@ -17,7 +17,9 @@ written_line (word ∷ next ∷ words) = word ++ 32 ∷ written_line (next ∷ w
 -- a legal strategy was read: its side, its game, and how many nodes it has
 abbrev pub accepted_line : Accepted → List ℕ
 accepted_line accepted =
-    written_line (codes "accepted" ∷ side_word accepted.side ∷ decimal accepted.game.bins ∷ decimal accepted.game.capacity ∷ decimal accepted.game.target ∷ codes "nodes" ∷ decimal accepted.nodes ∷ [])
+    written_line (codes "accepted" ∷ side_word accepted.side
+    ∷ decimal accepted.game.bins ∷ decimal accepted.game.capacity ∷ decimal accepted.game.target
+    ∷ codes "nodes" ∷ decimal accepted.nodes ∷ [])
 
 -- a legal strategy of the adversary for this game was read, with so many nodes
 abbrev pub adversary_accepted : GameNumbers → ℕ → Accepted
@@ -39,3 +41,7 @@ rejected_line line fault = written_line (codes "rejected" ∷ codes "line" ∷ d
 -- the words spell no command
 abbrev pub usage_line : List ℕ
 usage_line = written_line (codes "usage" ∷ [])
+
+-- the first items, so many of them, are not packable
+abbrev pub unpackable_line : ℕ → List ℕ
+unpackable_line place = written_line (codes "unpackable" ∷ decimal place ∷ [])

@@ -1,14 +1,15 @@
 //! The top call.
 
-ghost use Rattle.std.specs.Prelude.{◌≡◌, ◌↔◌, ◌≤◌, ◌⊎◌, ℕ, IfSome};
+ghost use Rattle.std.specs.Prelude.{◌≡◌, ◌↔◌, ◌≤◌, ◌⊎◌, ℕ, IfSome, map};
 ghost use Rattle.items.specs.Game.{GameNumbers};
 ghost use Rattle.online_play.specs.Algorithm.{ForcesEvery};
 ghost use Rattle.checker.specs.declared.fault.Accepted.{Accepted};
 ghost use Rattle.checker.specs.declared.fault.Wanted.TheVariants.{Either};
 ghost use Rattle.checker.specs.Accepted.{Accepts};
 ghost use Rattle.checker.specs.FirstFault.{IsLegalText};
-ghost use Rattle.stretch_bench.specs.declared.command.Command.TheVariants.{Check};
-ghost use Rattle.stretch_bench.specs.Answer.{IsAnswer, IsStopped};
+ghost use Rattle.stretch_bench.specs.declared.command.Command.{Command};
+ghost use Rattle.stretch_bench.specs.Answer.{IsAnswer, IsServed, IsStopped};
+ghost use Rattle.stretch_bench.specs.Due.{wanted_by};
 ghost use Rattle.stretch_bench.specs.Lines.{accepted_line, adversary_accepted, algorithm_accepted};
 ghost use Rattle.stretch_bench.specs.Replying.{Replying};
 ghost use Rattle.stretch_bench.specs.Words.{spelling_of, Spells, SpellsNone};
@@ -16,14 +17,19 @@ ghost use Rattle.stretch_bench.specs.Written.{WritesFirst};
 
 use crate::due::{Stop, due_of};
 use crate::status::Status;
+use online_play::{Online, Player};
 use port_io::{Sink, Source, put_all};
 use std::alloc::Global;
 
-/// Runs the command that the words spell: first the words, then the reading and the work, then the
+/// Runs the command that the words spell: first the words, then the reading line by line, then the work, then the
 /// writing of a text that was made whole before. It does all that the program does.
 ///
-/// The one command is `check`, which reads the text of a strategy and writes whether it is legal:
-/// `accepted SIDE M G T nodes N`, or the first fault of the input, `rejected line L syntax` or
+/// - `check` reads the text of a strategy and writes whether it is legal: `accepted SIDE M G T nodes N`.
+/// - `play NAME` reads a strategy of the adversary, and writes its play against the first player with this name.
+/// - `answer ITEM ..` reads a strategy of the algorithm, and writes its replies to the items, or `unpackable K` where
+///   the first K items, and no fewer, are not packable.
+///
+/// Each of them writes the first fault of the input where it has one, `rejected line L syntax` or
 /// `rejected line L rule NAME`. For other words it writes `usage`. Each line ends in a line feed.
 ///
 /// # Errors
@@ -33,6 +39,7 @@ use std::alloc::Global;
 pub fn run_bench<S: Source, K: Sink>(
     alloc: Global,
     words: &[String],
+    players: &Vec<Player>,
     source: &mut S,
     sink: &mut K,
 ) -> Status
@@ -41,9 +48,13 @@ pub fn run_bench<S: Source, K: Sink>(
 
     // What each status stands for, and what was written with it.
     ensures answer { IsAnswer (record {
-      words = spelling_of words.now;
-      left = S.left source.old;
-      new_left = S.left source.new;
+      call = record {
+        names = map (λ player. player.name) players.now.items;
+        answers = map (λ player. (⟦<dyn Online as Online>⟧ player.player.vtable).answer player.player.value) players.now.items;
+        words = spelling_of words.now;
+        left = S.left source.old;
+        new_left = S.left source.new;
+      };
       reads_failed = S.faults source.old;
       new_reads_failed = S.faults source.new;
       written = K.written sink.old;
@@ -51,34 +62,39 @@ pub fn run_bench<S: Source, K: Sink>(
       writes_failed = K.faults sink.old;
       new_writes_failed = K.faults sink.new;
     }) result }
-    ensures no_command { SpellsNone (spelling_of words.now) → (source.new ≡ source.old) × ((result ≡ Status.Usage) ⊎
-        (result ≡ Status.WriteFault) ⊎ (result ≡ Status.OutOfMemory)) }
+    ensures no_command { SpellsNone (map (λ player. player.name) players.now.items) (spelling_of words.now)
+        → (source.new ≡ source.old)
+        × ((result ≡ Status.Usage) ⊎ (result ≡ Status.WriteFault) ⊎ (result ≡ Status.OutOfMemory)) }
     ensures read_fault { result ≡ Status.ReadFault → sink.new ≡ sink.old }
     ensures memory { result ≡ Status.OutOfMemory → sink.new ≡ sink.old }
 
-    // A check is done exactly where the input is the text of a legal strategy.
-    ensures exact { Spells (spelling_of words.now) Check → IfSome (S.left source.old) (λ bytes. ¬ IsStopped result →
-        (result ≡ Status.Done) ↔ IsLegalText Either bytes) }
+    // A command is carried out exactly where the input is the text of a legal strategy of the side that it wants.
+    ensures exact { (command : Command)
+        → Spells (map (λ player. player.name) players.now.items) (spelling_of words.now) command
+        → IfSome (S.left source.old) (λ bytes. ¬ IsStopped result →
+        IsServed result ↔ IsLegalText (wanted_by command) bytes) }
 
     // A legal strategy stands after an accepted line that was written, whatever the status.
-    ensures accepted { (accepted : Accepted) → WritesFirst (K.written sink.old)
-        (K.written sink.new) (accepted_line accepted) → Accepts Either accepted (S.left source.old)
-        (S.left source.new) }
+    ensures accepted { (accepted : Accepted)
+        → WritesFirst (K.written sink.old) (K.written sink.new) (accepted_line accepted)
+        → Accepts Either accepted (S.left source.old) (S.left source.new) }
 
     // Where it is the adversary's, every deterministic online algorithm of the game is forced to the target.
-    ensures forced { (game : GameNumbers) (nodes : ℕ) → WritesFirst
-        (K.written sink.old) (K.written sink.new) (accepted_line (adversary_accepted game nodes)) → ForcesEvery game }
+    ensures forced { (game : GameNumbers) (nodes : ℕ)
+        → WritesFirst (K.written sink.old) (K.written sink.new) (accepted_line (adversary_accepted game nodes))
+        → ForcesEvery game }
 
     // Where it is the algorithm's, its replies keep every load below the target on every packable list of items.
-    ensures kept { (game : GameNumbers) (nodes : ℕ) → WritesFirst (K.written sink.old) (K.written sink.new)
-        (accepted_line (algorithm_accepted game nodes)) → Replying game nodes (S.left source.old) (S.left source.new) }
+    ensures kept { (game : GameNumbers) (nodes : ℕ)
+        → WritesFirst (K.written sink.old) (K.written sink.new) (accepted_line (algorithm_accepted game nodes))
+        → Replying game nodes (S.left source.old) (S.left source.new) }
 {
-    let due = match due_of(alloc, words, source) {
+    let due = match due_of(alloc, words, players, source) {
         Ok(due) => due,
         Err(Stop::Read) => return Status::ReadFault,
         Err(Stop::Memory) => return Status::OutOfMemory,
     };
-    match put_all(sink, due.text.as_bytes()) {
+    match put_all(sink, due.text.as_slice()) {
         Ok(()) => due.status,
         Err(_) => Status::WriteFault,
     }

@@ -1,26 +1,38 @@
 //! The work of a call: what is due to be written, made before anything is written.
 
-ghost use Rattle.std.specs.Prelude.{◌≡◌, ◌≢◌, ◌≤◌, [], Err, IfOk, IsOk, string_bytes};
+ghost use Rattle.std.specs.Prelude.{◌≡◌, ◌≢◌, ◌≤◌, [], ℕ, List, Option, Some, Err, IfOk, length, map, slice_get};
+ghost use Rattle.items.specs.Game.{GameNumbers};
 ghost use Rattle.port_io.specs.Faults.{Rose};
-ghost use Rattle.stretch_bench.specs.declared.command.Command.TheVariants.{Check};
+ghost use Rattle.adversary_graph.specs.Pools.{IsLegalOfAdversary};
+ghost use Rattle.algorithm_graph.specs.Pools.{IsLegalOfAlgorithm};
+ghost use Rattle.checker.specs.Accepted.{IsFaultOf, IsInterrupted};
+ghost use Rattle.checker.specs.declared.fault.Wanted.{Wanted};
+ghost use Rattle.checker.specs.declared.fault.CheckFault.TheVariants as check_fault;
+ghost use Rattle.stretch_bench.specs.Answer.{IsCutShort};
+ghost use Rattle.stretch_bench.specs.Due.{IsAnswerOf, IsDue, IsOutcome, IsPlayOf, IsRejected, IsUnpackable, wanted_by};
+ghost use Rattle.stretch_bench.specs.Outcomes.{IsAnswered, IsFaultLine, IsOfPlayers};
+ghost use Rattle.stretch_bench.specs.Words.{SpellsNone, spelling_of};
+ghost use Rattle.stretch_bench.specs.declared.command.Command.TheVariants as command;
 ghost use Rattle.stretch_bench.specs.declared.due.Stop.TheVariants.{Read, Memory};
-ghost use Rattle.stretch_bench.specs.Words.{spelling_of, Spells, SpellsNone};
-ghost use Rattle.stretch_bench.specs.Due.{IsDue};
-ghost use Rattle.checker.specs.Accepted.{IsInterrupted};
-ghost use Rattle.checker.specs.declared.fault.Wanted.TheVariants.{Either};
+ghost use Rattle.stretch_bench.specs.declared.status.Status.TheVariants.{Done};
 
-use crate::command::{Command, command_of};
-use crate::lines::{line_of_accepted, line_of_rejected};
+use crate::command::{Command, read_words};
+use crate::lines::{line_of_accepted, line_of_rejected, line_of_unpackable, line_of_usage};
 use crate::status::Status;
-use checker::{CheckFault, check};
+use adversary_graph::{AdvPool, refute};
+use algorithm_graph::{AlgPool, FileAlgorithm};
+use checker::{CheckFault, Wanted, check, load};
+use match_player::{AnswerFault, answer, answer_text, match_text};
+use online_play::{Online, Player};
 use port_io::Source;
 use std::alloc::{AllocError, Global};
+use strategy_text::{Side, Strategy, Text};
 
 /// A status, and the text that is due with it.
 #[derive(Drop)]
 pub(crate) struct Due {
     pub(crate) status: Status,
-    pub(crate) text: String,
+    pub(crate) text: Text,
 }
 
 /// Why nothing is due.
@@ -44,43 +56,161 @@ impl From<AllocError> for Stop {
 pub(crate) fn due_of<S: Source>(
     alloc: Global,
     words: &[String],
+    players: &Vec<Player>,
     source: &mut S,
 ) -> Result<Due, Stop>
     ensures count { S.faults source.old ≤ S.faults source.new }
-    ensures due { IfOk result (λ due. IsDue (spelling_of words.now) (S.left source.old) (S.left source.new) due.status
-        (string_bytes due.text)) }
-    ensures no_command { SpellsNone (spelling_of words.now) → (source.new ≡ source.old) × (result ≢ Err Read) }
+    ensures due { IfOk result (λ due. IsDue (record {
+      names = map (λ player. player.name) players.now.items;
+      answers = map (λ player. (⟦<dyn Online as Online>⟧ player.player.vtable).answer player.player.value) players.now.items;
+      words = spelling_of words.now;
+      left = S.left source.old;
+      new_left = S.left source.new;
+    }) due.status due.text) }
+    ensures no_command { SpellsNone (map (λ player. player.name) players.now.items) (spelling_of words.now)
+        → (source.new ≡ source.old) × (result ≢ Err Read) }
     ensures read { result ≡ Err Read → Rose (S.faults source.old) (S.faults source.new) }
-    ensures interrupted { result ≡ Err Read → IsInterrupted Either [] (S.left source.old) (S.left source.new) }
+    ensures interrupted { result ≡ Err Read → IsCutShort (record {
+      names = map (λ player. player.name) players.now.items;
+      answers = map (λ player. (⟦<dyn Online as Online>⟧ player.player.vtable).answer player.player.value) players.now.items;
+      words = spelling_of words.now;
+      left = S.left source.old;
+      new_left = S.left source.new;
+    }) }
 {
-    match command_of(words) {
-        Some(Command::Check) => due_of_check(alloc, words, source),
+    match read_words(alloc, words, players)? {
+        Some(command) => due_of_command(alloc, players, &command, source),
         None => Ok(Due {
             status: Status::Usage,
-            text: String::from_str(alloc, "usage\n")?,
+            text: line_of_usage(alloc)?,
         }),
     }
 }
 
-/// What a check comes to.
-fn due_of_check<S: Source>(alloc: Global, words: &[String], source: &mut S) -> Result<Due, Stop>
-    requires command { Spells (spelling_of words.now) Check }
+// What a command comes to.
+fn due_of_command<S: Source>(
+    alloc: Global,
+    players: &Vec<Player>,
+    command: &Command,
+    source: &mut S,
+) -> Result<Due, Stop>
+    requires player { IsOfPlayers (length players.now.items) command.now }
     ensures count { S.faults source.old ≤ S.faults source.new }
-    ensures due { IfOk result (λ due. IsDue (spelling_of words.now) (S.left source.old) (S.left source.new) due.status
-        (string_bytes due.text)) }
+    ensures due { IfOk result (λ due. IsOutcome (map (λ player. player.name) players.now.items)
+        (map (λ player. (⟦<dyn Online as Online>⟧ player.player.vtable).answer player.player.value) players.now.items) (S.left source.old) (S.left source.new)
+        command.now due.status due.text) }
     ensures read { result ≡ Err Read → Rose (S.faults source.old) (S.faults source.new) }
-    ensures interrupted { result ≡ Err Read → IsInterrupted Either [] (S.left source.old) (S.left source.new) }
+    ensures interrupted { result ≡ Err Read → IsInterrupted (wanted_by command.now) [] (S.left source.old)
+        (S.left source.new) }
+{
+    match command {
+        Command::Check => due_of_check(alloc, source),
+        Command::Play { player } => due_of_play(alloc, &players[*player], source),
+        Command::Answer { items } => due_of_answer(alloc, items.as_slice(), source),
+    }
+}
+
+// What a check comes to.
+fn due_of_check<S: Source>(alloc: Global, source: &mut S) -> Result<Due, Stop>
+    ensures count { S.faults source.old ≤ S.faults source.new }
+    ensures due { (names : List (List ℕ)) (answers : List (GameNumbers → List ℕ → ℕ)) → IfOk result (λ due.
+        IsOutcome names answers (S.left source.old) (S.left source.new) command.Check due.status due.text) }
+    ensures read { result ≡ Err Read → Rose (S.faults source.old) (S.faults source.new) }
+    ensures interrupted { result ≡ Err Read → IsInterrupted (wanted_by command.Check) [] (S.left source.old)
+        (S.left source.new) }
 {
     match check(alloc, source) {
         Ok(accepted) => Ok(Due {
             status: Status::Done,
             text: line_of_accepted(alloc, &accepted)?,
         }),
-        Err(CheckFault::Rejected { line, why }) => Ok(Due {
+        Err(fault) => due_of_fault(alloc, fault),
+    }
+}
+
+// What a play against this player comes to.
+fn due_of_play<S: Source>(alloc: Global, player: &Player, source: &mut S) -> Result<Due, Stop>
+    ensures count { S.faults source.old ≤ S.faults source.new }
+    ensures due { (names : List (List ℕ)) (answers : List (GameNumbers → List ℕ → ℕ)) (place : ℕ)
+        → slice_get names place ≡ Some player.now.name → slice_get answers place ≡ Some ((⟦<dyn Online as Online>⟧ player.now.player.vtable).answer player.now.player.value)
+        → IfOk result (λ due. IsOutcome names answers (S.left source.old) (S.left source.new) (command.Play place)
+        due.status due.text) }
+    ensures read { result ≡ Err Read → Rose (S.faults source.old) (S.faults source.new) }
+    ensures interrupted { (place : ℕ) → result ≡ Err Read → IsInterrupted (wanted_by (command.Play place)) []
+        (S.left source.old) (S.left source.new) }
+{
+    match load(alloc, source, Wanted::Only(Side::Adversary)) {
+        Ok(strategy) => due_of_refuted(alloc, player, strategy),
+        Err(fault) => due_of_fault(alloc, fault),
+    }
+}
+
+// What the answers to a list of items come to.
+fn due_of_answer<S: Source>(alloc: Global, items: &[u16], source: &mut S) -> Result<Due, Stop>
+    ensures count { S.faults source.old ≤ S.faults source.new }
+    ensures due { (names : List (List ℕ)) (answers : List (GameNumbers → List ℕ → ℕ)) → IfOk result (λ due.
+        IsOutcome names answers (S.left source.old) (S.left source.new) (command.Answer items.now) due.status
+        due.text) }
+    ensures read { result ≡ Err Read → Rose (S.faults source.old) (S.faults source.new) }
+    ensures interrupted { result ≡ Err Read → IsInterrupted (wanted_by (command.Answer items.now)) []
+        (S.left source.old) (S.left source.new) }
+{
+    match load(alloc, source, Wanted::Only(Side::Algorithm)) {
+        Ok(strategy) => due_of_replies(alloc, items, strategy),
+        Err(fault) => due_of_fault(alloc, fault),
+    }
+}
+
+// The line of the fault that was found, or why there is none.
+fn due_of_fault(alloc: Global, fault: CheckFault) -> Result<Due, Stop>
+    ensures line { (wanted : Wanted) (left new_left : Option (List ℕ)) → IsFaultOf wanted [] fault left new_left
+        → IfOk result (λ due. IsFaultLine wanted left new_left due) }
+    ensures read { result ≡ Err Read → fault ≡ check_fault.Read }
+{
+    match fault {
+        CheckFault::Rejected { line, why } => Ok(Due {
             status: Status::Rejected,
             text: line_of_rejected(alloc, line, why)?,
         }),
-        Err(CheckFault::Read) => Err(Stop::Read),
-        Err(CheckFault::Memory) => Err(Stop::Memory),
+        CheckFault::Read => Err(Stop::Read),
+        CheckFault::Memory => Err(Stop::Memory),
+    }
+}
+
+// The lines of the play of a legal strategy against a player.
+fn due_of_refuted(alloc: Global, player: &Player, strategy: Strategy) -> Result<Due, Stop>
+    requires legal { IsLegalOfAdversary strategy }
+    ensures play { IfOk result (λ due. (due.status ≡ Done) × IsPlayOf player.now.name ((⟦<dyn Online as Online>⟧ player.now.player.vtable).answer player.now.player.value) due.text strategy) }
+    ensures read { result ≢ Err Read }
+{
+    let game = strategy.game;
+    let pool = AdvPool::from_strategy(alloc, strategy)?;
+    let transcript = refute(alloc, &pool, pool.len() - 1, &player.player)?;
+    Ok(Due {
+        status: Status::Done,
+        text: match_text(alloc, player.name.as_str(), &game, &transcript)?,
+    })
+}
+
+// The lines of the replies of a legal strategy to a list of items.
+fn due_of_replies(alloc: Global, items: &[u16], strategy: Strategy) -> Result<Due, Stop>
+    requires legal { IsLegalOfAlgorithm strategy }
+    ensures replies { IfOk result (λ due. IsAnswered items.now strategy due) }
+    ensures read { result ≢ Err Read }
+{
+    let game = strategy.game;
+    let pool = AlgPool::from_strategy(alloc, strategy)?;
+    let root = pool.len() - 1;
+    let algorithm = FileAlgorithm::new(pool, root);
+    match answer(alloc, &algorithm, items) {
+        Ok(answered) => Ok(Due {
+            status: Status::Done,
+            text: answer_text(alloc, &game, &answered)?,
+        }),
+        Err(AnswerFault::Unpackable { place }) => Ok(Due {
+            status: Status::Unpackable,
+            text: line_of_unpackable(alloc, place)?,
+        }),
+        Err(AnswerFault::Memory) => Err(Stop::Memory),
     }
 }

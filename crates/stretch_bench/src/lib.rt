@@ -5,9 +5,11 @@ mod bench;
 mod command;
 mod due;
 mod lines;
+mod number;
 mod status;
 #[cfg(test)]
 mod tests;
 
 pub use bench::run_bench;
+pub use command::{Command, read_words};
 pub use status::Status;

@@ -1,7 +1,8 @@
 //! Worked cases of the program, and that memory is found.
 
 use crate::{Status, run_bench};
-use port_io::{MemSink, MemSource};
+use online_play::{BestFit, FirstFit, LeastLoaded, Name, Online, Player};
+use port_io::{MemSink, MemSource, Sink, Source};
 use std::alloc::{AllocError, Global};
 use std::test::Fail;
 
@@ -71,23 +72,49 @@ fn edited(alloc: Global, text: &str, from: &str, to: &str) -> Result<String, All
     Ok(edited)
 }
 
+// A player under its name.
+fn player(alloc: Global, name: &str, player: Box<dyn Online>) -> Result<Player, AllocError> {
+    Ok(Player {
+        name: Name::new(alloc, name)?,
+        player,
+    })
+}
+
+// The status of a run of these words against the three named players.
+fn run<S: Source, K: Sink>(
+    alloc: Global,
+    line: &str,
+    source: &mut S,
+    sink: &mut K,
+) -> Result<Status, AllocError> {
+    let words = words_of(alloc, line)?;
+    let mut players = Vec::new(alloc);
+    players.push(player(alloc, "first-fit", Box::new(alloc, FirstFit)?)?)?;
+    players.push(player(alloc, "best-fit", Box::new(alloc, BestFit)?)?)?;
+    players.push(player(alloc, "least-loaded", Box::new(alloc, LeastLoaded)?)?)?;
+    Ok(run_bench(alloc, words.as_slice(), &players, source, sink))
+}
+
+// The status of a run of these words, and what it wrote.
+fn ran(alloc: Global, line: &str, input: &[u8]) -> Result<(Status, Vec<u8>), AllocError> {
+    let mut source = MemSource::new(alloc, input, 64, &[])?;
+    let mut sink = MemSink::new(alloc, 1_000, 100, &[])?;
+    let status = run(alloc, line, &mut source, &mut sink)?;
+    Ok((status, Vec::from_slice(alloc, sink.bytes())?))
+}
+
 // The status of a check, and what it wrote.
 fn checked(alloc: Global, input: &[u8]) -> Result<(Status, Vec<u8>), AllocError> {
-    let words = words_of(alloc, "check")?;
-    let mut source = MemSource::new(alloc, input, 64, &[])?;
-    let mut sink = MemSink::new(alloc, 100, 100, &[])?;
-    let status = run_bench(alloc, words.as_slice(), &mut source, &mut sink);
-    Ok((status, Vec::from_slice(alloc, sink.bytes())?))
+    ran(alloc, "check", input)
 }
 
 #[test]
 fn a_legal_strategy_is_accepted_however_it_comes(rt: HostRuntime) -> Result<(), Fail> {
     let alloc = rt.alloc();
-    let words = words_of(alloc, "check")?;
     for step in [1, 7, 4_096] {
         let mut source = MemSource::new(alloc, LEGAL.as_bytes(), step, &[])?;
         let mut sink = MemSink::new(alloc, 100, step, &[])?;
-        let status = run_bench(alloc, words.as_slice(), &mut source, &mut sink);
+        let status = run(alloc, "check", &mut source, &mut sink)?;
         assert_eq!(rt; status, Status::Done, "by {step}");
         assert_eq!(rt; sink.bytes(), ACCEPTED.as_bytes(), "by {step}");
     }
@@ -115,6 +142,100 @@ fn strategies_of_both_sides_and_formats_are_accepted(rt: HostRuntime) -> Result<
         let (status, written) = checked(alloc, text.as_bytes())?;
         assert_eq!(rt; written.as_slice(), line.as_bytes());
         assert_eq!(rt; status, Status::Done);
+    }
+    Ok(())
+}
+
+// A strategy of the algorithm in format 2.
+const WITH_BIG: &str = "\
+stretch 2
+game 2 2 3
+side algorithm
+nodes 6
+0 loads 2 0 items 1 1 finish
+1 loads 2 1 items 1 2 finish
+2 loads 1 0 items 1 reply 1 on 1 to 0 2 on 0 to 1
+3 loads 2 2 items 2 2 big 0
+4 loads 2 0 items 2 reply 1 on 0 to 1 2 on 0 to 3
+5 loads 0 0 items - reply 1 on 0 to 2 2 on 0 to 4
+end
+";
+
+#[test]
+fn plays_and_answers_are_written(rt: HostRuntime) -> Result<(), Fail> {
+    let alloc = rt.alloc();
+    let cases = [
+        (
+            "play first-fit",
+            LEGAL,
+            Status::Done,
+            "play first-fit 2 3 4\nitems 1 1 2 2\nbins 0 0 1 0\nloads 4 2\npack 1 2 / 1 2\n",
+        ),
+        (
+            "play least-loaded",
+            LEGAL,
+            Status::Done,
+            "play least-loaded 2 3 4\nitems 1 1 3\nbins 0 1 0\nloads 4 1\npack 3 / 1 1\n",
+        ),
+        (
+            "play best-fit",
+            WITH_BURSTS,
+            Status::Done,
+            "play best-fit 2 3 4\nitems 1 1 2 2\nbins 0 0 1 0\nloads 4 2\npack 1 2 / 1 2\n",
+        ),
+        (
+            "play first-fit",
+            OF_ALGORITHM,
+            Status::Rejected,
+            "rejected line 3 rule side\n",
+        ),
+        (
+            "answer 1 2 1",
+            OF_ALGORITHM,
+            Status::Done,
+            "answer 2 2 3\nitems 1 2 1\nbins 0 1 0\nloads 2 2\n",
+        ),
+        (
+            "answer",
+            OF_ALGORITHM,
+            Status::Done,
+            "answer 2 2 3\nitems -\nbins -\nloads 0 0\n",
+        ),
+        (
+            "answer 1 1 2 1",
+            OF_ALGORITHM,
+            Status::Unpackable,
+            "unpackable 4\n",
+        ),
+        (
+            "answer 3",
+            OF_ALGORITHM,
+            Status::Unpackable,
+            "unpackable 1\n",
+        ),
+        (
+            "answer 65535 1",
+            OF_ALGORITHM,
+            Status::Unpackable,
+            "unpackable 1\n",
+        ),
+        (
+            "answer 2 2",
+            WITH_BIG,
+            Status::Done,
+            "answer 2 2 3\nitems 2 2\nbins 0 1\nloads 2 2\n",
+        ),
+        (
+            "answer 3",
+            LEGAL,
+            Status::Rejected,
+            "rejected line 3 rule side\n",
+        ),
+    ];
+    for (words, text, due, lines) in cases {
+        let (status, written) = ran(alloc, words, text.as_bytes())?;
+        assert_eq!(rt; written.as_slice(), lines.as_bytes(), "for {words:?}");
+        assert_eq!(rt; status, due, "for {words:?}");
     }
     Ok(())
 }
@@ -255,6 +376,14 @@ fn other_words_give_usage_and_read_nothing(rt: HostRuntime) -> Result<(), Fail> 
     let lines = [
         "",
         "check now",
+        "play",
+        "play first-fit x",
+        "play first",
+        "answer 0",
+        "answer x",
+        "answer 1 65536",
+        "answer +1",
+        "answer 1 -",
         "Check",
         "checks",
         "play nobody",
@@ -262,10 +391,9 @@ fn other_words_give_usage_and_read_nothing(rt: HostRuntime) -> Result<(), Fail> 
         "search 2 3 3 budget=1 table=1",
     ];
     for line in lines {
-        let words = words_of(alloc, line)?;
         let mut source = MemSource::new(alloc, LEGAL.as_bytes(), 64, &[1])?;
         let mut sink = MemSink::new(alloc, 100, 100, &[])?;
-        let status = run_bench(alloc, words.as_slice(), &mut source, &mut sink);
+        let status = run(alloc, line, &mut source, &mut sink)?;
         assert_eq!(rt; status, Status::Usage, "for {line:?}");
         assert_eq!(rt; sink.bytes(), b"usage\n".as_slice(), "for {line:?}");
     }
@@ -275,11 +403,10 @@ fn other_words_give_usage_and_read_nothing(rt: HostRuntime) -> Result<(), Fail> 
 #[test]
 fn a_failing_read_writes_nothing(rt: HostRuntime) -> Result<(), Fail> {
     let alloc = rt.alloc();
-    let words = words_of(alloc, "check")?;
     for (step, failing) in [(4_096, 1), (4_096, 2), (100, 3), (1, 327)] {
         let mut source = MemSource::new(alloc, LEGAL.as_bytes(), step, &[failing])?;
         let mut sink = MemSink::new(alloc, 100, 100, &[])?;
-        let status = run_bench(alloc, words.as_slice(), &mut source, &mut sink);
+        let status = run(alloc, "check", &mut source, &mut sink)?;
         assert_eq!(rt; status, Status::ReadFault, "at read {failing}");
         assert_eq!(rt; sink.bytes(), b"".as_slice(), "at read {failing}");
     }
@@ -291,11 +418,10 @@ fn a_fault_in_a_line_that_was_read_is_answered_before_a_failing_read(
     rt: HostRuntime,
 ) -> Result<(), Fail> {
     let alloc = rt.alloc();
-    let words = words_of(alloc, "check")?;
     let input = edited(alloc, LEGAL, "on 2 over\n1", "on 2 to 0\n1")?;
     let mut source = MemSource::new(alloc, input.as_bytes(), 1, &[101])?;
     let mut sink = MemSink::new(alloc, 100, 100, &[])?;
-    let status = run_bench(alloc, words.as_slice(), &mut source, &mut sink);
+    let status = run(alloc, "check", &mut source, &mut sink)?;
     assert_eq!(rt; status, Status::Rejected);
     assert_eq!(rt; sink.bytes(), b"rejected line 5 rule over\n".as_slice());
     Ok(())
@@ -304,18 +430,17 @@ fn a_fault_in_a_line_that_was_read_is_answered_before_a_failing_read(
 #[test]
 fn a_failing_write_leaves_a_prefix_of_the_line(rt: HostRuntime) -> Result<(), Fail> {
     let alloc = rt.alloc();
-    let words = words_of(alloc, "check")?;
     for room in [0, 1, 20, 32] {
         let mut source = MemSource::new(alloc, LEGAL.as_bytes(), 64, &[])?;
         let mut sink = MemSink::new(alloc, room, 7, &[])?;
-        let status = run_bench(alloc, words.as_slice(), &mut source, &mut sink);
+        let status = run(alloc, "check", &mut source, &mut sink)?;
         assert_eq!(rt; status, Status::WriteFault, "with room {room}");
         let prefix = ACCEPTED.as_bytes().get(..room).unwrap_or(b"none");
         assert_eq!(rt; sink.bytes(), prefix, "with room {room}");
     }
     let mut source = MemSource::new(alloc, LEGAL.as_bytes(), 64, &[])?;
     let mut sink = MemSink::new(alloc, 100, 100, &[1])?;
-    let status = run_bench(alloc, words.as_slice(), &mut source, &mut sink);
+    let status = run(alloc, "check", &mut source, &mut sink)?;
     assert_eq!(rt; status, Status::WriteFault);
     assert_eq!(rt; sink.bytes(), b"".as_slice());
     Ok(())

@@ -1,5 +1,5 @@
 use Rattle.stretch_bench.proofs.LineLemmas.{said, syntax_text, rule_text}
-use Rattle.stretch_bench.proofs.lines.line_of_rejected.Goals as goal
+use Rattle.stretch_bench.proofs.lines.rejected_words.Goals as goal
 
 pub returns-in-Syntax : goal.returns-in-Syntax
 returns-in-Syntax c = said _ _ _ c.format.ensures.ok (syntax_text c.args.line c.args.why c.in-Syntax.is)

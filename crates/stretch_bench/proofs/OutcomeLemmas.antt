@@ -1,0 +1,171 @@
+-- What the work of a command comes to.
+use Rattle.std.proofs.Common.{◌≡◌, ◌≤◌, ◌<◌, ◌+◌, ◌-◌, ℕ, List, [], length, map, get_or, Option, Some, Result, Ok, Err, IfOk, inl, inr, sym, ap, subst, refl, ◌∙◌, arith}
+use Rattle.std.specs.Prelude.{slice_get, All, MatchOption}
+use Rattle.std.proofs.lemmas.List.{length-map, take_all}
+use Rattle.std.proofs.lemmas.Option.{slice_get_within}
+use Rattle.items.specs.Game.{GameNumbers}
+use Rattle.items.specs.Multiset.{sizes_of}
+use Rattle.items.specs.Packable.{Packable}
+use Rattle.online_play.specs.Algorithm.{run}
+use Rattle.online_play.specs.declared.transcript.Transcript.{Transcript}
+use Rattle.strategy_text.specs.Text.{side_of}
+use Rattle.strategy_text.specs.declared.node.AdvNode.{AdvNode}
+use Rattle.strategy_text.specs.declared.node.AlgNode.{AlgNode}
+use Rattle.strategy_text.specs.declared.node.Format.{Format}
+use Rattle.strategy_text.specs.declared.node.Nodes.{Nodes}
+use Rattle.strategy_text.specs.declared.node.Nodes.TheVariants as nodes_of_side
+use Rattle.strategy_text.specs.declared.node.Side.TheVariants.{Adversary, Algorithm}
+use Rattle.strategy_text.specs.declared.node.Strategy.{Strategy}
+use Rattle.adversary_graph.specs.Play.{IsLost, play}
+use Rattle.adversary_graph.specs.Playing.{play_of}
+use Rattle.adversary_graph.specs.Pools as adversary
+use Rattle.algorithm_graph.specs.Pools as algorithm
+use Rattle.algorithm_graph.specs.Replies.{replies}
+use Rattle.checker.specs.Head.{AreLegalNodes}
+use Rattle.checker.specs.Accepted.{Loads, IsFaultOf, IsInterrupted}
+use Rattle.checker.specs.declared.fault.CheckFault.{CheckFault}
+use Rattle.checker.specs.declared.fault.CheckFault.TheVariants as check_fault
+use Rattle.checker.specs.declared.fault.Wanted.{Wanted}
+use Rattle.checker.specs.declared.fault.Wanted.TheVariants.{Either, Only}
+use Rattle.checker.specs.declared.fault.Why.{Why}
+use Rattle.match_player.specs.Answers.{IsLeastUnpackable, answered_by}
+use Rattle.match_player.specs.declared.answered.Answered.{Answered}
+use Rattle.match_player.specs.Lines.{play_text, answer_text}
+use Rattle.stretch_bench.specs.declared.command.Command.{Command}
+use Rattle.stretch_bench.specs.declared.command.Command.TheVariants.{Check, Play, Answer}
+use Rattle.stretch_bench.specs.declared.due.Due.{Due}
+use Rattle.stretch_bench.specs.declared.status.Status.{Status}
+use Rattle.stretch_bench.specs.declared.status.Status.TheVariants.{Done, Rejected, Usage, Undecided, ReadFault, WriteFault, OutOfMemory, Unpackable}
+use Rattle.stretch_bench.specs.Due.{IsAnswerOf, IsDue, IsOutcome, IsPlayOf, IsRead, IsRejected, IsUnpackable, wanted_by}
+use Rattle.stretch_bench.specs.Lines.{rejected_line, unpackable_line, usage_line}
+use Rattle.stretch_bench.specs.Outcomes.{IsAnswered, IsFaultLine, IsOfPlayers, IsReply}
+use Rattle.stretch_bench.specs.Words.{Spells, SpellsNone}
+use Rattle.stretch_bench.proofs.WordLemmas.{named_at}
+
+-- the player of a command that is spelled is one of the list
+pub of_players : (names words : List (List ℕ)) (number : ℕ) (command : Command) → length names ≡ number → Spells names words command → IsOfPlayers number command
+of_players names words number Check n spelled = tt
+of_players names words number (Play place) n spelled = omega (arith, slice_get_within names place spelled.0 spelled.2.here, n)
+of_players names words number (Answer items) n spelled = tt
+
+module _ (names : List (List ℕ)) (answers : List (GameNumbers → List ℕ → ℕ)) (left new_left : Option (List ℕ)) where
+  fault_status : (command : Command) (status : Status) (text : List ℕ) → status ≡ Rejected → IsRejected (wanted_by command) left new_left text
+      → IsOutcome names answers left new_left command status text
+  fault_status command status text e rejected = subst (λ s. IsOutcome names answers left new_left command s text) (sym e) rejected
+
+  play_status : (place : ℕ) (name : List ℕ) (answer : GameNumbers → List ℕ → ℕ) (strategy : Strategy) (status : Status) (text : List ℕ)
+      → slice_get names place ≡ Some name → slice_get answers place ≡ Some answer → Loads (Only Adversary) strategy left new_left
+      → status ≡ Done → IsPlayOf name answer text strategy → IsOutcome names answers left new_left (Play place) status text
+  play_status place name answer strategy status text named so loads e is =
+      subst (λ s. IsOutcome names answers left new_left (Play place) s text) (sym e)
+      (record { name = name; named = named; answer = answer; answers_so = so; read = record { strategy = strategy; loads = loads; is = is } })
+
+  reply_status : (items : List ℕ) (strategy : Strategy) (status : Status) (text : List ℕ) → Loads (Only Algorithm) strategy left new_left
+      → IsReply items strategy status text → IsOutcome names answers left new_left (Answer items) status text
+  reply_status items strategy Done text loads is = record { strategy = strategy; loads = loads; is = is }
+  reply_status items strategy Unpackable text loads is = record { strategy = strategy; loads = loads; is = is }
+  reply_status items strategy Rejected text loads is = absurd is
+  reply_status items strategy Usage text loads is = absurd is
+  reply_status items strategy Undecided text loads is = absurd is
+  reply_status items strategy ReadFault text loads is = absurd is
+  reply_status items strategy WriteFault text loads is = absurd is
+  reply_status items strategy OutOfMemory text loads is = absurd is
+
+module _ {E : Type 0} (names : List (List ℕ)) (answers : List (GameNumbers → List ℕ → ℕ)) (left new_left : Option (List ℕ)) where
+  -- the outcome of a command that is spelled is due
+  pub outcome_due : (words : List (List ℕ)) (command : Command) (r : Result Due E) → Spells names words command
+      → IfOk r (λ due. IsOutcome names answers left new_left command due.status due.text)
+      → IfOk r (λ due. IsDue (record { names = names; answers = answers; words = words; left = left; new_left = new_left }) due.status due.text)
+  outcome_due words command (Ok due) spelled outcome = inl (command, spelled, outcome)
+  outcome_due words command (Err e) spelled outcome = tt
+
+  -- the outcome of a command under another name
+  pub same_outcome : (one other : Command) (r : Result Due E) → one ≡ other
+      → IfOk r (λ due. IsOutcome names answers left new_left other due.status due.text)
+      → IfOk r (λ due. IsOutcome names answers left new_left one due.status due.text)
+  same_outcome one other r e outcome =
+      subst (λ command. IfOk r (λ due. IsOutcome names answers left new_left command due.status due.text)) (sym e) outcome
+
+  -- the line of a first fault is an outcome
+  pub fault_outcome : (command : Command) (r : Result Due E) → IfOk r (λ due. IsFaultLine (wanted_by command) left new_left due)
+      → IfOk r (λ due. IsOutcome names answers left new_left command due.status due.text)
+  fault_outcome command (Ok due) line = fault_status names answers left new_left command due.status due.text line.status line.rejected
+  fault_outcome command (Err e) line = tt
+
+  -- the play of a strategy that was read
+  pub play_outcome : (place : ℕ) (name : List ℕ) (answer : GameNumbers → List ℕ → ℕ) (strategy : Strategy) (r : Result Due E)
+      → slice_get names place ≡ Some name → slice_get answers place ≡ Some answer → Loads (Only Adversary) strategy left new_left
+      → IfOk r (λ due. (due.status ≡ Done) × IsPlayOf name answer due.text strategy)
+      → IfOk r (λ due. IsOutcome names answers left new_left (Play place) due.status due.text)
+  play_outcome place name answer strategy (Ok due) named so loads is = play_status names answers left new_left place name answer strategy due.status due.text named so loads is.0 is.1
+  play_outcome place name answer strategy (Err e) named so loads is = tt
+
+  -- the replies of a strategy that was read
+  pub reply_outcome : (items : List ℕ) (strategy : Strategy) (r : Result Due E) → Loads (Only Algorithm) strategy left new_left
+      → IfOk r (λ due. IsAnswered items strategy due) → IfOk r (λ due. IsOutcome names answers left new_left (Answer items) due.status due.text)
+  reply_outcome items strategy (Ok due) loads is = reply_status names answers left new_left items strategy due.status due.text loads is
+  reply_outcome items strategy (Err e) loads is = tt
+
+-- ---- legal strategies of a side
+
+pub legal_adversary : (format : Format) (game : GameNumbers) (nodes : Nodes) → AreLegalNodes format game (sizes_of game) nodes → Adversary ≡ side_of nodes
+    → adversary.AreLegal format game nodes
+legal_adversary format game (nodes_of_side.Adversary list) legal e = legal
+legal_adversary format game (nodes_of_side.Algorithm list) legal e = absurd cc
+
+pub legal_algorithm : (format : Format) (game : GameNumbers) (nodes : Nodes) → AreLegalNodes format game (sizes_of game) nodes → Algorithm ≡ side_of nodes
+    → algorithm.AreLegal format game nodes
+legal_algorithm format game (nodes_of_side.Adversary list) legal e = absurd cc
+legal_algorithm format game (nodes_of_side.Algorithm list) legal e = legal
+
+-- the replies of a pool's nodes are those of the strategy that it was made from
+pub answer_of : (strategy : Strategy) (pool file : algorithm.Pool) (root : ℕ) (items text : List ℕ) (answered : Answered) → strategy ≡ algorithm.strategy_of pool
+    → algorithm.IsRoot pool.nodes (length pool.nodes - 1) → root ≡ length pool.nodes - 1
+    → file ≡ algorithm.pool_of pool.format pool.game (algorithm.nodes_up_to root pool.nodes) → Packable file.game items
+    → answered ≡ answered_by file.game (replies file.game file.nodes) items → All (λ load. load < file.game.target) answered.loads
+    → text ≡ answer_text strategy.game answered → IsAnswerOf items text strategy
+answer_of strategy pool file root items text answered e is_root last same packable is below lines =
+    let some = slice_get_within pool.nodes (length pool.nodes - 1) is_root.0 is_root.1 in
+    let all : algorithm.nodes_up_to root pool.nodes ≡ pool.nodes = take_all (root + 1) pool.nodes (omega (arith, last, some)) in
+    let file_is : file ≡ pool = same ∙ ap (λ nodes. algorithm.pool_of pool.format pool.game nodes) all in
+    let answers : answered ≡ answered_by pool.game (replies pool.game pool.nodes) items =
+    is ∙ ap (λ (f : algorithm.Pool). answered_by f.game (replies f.game f.nodes) items) file_is in
+    let made : IsAnswerOf items text (algorithm.strategy_of pool) = record {
+      nodes = pool.nodes;
+      of_algorithm = refl;
+      packable = subst (λ (f : algorithm.Pool). Packable f.game items) file_is packable;
+      below = subst (λ (a : Answered). All (λ load. load < pool.game.target) a.loads) answers
+          (subst (λ (f : algorithm.Pool). All (λ load. load < f.game.target) answered.loads) file_is below);
+      lines = lines ∙ ap (λ (s : Strategy). answer_text s.game answered) e ∙ ap (answer_text pool.game) answers;
+    } in
+    subst (IsAnswerOf items text) (sym e) made
+
+-- the play of a pool's nodes is that of the strategy that it was made from
+pub play_of_pool : (name : List ℕ) (answer : GameNumbers → List ℕ → ℕ) (strategy : Strategy) (pool : adversary.Pool) (root : ℕ) (text : List ℕ)
+    (transcript : Transcript) → strategy ≡ adversary.strategy_of pool → root ≡ length pool.nodes - 1
+    → play pool.game pool.nodes root (answer pool.game) ≡ Some (play_of transcript) → IsLost pool.game (play_of transcript)
+    → text ≡ play_text name strategy.game transcript → IsPlayOf name answer text strategy
+play_of_pool name answer strategy pool root text transcript e last played lost lines =
+    let made : IsPlayOf name answer text (adversary.strategy_of pool) = record {
+      nodes = pool.nodes;
+      of_adversary = refl;
+      transcript = transcript;
+      played = subst (λ r. play pool.game pool.nodes r (answer pool.game) ≡ Some (play_of transcript)) last played;
+      lost = lost;
+      lines = lines ∙ ap (λ (s : Strategy). play_text name s.game transcript) e;
+    } in
+    subst (IsPlayOf name answer text) (sym e) made
+
+-- ---- faults
+
+-- a fault of a line is its line
+pub line_of_fault : {E : Type 0} (fault : CheckFault) (line : ℕ) (why : Why) (r : Result (List ℕ) E) (wanted : Wanted) (left new_left : Option (List ℕ)) (text : List ℕ)
+    → fault ≡ check_fault.Rejected line why → text ≡ rejected_line line why → IsFaultOf wanted [] fault left new_left
+    → IsRejected wanted left new_left text
+line_of_fault fault line why r wanted left new_left text e is of =
+    record { at = line; why = why; rejects = subst (λ f. IsFaultOf wanted [] f left new_left) e of; line = is }
+
+-- the command that was read is spelled
+pub spelled_of : (names words : List (List ℕ)) (r : Option Command) (command : Command) → MatchOption r (SpellsNone names words) (Spells names words)
+    → r ≡ Some command → Spells names words command
+spelled_of names words r command told is = subst (λ o. MatchOption o (SpellsNone names words) (Spells names words)) is told

@@ -1,0 +1,31 @@
+//! The numbers that words tell.
+
+ghost use Rattle.std.specs.Prelude.{◌≡◌, ◌≢◌, ◌≤◌, ◌↔◌, ℕ, IsTrue, MatchOption, decimal};
+
+/// The number from `low` to `high` that a word spells in decimal digits without a leading zero.
+pub(crate) fn number_of(word: &str, low: u64, high: u64) -> Option<u64>
+    ensures exact { MatchOption result
+        ((n : ℕ) → low ≤ n → n ≤ high → word.now ≢ decimal n)
+        (λ n. (word.now ≡ decimal n) × (low ≤ n) × (n ≤ high)) }
+{
+    let Ok(number) = word.parse::<u64>() else {
+        return None;
+    };
+    if !is_spelled(word, number) {
+        return None;
+    }
+    if number < low {
+        return None;
+    }
+    if number > high {
+        return None;
+    }
+    Some(number)
+}
+
+// Whether a word is the decimal digits of a number. The standard library also reads a sign and leading zeros.
+fn is_spelled(word: &str, number: u64) -> bool
+    ensures exact { IsTrue result ↔ (word.now ≡ decimal number) }
+{
+    itoa::Buffer::new().format(number) == word
+}
