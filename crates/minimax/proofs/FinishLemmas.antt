@@ -1,0 +1,59 @@
+-- Positions that finish are never won.
+use Rattle.std.proofs.Common.{◌≡◌, ℕ, zero, suc, ◌+◌, ◌<◌, Bool, List, [], ◌∷◌, ◌++◌, Contains, length, get_or, set, subst}
+use Rattle.std.proofs.Common.{arith, get_or-set_same, inl, inr}
+use Rattle.std.proofs.lemmas.List.{get_or_default, length-set}
+use Rattle.items.specs.Game.{GameNumbers, IsGame}
+use Rattle.items.specs.Packable.{Packable}
+use Rattle.items.proofs.SameLemmas.{Same-refl}
+use Rattle.loads.specs.After.{after}
+use Rattle.loads.specs.Wins.{Wins}
+use Rattle.loads.specs.declared.position.Position.{Position}
+use Rattle.good_situations.specs.Finish.{Finishes}
+use Rattle.good_situations.specs.KeptOrder.{KeptOrder, finish_bin, kept_order}
+use Rattle.good_situations.proofs.KeepingLemmas.{finish_stays_below, finishes_after}
+use Rattle.good_situations.proofs.OrderLemmas.{IsOrderOf-kept_order, finish_bin-lt}
+use Rattle.minimax.specs.State.{IsNeverWon, IsPlayable}
+use Rattle.minimax.proofs.PlayableLemmas.{IsPlayable-after}
+
+-- a load that stays below the target with a size
+pub record IsLoadFor (game : GameNumbers) (position : Position) (size : ℕ) : Type 0 where
+  pub load : ℕ
+  pub member : Contains position.loads load
+  pub below : load + size < game.target
+
+pub load_below : (game : GameNumbers) (position : Position) (size : ℕ) → IsGame game → IsPlayable game position → Finishes game position.loads
+    → Packable game (position.items ++ size ∷ []) → IsLoadFor game position size
+load_below game position size g p finishes packable =
+    let loads = position.loads in
+    let order : KeptOrder = kept_order game loads 0 in
+    let bin : ℕ = finish_bin game order loads size in
+    let len : length loads ≡ game.bins = p.loads.one_each in
+    let within : bin < length loads = omega (arith, len, finish_bin-lt game order loads size game.bins (IsOrderOf-kept_order game loads 0 len (omega (arith, g.bins.low)))) in
+    let stays = finish_stays_below game loads position.items loads (size ∷ []) g
+    (record { legal = p.loads; renamed = Same-refl loads; total = p.items.total }) finishes packable in
+    let placed : List ℕ = set loads bin (get_or loads bin 0 + size) in
+    let in_placed : bin < length placed = omega (arith, within, length-set loads bin (get_or loads bin 0 + size)) in
+    let here : get_or placed bin 0 < game.target = stays bin 0 in_placed in
+    record {
+      load = get_or loads bin 0;
+      member = (bin, within, get_or_default loads bin _ _ within);
+      below = subst (λ n. n < game.target) (get_or-set_same loads bin (get_or loads bin 0 + size) 0 within) here;
+    }
+
+finish_not_won : (game : GameNumbers) (allowed : List ℕ → ℕ → Bool) (n : ℕ) (position : Position) → IsGame game → IsPlayable game position
+    → Finishes game position.loads → Wins game allowed n position → ⊥
+unfolding Wins
+finish_not_won game allowed zero position g p finishes wins = wins
+finish_not_won game allowed (suc n) position g p finishes wins =
+    let size = wins.0 in
+    let w = wins.1 in
+    let l = load_below game position size g p finishes w.may_come in
+    elim (w.each_load l.load l.member) [
+      | inl over ↦ omega (arith, over, l.below)
+      | inr v ↦ finish_not_won game allowed n (after position l.load size) g (IsPlayable-after game position l.load size p l.member l.below w.may_come)
+          (finishes_after game position.loads l.load size p.loads l.member l.below finishes) v
+    ]
+
+pub IsNeverWon-finish : (game : GameNumbers) (position : Position) → IsGame game → IsPlayable game position → Finishes game position.loads
+    → IsNeverWon game position
+IsNeverWon-finish game position g p finishes = λ allowed won. finish_not_won game allowed won.0 position g p finishes won.1

@@ -1,0 +1,476 @@
+-- How many positions are still to be visited, and what is left of a budget where the table has room for all ends.
+use Rattle.std.proofs.Common.{◌≡◌, ◌≢◌, ℕ, zero, suc, ◌+◌, ◌-◌, ◌*◌, ◌<◌, ◌≤◌, Bool, true, false, cond, not, ◌&&◌, eqb, Option, Some, None}
+use Rattle.std.proofs.Common.{List, [], ◌∷◌, ◌++◌, length, refl, sym, ap, ◌∙◌, subst, inl, inr, arith, rules}
+use Rattle.std.specs.Prelude.{AllPairs, Contains, IsSome, count_by, if◌then◌else◌, sum, sum_by, ◌==◌}
+use Rattle.std.specs.Cmp.{IsEquivalence}
+use Rattle.std.specs.Cmp.Lexicographic.{pointwise, same_text}
+use Rattle.std.specs.Cmp.Rules.{comparing}
+use Rattle.std.specs.List.{range_with_len}
+use Rattle.std.proofs.Math.Bool.{and-true}
+use Rattle.std.proofs.lemmas.Bool.{and_from, and_right, cases_lt, eq-eqb, eqb-true, false_from_ne_true, not_from_false, not_from_true}
+use Rattle.std.proofs.lemmas.List.FromFn.{length-range_with_len, sum_by-map-range_with_len_more}
+use Rattle.std.proofs.lemmas.List.Sums.{count_by-le-length, sum-map, sum_by-cons, sum_by-le}
+use Rattle.items.specs.Game.{GameNumbers}
+use Rattle.items.specs.Multiset.{sizes_of}
+use Rattle.items.specs.Packable.{Packable}
+use Rattle.items.proofs.MultisetLemmas.{sum-put_ascending}
+use Rattle.loads.specs.After.{after}
+use Rattle.loads.specs.Packed.{are_equal}
+use Rattle.loads.specs.Position.{position as position_with}
+use Rattle.loads.specs.Wins.{empty_position}
+use Rattle.loads.specs.declared.position.Position.{Position}
+use Rattle.packing_witness.proofs.PackingLemmas.{size_of_last}
+use Rattle.monotone.specs.Paths.{IsLegalFrom}
+use Rattle.monotone.specs.Positions.{CountsAllEnds, CountsEndsOfPass, IsEnd}
+use Rattle.monotone.specs.Visits.{Metered, counted, unused, visit}
+use Rattle.monotone.specs.declared.meter.VisitFault.{VisitFault}
+use Rattle.monotone.specs.declared.meter.VisitFault.TheVariants.{Memory, Spent}
+use Rattle.monotone.specs.declared.path.PathMove.{PathMove}
+use Rattle.monotone.proofs.EndsLemmas.{ends_are_counted, last_pass_has_most}
+use Rattle.monotone.proofs.ListLemmas.{AllPairs-first, AllPairs-tail, Contains-first, Contains-later, Contains-nothing, Contains-split, all_range}
+use Rattle.monotone.proofs.PassLemmas.{allowed_later, both_true}
+use Rattle.transposition.specs.Bounded.{IsBoundedMap, Puts, SameEntries, bounded}
+use Rattle.transposition.specs.Memo.{verdict_of}
+use Rattle.transposition.specs.declared.verdict.Verdict.{Verdict}
+use Rattle.transposition.specs.declared.verdict.Verdict.TheVariants.{Adversary, Algorithm, Held}
+use Rattle.transposition.proofs.RoomLemmas.{new_positions_find_room}
+use Rattle.minimax.specs.Answers.{IsAnswer, IsDecided}
+use Rattle.minimax.specs.declared.answer.Answer.{Answer}
+use Rattle.minimax.specs.declared.answer.Answer.TheVariants as Answers
+use Rattle.minimax.specs.Budgets.{AreNumbersOfEnds, HasRoom, IsOfAdversary, ends_before}
+use Rattle.minimax.specs.Fresh.{AreOfEnds, CountsFresh, IsLessThanEnds, IsShort, IsWithin, IsWithinEnds, Looks, Progress, but, counted_and_fresh}
+use Rattle.minimax.specs.Fresh.{is_fresh, number_fresh, progress}
+use Rattle.minimax.specs.State.{IsOfPass, IsWonIn, StandsAtPath, allowed_by}
+
+-- ---- equal positions
+
+equal_positions : IsEquivalence are_equal
+equal_positions = search (comparing, rules)
+
+pub are_equal-told : (p q : Position) → are_equal p q ≡ true → p ≡ q
+are_equal-told p q h =
+    let both = (both_true (pointwise ◌==◌ p.loads q.loads) (pointwise ◌==◌ p.items q.items)).0 h in
+    ap (λ loads. position_with loads p.items) (same_text p.loads q.loads (sym both.0)) ∙ ap (position_with q.loads) (same_text p.items q.items (sym both.1))
+
+are_equal-apart : (p q : Position) → (p ≡ q → ⊥) → are_equal p q ≡ false
+are_equal-apart p q apart = false_from_ne_true (are_equal p q) (λ e. apart (are_equal-told p q e))
+
+but-here : (looked : Position → Bool) (p : Position) → but looked p p ≡ false
+but-here looked p = and_right (looked p) (not (are_equal p p)) (not_from_true (are_equal p p) (equal_positions.refl p))
+
+but-other : (looked : Position → Bool) (p q : Position) → (p ≡ q → ⊥) → but looked p q ≡ looked q
+but-other looked p q apart = ap (λ b. looked q && not b) (are_equal-apart p q apart) ∙ and-true (looked q)
+
+-- another position that is looked at still is
+pub but-keeps : (looked : Position → Bool) (p q : Position) → looked q ≡ true → (p ≡ q → ⊥) → but looked p q ≡ true
+but-keeps looked p q is apart = but-other looked p q apart ∙ is
+
+-- ---- counts by a test
+
+count_by-first : (f : Position → Bool) (p : Position) (ps : List Position) → count_by f (p ∷ ps) ≡ cond (f p) 1 0 + count_by f ps
+count_by-first f p ps = sum_by-cons (λ x. cond (f x) 1 0) p ps
+
+-- tests that agree on a list
+count_by-alike : (f g : Position → Bool) (ps : List Position) → ((p : Position) → Contains ps p → f p ≡ g p) → count_by f ps ≡ count_by g ps
+count_by-alike f g [] h = refl
+count_by-alike f g (p ∷ ps) h =
+    count_by-first f p ps
+    ∙ ap (λ b. cond b 1 0 + count_by f ps) (h p (Contains-first p ps))
+    ∙ ap (λ n. cond (g p) 1 0 + n) (count_by-alike f g ps (λ q c. h q (Contains-later p ps q c)))
+    ∙ sym (count_by-first g p ps)
+
+one_here : (a b c d : ℕ) → a ≡ 1 + b → c ≡ 0 + d → b ≡ d → a ≡ c + 1
+one_here a b c d l r e = omega (arith, l, r, e)
+
+one_later : (a b c d k : ℕ) → a ≡ k + b → c ≡ k + d → b ≡ d + 1 → a ≡ c + 1
+one_later a b c d k l r e = omega (arith, l, r, e)
+
+-- tests that agree but at one element of a list in which nothing stands twice
+count_by-but_one : (f g : Position → Bool) (one : Position) (ps : List Position) → f one ≡ true → g one ≡ false
+    → ((q : Position) → (one ≡ q → ⊥) → f q ≡ g q) → AllPairs ◌≢◌ ps → Contains ps one → count_by f ps ≡ count_by g ps + 1
+count_by-but_one f g one [] is none same once c = absurd (Contains-nothing one c)
+count_by-but_one f g one (p ∷ ps) is none same once c = elim (Contains-split p ps one c) [
+  | inl e ↦ one_here (count_by f (p ∷ ps)) (count_by f ps) (count_by g (p ∷ ps)) (count_by g ps)
+      (count_by-first f p ps ∙ ap (λ b. cond b 1 0 + count_by f ps) (ap f e ∙ is))
+      (count_by-first g p ps ∙ ap (λ b. cond b 1 0 + count_by g ps) (ap g e ∙ none))
+      (count_by-alike f g ps (λ q among. same q (λ s. AllPairs-first ◌≢◌ p ps q once among (e ∙ s))))
+  | inr later ↦ one_later (count_by f (p ∷ ps)) (count_by f ps) (count_by g (p ∷ ps)) (count_by g ps) (cond (g p) 1 0)
+      (count_by-first f p ps ∙ ap (λ b. cond b 1 0 + count_by f ps) (same p (λ s. AllPairs-first ◌≢◌ p ps one once later (sym s))))
+      (count_by-first g p ps)
+      (count_by-but_one f g one ps is none same (AllPairs-tail ◌≢◌ p ps once) later)
+]
+
+-- ---- fresh positions
+
+-- a position that is looked at and to be visited
+abbrev is_due : ℕ → (Position → Bool) → List (Position × Verdict) → Position → Bool
+is_due pass looked entries p = looked p && is_fresh pass (verdict_of entries p)
+
+pub number_fresh-same : (pass : ℕ) (looked : Position → Bool) (old new : List (Position × Verdict)) (positions : List Position)
+    → SameEntries are_equal old new → number_fresh pass looked new positions ≡ number_fresh pass looked old positions
+number_fresh-same pass looked old new positions same =
+    count_by-alike (is_due pass looked new) (is_due pass looked old) positions (λ p c. ap (λ o. looked p && is_fresh pass o) (same.values p))
+
+pub number_fresh-visit : (pass : ℕ) (looked : Position → Bool) (entries : List (Position × Verdict)) (positions : List Position) (position : Position)
+    → AllPairs ◌≢◌ positions → Contains positions position → looked position ≡ true → is_fresh pass (verdict_of entries position) ≡ true
+    → number_fresh pass looked entries positions ≡ number_fresh pass (but looked position) entries positions + 1
+number_fresh-visit pass looked entries positions p once c is fresh =
+    count_by-but_one (is_due pass looked entries) (is_due pass (but looked p) entries) p positions
+    (and_from (looked p) (is_fresh pass (verdict_of entries p)) is fresh)
+    (ap (λ b. b && is_fresh pass (verdict_of entries p)) (but-here looked p))
+    (λ q apart. ap (λ b. b && is_fresh pass (verdict_of entries q)) (sym (but-other looked p q apart))) once c
+
+put_alike : (pass : ℕ) (l e : Bool) (o n : Option Verdict) (verdict : Verdict) → n ≡ (if e then Some verdict else o)
+    → is_fresh pass (Some verdict) ≡ false → (l && is_fresh pass n) ≡ ((l && not e) && is_fresh pass o)
+put_alike pass false e o n verdict h stale = refl
+put_alike pass true true o n verdict h stale = ap (is_fresh pass) h ∙ stale
+put_alike pass true false o n verdict h stale = ap (is_fresh pass) h
+
+pub number_fresh-put : (pass more : ℕ) (looked : Position → Bool) (old new : List (Position × Verdict)) (positions : List Position) (position : Position)
+    (verdict : Verdict) → Puts are_equal old new position verdict more → is_fresh pass (Some verdict) ≡ false
+    → number_fresh pass looked new positions ≡ number_fresh pass (but looked position) old positions
+number_fresh-put pass more looked old new positions p verdict puts stale =
+    count_by-alike (is_due pass looked new) (is_due pass (but looked p) old) positions
+    (λ q c. put_alike pass (looked q) (are_equal p q) (verdict_of old q) (verdict_of new q) verdict (puts.values q) stale)
+
+pub number_fresh-le : (pass : ℕ) (looked : Position → Bool) (entries : List (Position × Verdict)) (positions : List Position)
+    → number_fresh pass looked entries positions ≤ length positions
+number_fresh-le pass looked entries positions = count_by-le-length (is_due pass looked entries) positions
+
+-- a verdict of a pass leaves nothing to be visited in it, and any other leaves the position fresh
+pub is_fresh-of_pass : (pass : ℕ) (verdict : Verdict) → IsOfPass pass verdict → is_fresh pass (Some verdict) ≡ false
+is_fresh-of_pass pass (Adversary number) h = refl
+is_fresh-of_pass pass (Algorithm number) h = refl
+is_fresh-of_pass pass (Held held) h = not_from_true (eqb held pass) (eq-eqb held pass h)
+
+pub is_fresh-other : (pass : ℕ) (verdict : Verdict) → (IsOfPass pass verdict → ⊥) → is_fresh pass (Some verdict) ≡ true
+is_fresh-other pass (Adversary number) h = absurd (h tt)
+is_fresh-other pass (Algorithm number) h = absurd (h tt)
+is_fresh-other pass (Held held) h = not_from_false (eqb held pass) (false_from_ne_true (eqb held pass) (λ e. h (eqb-true held pass e)))
+
+-- ---- a table with room for all ends drops nothing
+
+legal_later : (game : GameNumbers) (pass later : ℕ) → pass ≤ later → (start : Position) (path : List PathMove)
+    → IsLegalFrom game (allowed_by game pass) start path → IsLegalFrom game (allowed_by game later) start path
+legal_later game pass later l start [] h = tt
+legal_later game pass later l start (step ∷ path) h = (
+  record {
+    allowed_size = allowed_later (sizes_of game) start.items pass later step.item l h.0.allowed_size;
+    packable = h.0.packable;
+    has_load = h.0.has_load;
+    below_target = h.0.below_target;
+  },
+  legal_later game pass later l (after start step.load step.item) path h.1,
+)
+
+pub IsEnd-stands : (game : GameNumbers) (pass : ℕ) (path : List PathMove) (position : Position) → StandsAtPath game pass path position
+    → IsEnd game (allowed_by game pass) position
+IsEnd-stands game pass path position s = (path, s.legal, s.here)
+
+-- where a path of a pass ends, one of the last pass does
+pub IsEnd-last : (game : GameNumbers) (pass : ℕ) (path : List PathMove) (position : Position) → StandsAtPath game pass path position
+    → IsEnd game (allowed_by game (game.capacity - 1)) position
+IsEnd-last game pass path position s =
+    (path, legal_later game pass (game.capacity - 1) (omega (arith, s.of_game)) (empty_position game) path s.legal, s.here)
+
+-- a new entry of an end finds room
+pub room_for_end : (game : GameNumbers) (entries : List (Position × Verdict)) (room : ℕ) (position : Position) → HasRoom game room → AreOfEnds game entries
+    → IsBoundedMap are_equal (bounded entries room) → IsEnd game (allowed_by game (game.capacity - 1)) position → verdict_of entries position ≡ None
+    → length entries < room
+room_for_end game entries room position (all, (positions, ends, long), l) of_ends valid is none =
+    let few = new_positions_find_room entries room positions position valid (λ one some. (ends.exact one).1 (of_ends one some)) ((ends.exact position).1 is) none in
+    omega (arith, few, long, l)
+
+put_by : (old new : List (Position × Verdict)) (key : Position) (verdict : Verdict) (room : ℕ) (o : Option Verdict) → verdict_of old key ≡ o
+    → (IsSome (verdict_of old key) → Puts are_equal old new key verdict 0)
+    → (verdict_of old key ≡ None → length old < room → Puts are_equal old new key verdict 1)
+    → (verdict_of old key ≡ None → length old < room) → (more : ℕ) × Puts are_equal old new key verdict more
+put_by old new key verdict room None e present below left = (1, below e (left e))
+put_by old new key verdict room (Some told) e present below left = (0, present (subst IsSome (sym e) refl))
+
+-- where a new entry finds room, a verdict is put and nothing is dropped
+pub put_in_room : (old new : List (Position × Verdict)) (key : Position) (verdict : Verdict) (room : ℕ)
+    → (IsSome (verdict_of old key) → Puts are_equal old new key verdict 0)
+    → (verdict_of old key ≡ None → length old < room → Puts are_equal old new key verdict 1)
+    → (verdict_of old key ≡ None → length old < room) → (more : ℕ) × Puts are_equal old new key verdict more
+put_in_room old new key verdict room present below left = put_by old new key verdict room (verdict_of old key) refl present below left
+
+end_or_old : (game : GameNumbers) (old : List (Position × Verdict)) (key p : Position) (verdict : Verdict) (b : Bool) (o : Option Verdict) → are_equal key p ≡ b
+    → o ≡ (if b then Some verdict else verdict_of old p) → AreOfEnds game old → IsEnd game (allowed_by game (game.capacity - 1)) key → IsSome o
+    → IsEnd game (allowed_by game (game.capacity - 1)) p
+end_or_old game old key p verdict true o same e of_ends is some = subst (IsEnd game (allowed_by game (game.capacity - 1))) (are_equal-told key p same) is
+end_or_old game old key p verdict false o same e of_ends is some = of_ends p (subst IsSome e some)
+
+pub AreOfEnds-put : (game : GameNumbers) (more : ℕ) (old new : List (Position × Verdict)) (key : Position) (verdict : Verdict) → Puts are_equal old new key verdict more
+    → AreOfEnds game old → IsEnd game (allowed_by game (game.capacity - 1)) key → AreOfEnds game new
+AreOfEnds-put game more old new key verdict puts of_ends is = λ p some.
+    end_or_old game old key p verdict (are_equal key p) (verdict_of new p) refl (puts.values p) of_ends is some
+
+AreOfEnds-same : (game : GameNumbers) (old new : List (Position × Verdict)) → SameEntries are_equal old new → AreOfEnds game old → AreOfEnds game new
+AreOfEnds-same game old new same of_ends = λ p some. of_ends p (subst IsSome (same.values p) some)
+
+-- ---- steps of a search
+
+module _ (game : GameNumbers) (pass : ℕ) where
+  Looks-after : (volume : ℕ) (looked : Position → Bool) (positions : List Position) (a b : Progress) → CountsFresh game pass volume a b
+      → Looks game pass volume looked positions a → Looks game pass volume looked positions b
+  Looks-after volume looked positions a b g l = record {
+    has_room = subst (HasRoom game) (sym g.room) l.has_room;
+    of_ends = g.of_ends l.has_room l.of_ends;
+    ends = l.ends;
+    looks = l.looks;
+  }
+
+  Looks-above : (volume more : ℕ) (looked : Position → Bool) (positions : List Position) (a : Progress) → volume ≤ more
+      → Looks game pass volume looked positions a → Looks game pass more looked positions a
+  Looks-above volume more looked positions a up l =
+      record { has_room = l.has_room; of_ends = l.of_ends; ends = l.ends; looks = λ p m. l.looks p (omega (arith, m, up)) }
+
+  pub CountsFresh-refl : (volume : ℕ) (a : Progress) → CountsFresh game pass volume a a
+  CountsFresh-refl volume a = record { room = refl; budget = refl; of_ends = λ r e. e; fresh = λ looked positions l. omega arith }
+
+  -- the table was asked
+  pub CountsFresh-same : (volume : ℕ) (meter : Metered) (old new : List (Position × Verdict)) (room more : ℕ) → SameEntries are_equal old new → more ≡ room
+      → CountsFresh game pass volume (progress meter old room) (progress meter new more)
+  CountsFresh-same volume meter old new room more same e = record {
+    room = e;
+    budget = refl;
+    of_ends = λ r of_ends. AreOfEnds-same game old new same of_ends;
+    fresh = λ looked positions l. omega (arith, number_fresh-same pass looked old new positions same);
+  }
+
+  pub CountsFresh-trans : (volume : ℕ) (a b c : Progress) → CountsFresh game pass volume a b → CountsFresh game pass volume b c → CountsFresh game pass volume a c
+  CountsFresh-trans volume a b c g h = record {
+    room = h.room ∙ g.room;
+    budget = h.budget ∙ g.budget;
+    of_ends = λ r e. h.of_ends (subst (HasRoom game) (sym g.room) r) (g.of_ends r e);
+    fresh = λ looked positions l. omega (arith, g.fresh looked positions l, h.fresh looked positions (Looks-after volume looked positions a b g l));
+  }
+
+  -- what holds of larger volumes holds of smaller ones
+  pub CountsFresh-above : (volume more : ℕ) (a b : Progress) → volume ≤ more → CountsFresh game pass more a b → CountsFresh game pass volume a b
+  CountsFresh-above volume more a b up g = record {
+    room = g.room;
+    budget = g.budget;
+    of_ends = g.of_ends;
+    fresh = λ looked positions l. g.fresh looked positions (Looks-above volume more looked positions a up l);
+  }
+
+  pub IsShort-after : (volume : ℕ) (a b : Progress) (fault : VisitFault) → CountsFresh game pass volume a b → IsShort game pass volume b fault
+      → IsShort game pass volume a fault
+  IsShort-after volume a b Spent g h =
+      λ looked positions l. omega (arith, g.budget, g.fresh looked positions l, h looked positions (Looks-after volume looked positions a b g l))
+  IsShort-after volume a b Memory g h = tt
+
+  pub IsShort-above : (volume more : ℕ) (a : Progress) (fault : VisitFault) → volume ≤ more → IsShort game pass more a fault → IsShort game pass volume a fault
+  IsShort-above volume more a Spent up h = λ looked positions l. h looked positions (Looks-above volume more looked positions a up l)
+  IsShort-above volume more a Memory up h = tt
+
+  -- the volume rises with an item
+  pub volume_after : (position : Position) (load size : ℕ) → Packable game (position.items ++ size ∷ []) → sum position.items + 1 ≤ sum (after position load size).items
+  volume_after position load size p = omega (arith, sum-put_ascending size position.items, (size_of_last game position.items size p).low)
+
+  -- ---- a visit of a position
+
+  -- a position without a verdict of this pass was visited
+  pub record IsVisited (position : Position) (path : List PathMove) (before visited : Progress) : Type 0 where
+    pub stands : StandsAtPath game pass path position
+    pub fresh : is_fresh pass (verdict_of before.entries position) ≡ true
+    pub meter : visited.meter ≡ counted before.meter (visit pass path)
+    pub same : SameEntries are_equal before.entries visited.entries
+    pub room : visited.room ≡ before.room
+
+  fresh_here : (looked : Position → Bool) (positions : List Position) (position : Position) (path : List PathMove) (a : Progress)
+      → Looks game pass (sum position.items) looked positions a → StandsAtPath game pass path position → is_fresh pass (verdict_of a.entries position) ≡ true
+      → number_fresh pass looked a.entries positions ≡ number_fresh pass (but looked position) a.entries positions + 1
+  fresh_here looked positions position path a l stands fresh =
+      number_fresh-visit pass looked a.entries positions position l.ends.once ((l.ends.exact position).1 (IsEnd-stands game pass path position stands))
+      (l.looks position (omega arith)) fresh
+
+  -- the budget has ended where a fresh position was due
+  pub IsShort-spent : (position : Position) (path : List PathMove) (a : Progress) → StandsAtPath game pass path position
+      → is_fresh pass (verdict_of a.entries position) ≡ true → a.meter.count ≡ a.meter.budget → IsShort game pass (sum position.items) a Spent
+  IsShort-spent position path a stands fresh e = λ looked positions l. omega (arith, e, fresh_here looked positions position path a l stands fresh)
+
+  -- a visit that was not counted was due where the budget has ended
+  pub IsShort-fault : (position : Position) (path : List PathMove) (a : Progress) (fault : VisitFault) → StandsAtPath game pass path position
+      → is_fresh pass (verdict_of a.entries position) ≡ true → (fault ≡ Spent → a.meter.count ≡ a.meter.budget) → IsShort game pass (sum position.items) a fault
+  IsShort-fault position path a Spent stands fresh e = IsShort-spent position path a stands fresh (e refl)
+  IsShort-fault position path a Memory stands fresh e = tt
+
+  larger_apart : (p q : Position) → sum p.items + 1 ≤ sum q.items → p ≡ q → ⊥
+  larger_apart p q m e =
+      let same : sum p.items ≡ sum q.items = ap (λ r. sum r.items) e in
+      omega (arith, m, same)
+
+  Looks-visited : (position : Position) (path : List PathMove) (a b : Progress) (looked : Position → Bool) (positions : List Position) → IsVisited position path a b
+      → Looks game pass (sum position.items) looked positions a → Looks game pass (sum position.items + 1) (but looked position) positions b
+  Looks-visited position path a b looked positions v l = record {
+    has_room = subst (HasRoom game) (sym v.room) l.has_room;
+    of_ends = AreOfEnds-same game a.entries b.entries v.same l.of_ends;
+    ends = l.ends;
+    looks = λ q m. but-keeps looked position q (l.looks q (omega (arith, m))) (larger_apart position q m);
+  }
+
+  total_visited : (position : Position) (path : List PathMove) (a b : Progress) (looked : Position → Bool) (positions : List Position) → IsVisited position path a b
+      → Looks game pass (sum position.items) looked positions a
+      → counted_and_fresh pass (but looked position) positions b ≡ counted_and_fresh pass looked positions a
+  total_visited position path a b looked positions v l =
+      let one : b.meter.count ≡ a.meter.count + 1 = ap (λ m. m.count) v.meter in
+      let still = number_fresh-same pass (but looked position) a.entries b.entries positions v.same in
+      let here = fresh_here looked positions position path a l v.stands v.fresh in
+      omega (arith, one, still, here)
+
+  pub IsShort-visited : (position : Position) (path : List PathMove) (a b : Progress) (fault : VisitFault) → IsVisited position path a b
+      → IsShort game pass (sum position.items + 1) b fault → IsShort game pass (sum position.items) a fault
+  IsShort-visited position path a b Spent v h = λ looked positions l.
+      let same : b.meter.budget ≡ a.meter.budget = ap (λ m. m.budget) v.meter in
+      let short = h (but looked position) positions (Looks-visited position path a b looked positions v l) in
+      omega (arith, same, short, total_visited position path a b looked positions v l)
+  IsShort-visited position path a b Memory v h = tt
+
+  -- a visited position was decided, and its verdict put
+  pub CountsFresh-visited : (position : Position) (path : List PathMove) (a b c : Progress) (entries : List (Position × Verdict)) (room : ℕ) (verdict : Verdict)
+      → IsVisited position path a b → CountsFresh game pass (sum position.items + 1) b c → IsOfPass pass verdict → IsBoundedMap are_equal (bounded c.entries c.room)
+      → ((verdict_of c.entries position ≡ None → length c.entries < c.room) → (more : ℕ) × Puts are_equal c.entries entries position verdict more)
+      → room ≡ c.room → CountsFresh game pass (sum position.items) a (progress c.meter entries room)
+  CountsFresh-visited position path a b c entries room verdict v g of_pass valid put e = record {
+    room = e ∙ g.room ∙ v.room;
+    budget = g.budget ∙ ap (λ m. m.budget) v.meter;
+    of_ends = λ r of_ends. let p = puts r of_ends in
+        AreOfEnds-put game p.0 c.entries entries position verdict p.1 (ends_decided r of_ends) (IsEnd-last game pass path position v.stands);
+    fresh = λ looked positions l.
+        let p = puts l.has_room l.of_ends in
+        let all = number_fresh-put pass p.0 looked c.entries entries positions position verdict p.1 (is_fresh-of_pass pass verdict of_pass) in
+        let kept = g.fresh (but looked position) positions (Looks-visited position path a b looked positions v l) in
+        omega (arith, all, kept, total_visited position path a b looked positions v l);
+  }
+    where
+      ends_decided : HasRoom game a.room → AreOfEnds game a.entries → AreOfEnds game c.entries
+      ends_decided r of_ends = g.of_ends (subst (HasRoom game) (sym v.room) r) (AreOfEnds-same game a.entries b.entries v.same of_ends)
+
+      puts : HasRoom game a.room → AreOfEnds game a.entries → (more : ℕ) × Puts are_equal c.entries entries position verdict more
+      puts r of_ends = put (λ none. room_for_end game c.entries c.room position (subst (HasRoom game) (sym (g.room ∙ v.room)) r) (ends_decided r of_ends) valid
+          (IsEnd-last game pass path position v.stands) none)
+
+-- ---- sums of the numbers of ends
+
+pub numbers_of_ends : (game : GameNumbers) → ℕ → ℕ
+numbers_of_ends game pass = (ends_are_counted game (allowed_by game pass)).0
+
+pub AreNumbersOfEnds-numbers : (game : GameNumbers) → AreNumbersOfEnds game (numbers_of_ends game)
+unfolding numbers_of_ends
+AreNumbersOfEnds-numbers game pass = (ends_are_counted game (allowed_by game pass)).1
+
+pub ends_before-more : (numbers : ℕ → ℕ) (pass : ℕ) → ends_before numbers (pass + 1) ≡ ends_before numbers pass + numbers pass
+ends_before-more numbers pass = sum_by-map-range_with_len_more (λ x. x) numbers 0 pass pass (omega arith)
+
+ends_before-later : (numbers : ℕ → ℕ) (pass k later : ℕ) → later ≡ pass + k → ends_before numbers pass ≤ ends_before numbers later
+ends_before-later numbers pass zero later e =
+    let same : later ≡ pass = omega (arith, e) in
+    subst (λ n. ends_before numbers pass ≤ ends_before numbers n) (sym same) (omega arith)
+ends_before-later numbers pass (suc k) later e =
+    let next : later ≡ (pass + k) + 1 = omega (arith, e) in
+    let rest = ends_before-later numbers pass k (pass + k) refl in
+    subst (λ n. ends_before numbers pass ≤ ends_before numbers n) (sym next) (omega (arith, rest, ends_before-more numbers (pass + k)))
+
+-- a sum of more of them is no less
+pub ends_before-le : (numbers : ℕ → ℕ) (pass later : ℕ) → pass ≤ later → ends_before numbers pass ≤ ends_before numbers later
+ends_before-le numbers pass later l = ends_before-later numbers pass (later - pass) later (omega (arith, l))
+
+-- so many numbers of at most this much each
+pub ends_before-bound : (numbers : ℕ → ℕ) (most passes : ℕ) → ((pass : ℕ) → pass < passes → numbers pass ≤ most) → ends_before numbers passes ≤ passes * most
+ends_before-bound numbers most passes h =
+    let few = sum_by-le numbers most (range_with_len 0 passes) (all_range (λ pass. numbers pass ≤ most) passes h) in
+    subst (λ total. total ≤ passes * most) (sym (sum-map numbers (range_with_len 0 passes)))
+    (subst (λ count. sum_by numbers (range_with_len 0 passes) ≤ count * most) (length-range_with_len 0 passes) few)
+
+-- the passes before one have at most so many ends as the last pass, each
+pub ends_before-all : (game : GameNumbers) (all passes : ℕ) (numbers : ℕ → ℕ) → passes ≤ game.capacity → CountsAllEnds game all → AreNumbersOfEnds game numbers
+    → ends_before numbers passes ≤ passes * all
+ends_before-all game all passes numbers l counts are =
+    ends_before-bound numbers all passes (λ pass m. last_pass_has_most game pass (numbers pass) all (omega (arith, l, m)) (are pass) counts)
+
+-- one more pass: what was counted before it, and its fresh positions
+pub counted_after_pass : (before after fresh left number sum more : ℕ) → after + left ≤ before + fresh → fresh ≤ number → before ≤ sum → more ≡ sum + number
+    → after ≤ more
+counted_after_pass before after fresh left number sum more g few counted e = omega (arith, g, few, counted, e)
+
+-- ---- passes of a search
+
+module _ (game : GameNumbers) (room budget : ℕ) where
+  pub IsWithinEnds-start : (meter : Metered) (entries : List (Position × Verdict)) → meter ≡ unused game budget → entries ≡ []
+      → IsWithinEnds game room budget 0 (progress meter entries room)
+  IsWithinEnds-start meter entries e none = record {
+    same_room = refl;
+    same_budget = ap (λ m. m.budget) e;
+    of_ends = λ r p some. let no_entry : false ≡ true = subst (λ es. IsSome (verdict_of es p)) none some in cc;
+    counted = λ r numbers are. let zero_count : meter.count ≡ 0 = ap (λ m. m.count) e in omega (arith, zero_count);
+  }
+
+  -- all positions are looked at
+  whole_pass : (pass volume number : ℕ) (a : Progress) → IsWithinEnds game room budget pass a → HasRoom game room → (counts : CountsEndsOfPass game pass number)
+      → Looks game pass volume (λ p. true) counts.0 a
+  whole_pass pass volume number a w r counts = record {
+    has_room = subst (HasRoom game) (sym w.same_room) r;
+    of_ends = w.of_ends r;
+    ends = counts.1;
+    looks = λ p l. refl;
+  }
+
+  pub IsWithinEnds-next : (pass volume : ℕ) (a b : Progress) → IsWithinEnds game room budget pass a → CountsFresh game pass volume a b
+      → IsWithinEnds game room budget (pass + 1) b
+  IsWithinEnds-next pass volume a b w g = record {
+    same_room = g.room ∙ w.same_room;
+    same_budget = g.budget ∙ w.same_budget;
+    of_ends = λ r. g.of_ends (subst (HasRoom game) (sym w.same_room) r) (w.of_ends r);
+    counted = λ r numbers are.
+        let counts = are pass in
+        let all : Position → Bool = λ p. true in
+        counted_after_pass a.meter.count b.meter.count (number_fresh pass all a.entries counts.0) (number_fresh pass all b.entries counts.0) (numbers pass)
+        (ends_before numbers pass) (ends_before numbers (pass + 1)) (g.fresh all counts.0 (whole_pass pass volume (numbers pass) a w r counts))
+        (omega (arith, number_fresh-le pass all a.entries counts.0, counts.2)) (w.counted r numbers are) (ends_before-more numbers pass);
+  }
+
+  -- where the budget ended in a pass
+  pub IsLessThanEnds-short : (pass volume : ℕ) (a : Progress) → IsWithinEnds game room budget pass a → IsShort game pass volume a Spent
+      → IsLessThanEnds game room budget pass
+  IsLessThanEnds-short pass volume a w h = λ r numbers are.
+      let counts = are pass in
+      let all : Position → Bool = λ p. true in
+      let short = h all counts.0 (whole_pass pass volume (numbers pass) a w r counts) in
+      let few = number_fresh-le pass all a.entries counts.0 in
+      omega (arith, short, few, counts.2, w.same_budget, w.counted r numbers are, ends_before-more numbers pass)
+
+  -- ---- what was promised of an answer
+
+  -- with room for all ends, and a budget of all ends for each pass
+  pub decided_by_all : (answer : Answer) → IsAnswer game budget answer → IsWithin game room budget answer → (all : ℕ) → CountsAllEnds game all → all ≤ room
+      → game.capacity * all ≤ budget → IsDecided answer
+  decided_by_all (Answers.Adversary strategy) is within all counts l enough = tt
+  decided_by_all (Answers.Algorithm strategy) is within all counts l enough = tt
+  decided_by_all (Answers.Undecided visits pass path) is within all counts l enough =
+      let numbers = numbers_of_ends game in
+      let less = within (all, counts, l) numbers (AreNumbersOfEnds-numbers game) in
+      let up = ends_before-le numbers (pass + 1) game.capacity (omega (arith, is.1.is_visit.to_last)) in
+      let most = ends_before-all game all game.capacity numbers (omega arith) counts (AreNumbersOfEnds-numbers game) in
+      absurd (omega (arith, less, up, most, enough))
+
+  -- with room for all ends, and a budget of the ends of each pass
+  pub decided_by_passes : (answer : Answer) → IsAnswer game budget answer → IsWithin game room budget answer → HasRoom game room → (numbers : ℕ → ℕ)
+      → AreNumbersOfEnds game numbers → ends_before numbers game.capacity ≤ budget → IsDecided answer
+  decided_by_passes (Answers.Adversary strategy) is within r numbers are enough = tt
+  decided_by_passes (Answers.Algorithm strategy) is within r numbers are enough = tt
+  decided_by_passes (Answers.Undecided visits pass path) is within r numbers are enough =
+      let up = ends_before-le numbers (pass + 1) game.capacity (omega (arith, is.1.is_visit.to_last)) in
+      absurd (omega (arith, within r numbers are, up, enough))
+
+  -- where the adversary wins a pass, and the budget is that of the ends of the passes up to it
+  pub won_by_pass : (answer : Answer) → IsAnswer game budget answer → IsWithin game room budget answer → HasRoom game room → (numbers : ℕ → ℕ)
+      → AreNumbersOfEnds game numbers → (won : ℕ) → IsWonIn game won (empty_position game) → ends_before numbers (won + 1) ≤ budget → IsOfAdversary answer
+  won_by_pass (Answers.Adversary strategy) is within r numbers are won wins enough = tt
+  won_by_pass (Answers.Algorithm strategy) is within r numbers are won wins enough = within (allowed_by game won) wins
+  won_by_pass (Answers.Undecided visits pass path) is within r numbers are won wins enough = elim (cases_lt won pass) [
+    | inl before ↦ is.1.settled.earlier_passes won (omega arith) before wins
+    | inr from ↦ let up = ends_before-le numbers (pass + 1) (won + 1) (omega (arith, from)) in omega (arith, within r numbers are, up, enough)
+  ]

@@ -1,0 +1,10 @@
+pub mod WinLemmas
+pub mod PlayableLemmas
+pub mod PastLemmas
+pub mod FinishLemmas
+pub mod NodeLemmas
+pub mod StateLemmas
+pub mod StepLemmas
+pub mod SizeLemmas
+pub mod RootLemmas
+pub mod FreshLemmas

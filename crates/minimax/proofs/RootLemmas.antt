@@ -1,0 +1,164 @@
+-- The root of a search, and what its end answers.
+use Rattle.std.proofs.Common.{◌≡◌, ℕ, zero, suc, ◌+◌, ◌<◌, ◌≤◌, List, [], ◌∷◌, length, map, take, sum}
+use Rattle.std.proofs.Common.{replicate, refl, sym, subst, ⊎_elim, arith}
+use Rattle.std.proofs.lemmas.Bool.{cases_lt}
+use Rattle.std.specs.Prelude.{Contains, IfOk, Result, Ok, Err}
+use Rattle.std.specs.declared.alloc.AllocError.{AllocError}
+use Rattle.std.proofs.lemmas.List.{length-map}
+use Rattle.std.proofs.lemmas.List.Elements.{All-nil, All-replicate}
+use Rattle.items.specs.Game.{GameNumbers}
+use Rattle.items.specs.Multiset.{sizes_of}
+use Rattle.items.proofs.MultisetLemmas.{IsNonDecreasing-from_rises}
+use Rattle.loads.specs.Loads.{IsLoads}
+use Rattle.loads.specs.Position.{IsEmptyPosition, StandsAt}
+use Rattle.loads.specs.Wins.{IsWon, empty_position}
+use Rattle.loads.specs.declared.position.Position.{Position}
+use Rattle.strategy_text.specs.Spelling.{most_nodes}
+use Rattle.strategy_text.specs.declared.node.AdvNode.{AdvNode}
+use Rattle.strategy_text.specs.declared.node.AlgNode.{AlgNode}
+use Rattle.strategy_text.specs.declared.node.Format.TheVariants.{One}
+use Rattle.strategy_text.specs.declared.node.Strategy.{Strategy}
+use Rattle.strategy_text.specs.Text.{of_adversary, of_algorithm}
+use Rattle.adversary_graph.specs.Nodes as adversary
+use Rattle.adversary_graph.specs.Pools as adversary_pools
+use Rattle.adversary_graph.proofs.PoolLemmas as adversary_lemmas
+use Rattle.algorithm_graph.specs.Nodes as algorithm
+use Rattle.algorithm_graph.specs.Pools as algorithm_pools
+use Rattle.algorithm_graph.proofs.PoolLemmas as algorithm_lemmas
+use Rattle.monotone.specs.Passes.{whole_game, allowed_in}
+use Rattle.monotone.specs.Visits.{HasVisitsBefore, IsLater, Metered, most_visits, unused, visit}
+use Rattle.monotone.specs.declared.path.PathMove.{PathMove}
+use Rattle.packing_witness.proofs.PackableLemmas.{Packable-nil}
+use Rattle.monotone.proofs.VisitLemmas.{CountsVisits-unused, count_below_bound, visits_before}
+use Rattle.transposition.specs.declared.verdict.Verdict.{Verdict}
+use Rattle.minimax.specs.Answers.{IsAnswer, IsDecided, IsFor}
+use Rattle.minimax.specs.declared.answer.Answer.{Answer}
+use Rattle.minimax.specs.declared.answer.Answer.TheVariants as Answers
+use Rattle.minimax.specs.Settled.{IsDue, NoneWonBefore}
+use Rattle.minimax.specs.State.{AreSound, IsPlayable, IsSound, IsSpent, MayVisit, StandsAtPath}
+use Rattle.minimax.specs.declared.expanding.Search.{Search}
+
+length-take-le : {X : Type 0} (n : ℕ) (xs : List X) → length (take n xs) ≤ length xs
+length-take-le zero xs = omega arith
+length-take-le (suc n) [] = omega arith
+length-take-le (suc n) (x ∷ xs) = omega (arith, length-take-le n xs)
+
+sum-zeros : (n : ℕ) → sum (replicate n 0) ≡ 0
+sum-zeros zero = refl
+sum-zeros (suc n) = sum-zeros n
+
+pub IsPlayable-empty : (game : GameNumbers) → IsLoads game (replicate game.bins 0) → IsPlayable game (empty_position game)
+IsPlayable-empty game loads = record {
+  loads = loads;
+  items = record {
+    ascending = IsNonDecreasing-from_rises 0 [] tt;
+    allowed = All-nil (Contains (sizes_of game));
+    total = sym (sum-zeros game.bins);
+  };
+  packable = Packable-nil game;
+}
+
+-- a new search is sound
+pub AreSound-new : (game : GameNumbers) (pass budget : ℕ) (meter : Metered) (wins : adversary_pools.Pool) (replies : algorithm_pools.Pool)
+    (entries : List (Position × Verdict)) → meter ≡ unused game budget → wins ≡ adversary_pools.pool_of One game [] → replies ≡ algorithm_pools.pool_of One game []
+    → entries ≡ [] → budget ≤ most_nodes → AreSound game pass meter wins replies entries
+AreSound-new game pass budget meter wins replies entries m w r e few =
+    subst (λ x. AreSound game pass x wins replies entries) (sym m)
+    (subst (λ x. AreSound game pass (unused game budget) x replies entries) (sym w)
+    (subst (λ x. AreSound game pass (unused game budget) (adversary_pools.pool_of One game []) x entries) (sym r)
+    (subst (AreSound game pass (unused game budget) (adversary_pools.pool_of One game []) (algorithm_pools.pool_of One game [])) (sym e) (record {
+      wins_game = refl;
+      wins_format = refl;
+      replies_game = refl;
+      replies_format = refl;
+      counts = CountsVisits-unused (whole_game game) budget;
+      few = omega arith;
+      within = omega arith;
+      budget = few;
+      won = All-nil _;
+      lost = All-nil _;
+      known = λ p v told. cc;
+    }))))
+
+module _ (game : GameNumbers) (pass : ℕ) where
+  -- the root may be visited
+  pub may_visit_root : (s : Search) (root : Position) → pass < game.capacity → IsLoads game (replicate game.bins 0) → root ≡ empty_position game → s.path ≡ []
+      → ((path : List PathMove) → IsLater s.meter (visit pass path)) → MayVisit game pass s root
+  may_visit_root s root of_game loads is path later =
+      subst (MayVisit game pass s) (sym is) (record {
+        stands = subst (λ p. StandsAtPath game pass p (empty_position game)) (sym path) (record {
+          of_game = of_game;
+          playable = IsPlayable-empty game loads;
+          legal = tt;
+          here = refl;
+          settled = tt;
+        });
+        later = later s.path;
+      })
+
+  empty_is : IsEmptyPosition (empty_position game)
+  empty_is = record { loads = All-replicate (λ load. load ≡ 0) game.bins 0 refl; items = refl }
+
+  -- the node of the verdict is a root
+  pub root_of_win : (nodes : List AdvNode) (number : ℕ) (root : Position) → root ≡ empty_position game → StandsAt (map adversary.position_of nodes) number root
+      → adversary_pools.IsRoot nodes number
+  root_of_win nodes number root is stands =
+      adversary_lemmas.root_from_position nodes number root stands (subst IsEmptyPosition (sym is) empty_is)
+
+  pub root_of_reply : (nodes : List AlgNode) (number : ℕ) (root : Position) → root ≡ empty_position game → StandsAt (map algorithm.position_of nodes) number root
+      → algorithm_pools.IsRoot nodes number
+  root_of_reply nodes number root is stands =
+      algorithm_lemmas.root_from_position nodes number root stands (subst IsEmptyPosition (sym is) empty_is)
+
+  -- the strategy up to the root has no more nodes than visits were made
+  pub IsFor-win : (budget : ℕ) (s : Search) (entries : List (Position × Verdict)) (root : ℕ) (strategy : Strategy) → IsSound game pass s entries → s.meter.budget ≡ budget
+      → strategy ≡ adversary_pools.strategy_of (adversary_pools.pool_of s.wins.format s.wins.game (adversary_pools.nodes_up_to root s.wins.nodes)) → IsFor game budget strategy
+  IsFor-win budget s entries root strategy sound b is = subst (IsFor game budget) (sym is) (record {
+    of_game = sound.wins_game;
+    of_format = sound.wins_format;
+    few = omega (arith, sound.few, sound.within, b, length-map (take (root + 1) s.wins.nodes) of_adversary, length-take-le (root + 1) s.wins.nodes);
+  })
+
+  pub IsFor-reply : (budget : ℕ) (s : Search) (entries : List (Position × Verdict)) (root : ℕ) (strategy : Strategy) → IsSound game pass s entries → s.meter.budget ≡ budget
+      → strategy ≡ algorithm_pools.strategy_of (algorithm_pools.pool_of s.replies.format s.replies.game (algorithm_pools.nodes_up_to root s.replies.nodes)) →
+      IsFor game budget strategy
+  IsFor-reply budget s entries root strategy sound b is = subst (IsFor game budget) (sym is) (record {
+    of_game = sound.replies_game;
+    of_format = sound.replies_format;
+    few = omega (arith, sound.few, sound.within, b, length-map (take (root + 1) s.replies.nodes) of_algorithm, length-take-le (root + 1) s.replies.nodes);
+  })
+
+  -- the visit that was due
+  pub IsDue-spent : (budget : ℕ) (s : Search) → NoneWonBefore (whole_game game) pass → IsSpent game pass budget s → IsDue (whole_game game) budget (visit pass s.path)
+  IsDue-spent budget s none spent =
+      let stands = spent.due.1.stands in
+      record {
+        is_visit = record { from_first = omega arith; to_last = stands.of_game; legal = stands.legal };
+        spent = subst (λ n. HasVisitsBefore (whole_game game) n (visit pass s.path)) spent.count
+            (visits_before (whole_game game) s.meter (visit pass s.path) spent.counts spent.due.1.later);
+        settled = record { earlier_passes = none; moves = stands.settled };
+      }
+
+  -- with more than the most visits no visit is due
+  pub never_due : (budget : ℕ) (path : List PathMove) → most_visits (whole_game game) ≤ budget → IsDue (whole_game game) budget (visit pass path) → ⊥
+  never_due budget path enough due = omega (arith, enough, count_below_bound (whole_game game) budget (visit pass path) due.spent due.is_visit)
+
+  -- one more pass that is not won
+  pub none_more : NoneWonBefore (whole_game game) pass → (IsWon game (allowed_in (sizes_of game) pass) (empty_position game) → ⊥)
+      → NoneWonBefore (whole_game game) (pass + 1)
+  none_more none here earlier first l won = ⊎_elim
+      (λ below. none earlier first below won)
+      (λ above. let same : earlier ≡ pass = omega (arith, above, l) in here (subst (λ k. IsWon game (allowed_in (sizes_of game) k) (empty_position game)) same won))
+      (cases_lt earlier pass)
+
+-- with more than the most visits the answer is decided
+pub decided_by_visits : (game : GameNumbers) (budget : ℕ) (answer : Answer) → IsAnswer game budget answer → most_visits (whole_game game) ≤ budget → IsDecided answer
+decided_by_visits game budget (Answers.Adversary strategy) is enough = tt
+decided_by_visits game budget (Answers.Algorithm strategy) is enough = tt
+decided_by_visits game budget (Answers.Undecided visits pass path) is enough = never_due game pass budget path enough is.1
+
+-- what follows from two facts of an answer
+pub on_ok : {P Q R : Answer → Type 0} (result : Result Answer AllocError) → IfOk result P → IfOk result Q → ((answer : Answer) → P answer → Q answer → R answer)
+    → IfOk result R
+on_ok (Ok answer) p q h = h answer p q
+on_ok (Err error) p q h = tt

@@ -1,0 +1,301 @@
+-- The sizes and the loads of a position, one after the other.
+use Rattle.std.proofs.Common.{◌≡◌, ℕ, zero, suc, ◌+◌, ◌-◌, ◌<◌, ◌≤◌, ◌⊎◌, List, [], ◌∷◌, ◌++◌, map}
+use Rattle.std.proofs.Common.{take, length, get_or, refl, sym, ap, ◌∙◌, subst, inl, inr, arith, add-one}
+use Rattle.std.specs.Prelude.{All, Contains}
+use Rattle.std.proofs.lemmas.List.{map-append, length_push, length-map, get_or-map, get_or_default, take_more}
+use Rattle.std.proofs.lemmas.List.FromFn.{get_or-map-range_with_len, length-map-range_with_len, map-range_with_len_more}
+use Rattle.std.proofs.lemmas.List.Elements.{All-push, All-weaker, All-contains}
+use Rattle.std.proofs.lemmas.Bool.{cases_lt}
+use Rattle.items.specs.Game.{GameNumbers}
+use Rattle.items.specs.Multiset.{largest_of, sizes_of}
+use Rattle.items.specs.Packable.{Packable}
+use Rattle.items.proofs.MultisetLemmas.{largest_of-le}
+use Rattle.items.proofs.SizesLemmas.{Contains_from_size}
+use Rattle.loads.specs.After.{after}
+use Rattle.loads.specs.Descending.{IsDescending, IsStrictlyDescending, distinct}
+use Rattle.loads.specs.declared.position.Position.{Position}
+use Rattle.loads.proofs.DistinctLemmas.{Contains-distinct, Contains-from_distinct, IsStrictlyDescending-distinct}
+use Rattle.packing_witness.proofs.PackableLemmas.{Packable-prefix}
+use Rattle.packing_witness.proofs.PackingLemmas.{size_of_last, le_room}
+use Rattle.strategy_text.specs.declared.node.Entry.{Entry}
+use Rattle.strategy_text.specs.declared.node.Placement.{Placement}
+use Rattle.strategy_text.specs.declared.node.Then.{Then}
+use Rattle.strategy_text.specs.declared.node.Then.TheVariants.{Over}
+use Rattle.adversary_graph.specs.Nodes as adversary
+use Rattle.adversary_graph.specs.Rules.{IsOverAtTarget, LeadsTo}
+use Rattle.monotone.specs.Paths.{IsEarlierMove, moved}
+use Rattle.monotone.specs.Visits.{IsLater, visit}
+use Rattle.monotone.specs.declared.path.PathMove.{PathMove}
+use Rattle.monotone.proofs.PassLemmas.{allowed_in-exact}
+use Rattle.transposition.specs.declared.verdict.Verdict.{Verdict}
+use Rattle.transposition.specs.declared.verdict.Verdict.TheVariants.{Adversary, Algorithm, Held}
+use Rattle.minimax.specs.State.{FindsVerdict, FollowsUp, HasAnswered, HasPassed, HasWeighed, IsNeverWon, IsNoWin, IsOpenAt}
+use Rattle.minimax.specs.State.{IsOpenFrom, IsReply}
+use Rattle.minimax.specs.State.{IsSound, IsWonIn, MayCome, PlacesAll, ReplyToAll, Tells, WentOn, WinsBy, allowed_by, kept_of}
+use Rattle.minimax.specs.State.{numbers_down, with_move}
+use Rattle.minimax.specs.declared.expanding.Search.{Search}
+use Rattle.minimax.specs.declared.expanding.Weighed.{Weighed}
+use Rattle.minimax.specs.declared.expanding.Weighed.TheVariants.{NoReply}
+use Rattle.minimax.proofs.PastLemmas.{IsLater-move}
+use Rattle.minimax.proofs.StateLemmas.{FollowsUp-goes, IsReply-goes, never_by_node, not_won_by_verdict}
+use Rattle.minimax.proofs.StepLemmas.{Goes-trans, WentOn-later, WentOn-refl, WentOn-then, stands_still}
+use Rattle.minimax.proofs.WinLemmas.{IsNeverWon-answered, no_winning_size}
+
+-- ---- different loads
+
+down : (xs : List ℕ) → IsStrictlyDescending xs → (i n k : ℕ) → k ≡ i + n → k < length xs → get_or xs k 0 ≤ get_or xs i 0
+down xs d i zero k e l =
+    let same : i ≡ k = omega (arith, e) in
+    subst (λ j. get_or xs j 0 ≤ get_or xs i 0) same (omega arith)
+down xs d i (suc n) k e l =
+    let above = down xs d i n (i + n) refl (omega (arith, e, l)) in
+    let step = d (i + n) (omega (arith, e, l)) in
+    let same : i + n + 1 ≡ k = omega (arith, e) in
+    subst (λ j. get_or xs j 0 ≤ get_or xs i 0) same (omega (arith, above, step))
+
+-- a greater number stands at an earlier place
+earlier_place : (xs : List ℕ) (i k : ℕ) → IsStrictlyDescending xs → k < length xs → get_or xs i 0 < get_or xs k 0 → k < i
+earlier_place xs i k d l g = elim (cases_lt k i) [
+  | inl below ↦ below
+  | inr above ↦ absurd (let h = down xs d i (k - i) k (omega (arith, above)) l in omega (arith, h, g))
+]
+
+-- the load that was tried before is greater, and so is the target
+bound_above : (game : GameNumbers) (loads : List ℕ) (i : ℕ) → IsDescending loads → All (λ load. load < game.target) loads → i < length (distinct loads)
+    → get_or (distinct loads) i 0 < get_or (game.target ∷ distinct loads) i 0
+bound_above game loads zero d below l =
+    let member = Contains-from_distinct (get_or (distinct loads) 0 0) loads (0, l, get_or_default (distinct loads) 0 _ _ l) in
+    All-contains (λ load. load < game.target) loads (get_or (distinct loads) 0 0) below member
+bound_above game loads (suc j) d below l =
+    let h = IsStrictlyDescending-distinct loads d j (omega (arith, l)) in
+    rw add-one at h
+
+pub next_bound : (target : ℕ) (xs : List ℕ) (i : ℕ) → get_or (target ∷ xs) (i + 1) 0 ≡ get_or xs i 0
+next_bound target xs i = rw add-one refl
+
+module _ (game : GameNumbers) (pass : ℕ) where
+  -- at the next load
+  pub opens_load : (s0 s1 : Search) (position : Position) (size i load : ℕ) (entries : List (Position × Verdict)) → IsOpenFrom game pass size s0 position
+      → WentOn game pass 0 (with_move s0 size (get_or (game.target ∷ distinct position.loads) i 0)) s0 s1 entries
+      → ((k : ℕ) → k < i → (game.target ≤ get_or (distinct position.loads) k 0 + size) ⊎ IsWonIn game pass (after position (get_or (distinct position.loads) k 0) size))
+      → i < length (distinct position.loads) → load ≡ get_or (distinct position.loads) i 0 → Contains position.loads load
+      → IsOpenAt game pass size load s1 position
+  opens_load s0 s1 position size i load entries o g won l e member =
+      let loads = position.loads in
+      let ds : List ℕ = distinct loads in
+      let legal = o.stands.playable.loads in
+      let strict = IsStrictlyDescending-distinct loads legal.descending in
+      let above = bound_above game loads i legal.descending legal.below_target l in
+      let bound : ℕ = get_or (game.target ∷ ds) i 0 in
+      let lower : load < bound = omega (arith, above, e) in
+      record {
+        stands = stands_still game pass s0.path s1.path position g.goes.path o.stands;
+        unfinished = o.unfinished;
+        larger_sizes = o.larger_sizes;
+        larger_loads = λ other c greater below.
+            let at = Contains-distinct other loads c in
+            let is : get_or ds at.0 0 ≡ other = get_or_default ds at.0 0 other at.1 ∙ at.2 in
+            let place = earlier_place ds i at.0 strict at.1 (omega (arith, is, e, greater)) in
+            elim (won at.0 place) [
+              | inl over ↦ absurd (omega (arith, over, is, below))
+              | inr w ↦ subst (λ x. IsWonIn game pass (after position x size)) is w
+            ];
+        has_load = member;
+        later = subst (λ p. IsLater s1.meter (visit pass (p ++ moved size load ∷ []))) (sym g.goes.path)
+            (IsLater-move s1.meter pass s0.path (moved size bound) (moved size load) g.passed (inr (refl, lower)));
+      }
+
+  -- the next smaller size comes after each load
+  next_size : (size load : ℕ) → 1 ≤ size → IsEarlierMove (moved size load) (moved (size - 1) game.target)
+  next_size size load low = inl (omega (arith, low))
+
+  pub past_size : (s0 s1 : Search) (position : Position) (size load : ℕ) (entries : List (Position × Verdict)) → Packable game (position.items ++ size ∷ [])
+      → WentOn game pass 0 (with_move s0 size load) s0 s1 entries → WentOn game pass 0 (with_move s0 (size - 1) game.target) s0 s1 entries
+  past_size s0 s1 position size load entries packable g =
+      WentOn-later game pass 0 (moved size load) (moved (size - 1) game.target) s0 s1 entries
+      (next_size size load (size_of_last game position.items size packable).low) g
+
+  -- one more placement
+  pub placed_more : (position : Position) (i load : ℕ) (next : Then) (placements more : List Placement) → load ≡ get_or (distinct position.loads) i 0 → i <
+      length (distinct position.loads)
+      → map (λ (placement : Placement). placement.load) placements ≡ take i (distinct position.loads)
+      → more ≡ placements ++ record { load = load; next = next } ∷ []
+      → map (λ (placement : Placement). placement.load) more ≡ take (i + 1) (distinct position.loads)
+  placed_more position i load next placements more e l places is =
+      let ds : List ℕ = distinct position.loads in
+      let loads_of : Placement → ℕ = λ placement. placement.load in
+      ap (map loads_of) is ∙ map-append loads_of placements (record { load = load; next = next } ∷ [])
+      ∙ ap (λ xs. xs ++ load ∷ []) places ∙ ap (λ x. take i ds ++ x ∷ []) e ∙ sym (take_more ds i 0 l)
+
+  pub follows_more : (s1 s2 : Search) (position : Position) (size load : ℕ) (next : Then) (placements more : List Placement) (entries : List (Position ×
+      Verdict)) (past : List PathMove)
+      → WentOn game pass 0 past s1 s2 entries → All (FollowsUp game pass s1 position size) placements
+      → FollowsUp game pass s2 position size (record { load = load; next = next }) → more ≡ placements ++ record { load = load; next = next } ∷ []
+      → All (FollowsUp game pass s2 position size) more
+  follows_more s1 s2 position size load next placements more entries past g all f is =
+      subst (All (FollowsUp game pass s2 position size)) (sym is)
+      (All-push (FollowsUp game pass s2 position size) placements (record { load = load; next = next })
+      (All-weaker (FollowsUp game pass s1 position size) (FollowsUp game pass s2 position size)
+      (λ placement h. FollowsUp-goes game pass s1 s2 position size placement g.goes.wins h) placements all) f)
+
+  -- ---- a size
+
+  -- a size that the pass does not allow
+  pub not_allowed : (s : Search) (position : Position) (size : ℕ) (entries : List (Position × Verdict)) → IsSound game pass s entries
+      → IsOpenFrom game pass size s position → Packable game (position.items ++ size ∷ []) → (largest_of position.items ≤ size + pass → ⊥)
+      → HasAnswered game pass size position s s entries NoReply
+  not_allowed s position size entries sound o packable not =
+      let low = (size_of_last game position.items size packable).low in
+      let most = largest_of-le game.capacity position.items (Packable-prefix game position.items size packable).1.item_list in
+      record {
+        went = past_size s s position size game.target entries packable (WentOn-refl game pass (with_move s size game.target) s entries sound o.passed);
+        none = λ w. not ((allowed_in-exact (sizes_of game) position.items pass size).0 w.allows).1;
+        answered = elim (cases_lt (size + pass) (largest_of position.items)) [
+          | inl above ↦ omega (arith, above, most, low)
+          | inr below ↦ absurd (not below)
+        ];
+      }
+
+  pub may_come_allowed : (position : Position) (size : ℕ) → Packable game (position.items ++ size ∷ []) → largest_of position.items ≤ size + pass
+      → MayCome game pass position size
+  may_come_allowed position size packable l = record {
+    allowed = (allowed_in-exact (sizes_of game) position.items pass size).1
+        (Contains_from_size game.capacity size (size_of_last game position.items size packable), l);
+    packable = packable;
+  }
+
+  -- the placement of a load
+  placement_of : (P : Placement → Type 0) (placements : List Placement) (load : ℕ) → All P placements
+      → Contains (map (λ (placement : Placement). placement.load) placements) load → (placement : Placement) × P placement × (placement.load ≡ load)
+  placement_of P placements load all c =
+      let none : Placement = record { load = 0; next = Over } in
+      let loads_of : Placement → ℕ = λ placement. placement.load in
+      let within : c.0 < length placements = omega (arith, c.1, length-map placements loads_of) in
+      (get_or placements c.0 none, all c.0 none within, sym (get_or-map loads_of placements c.0 none load within) ∙ c.2)
+
+  -- a size wins with which each load reaches the target or leads to a won position
+  pub wins_by : (s : Search) (position : Position) (size : ℕ) (placements : List Placement) → MayCome game pass position size
+      → map (λ (placement : Placement). placement.load) placements ≡ distinct position.loads → All (FollowsUp game pass s position size) placements
+      → WinsBy game pass position size
+  wins_by s position size placements may places all = record {
+    allows = may.allowed;
+    may_come = may.packable;
+    each_load = λ load c.
+        let at = placement_of (FollowsUp game pass s position size) placements load all (subst (λ xs. Contains xs load) (sym places) (Contains-distinct load position.loads c)) in
+        subst (λ l. (game.target ≤ l + size) ⊎ IsWonIn game pass (after position l size)) at.2 at.1.won;
+  }
+
+  pub places_all : (s : Search) (position : Position) (size : ℕ) (placements : List Placement)
+      → map (λ (placement : Placement). placement.load) placements ≡ distinct position.loads → All (FollowsUp game pass s position size) placements
+      → PlacesAll game s.wins.nodes position size placements
+  places_all s position size placements places all = record {
+    each_load = places;
+    over = All-weaker (FollowsUp game pass s position size) (IsOverAtTarget game size) (λ placement f. f.over) placements all;
+    leads = All-weaker (FollowsUp game pass s position size)
+        (λ placement. LeadsTo (map adversary.position_of s.wins.nodes) placement.next (after position placement.load size)) (λ placement f. f.leads) placements all;
+  }
+
+  -- a size with an answer
+  pub weighs : (s0 s1 : Search) (position : Position) (size load : ℕ) (entries : List (Position × Verdict)) (verdict : Verdict)
+      → WentOn game pass 0 (with_move s0 (size - 1) game.target) s0 s1 entries → Contains position.loads load → load + size < game.target → IsNoWin verdict
+      → Tells game pass s1 (after position load size) verdict → HasWeighed game pass size position s0 s1 entries (kept_of size load verdict)
+  weighs s0 s1 position size load entries (Adversary number) g c below nothing t = absurd nothing
+  weighs s0 s1 position size load entries (Algorithm number) g c below nothing t = record {
+    went = g;
+    none = no_winning_size game (allowed_by game pass) position size load c below
+        (not_won_by_verdict game pass s1 entries (after position load size) (Algorithm number) g.sound nothing t);
+    answered = (refl, record { names = record { load = c; below = below }; leads = t.says });
+  }
+  weighs s0 s1 position size load entries (Held held) g c below nothing t = record {
+    went = g;
+    none = no_winning_size game (allowed_by game pass) position size load c below
+        (not_won_by_verdict game pass s1 entries (after position load size) (Held held) g.sound nothing t);
+    answered = omega (arith, t.says.0, t.of_pass);
+  }
+
+  -- ---- all sizes
+
+  -- at the next size
+  pub opens_size : (s0 s1 : Search) (position : Position) (room size : ℕ) (entries : List (Position × Verdict)) → IsOpenFrom game pass room s0 position
+      → WentOn game pass 0 (with_move s0 size game.target) s0 s1 entries → ((other : ℕ) → size < other → WinsBy game pass position other → ⊥)
+      → IsOpenFrom game pass size s1 position
+  opens_size s0 s1 position room size entries o g none = record {
+    stands = stands_still game pass s0.path s1.path position g.goes.path o.stands;
+    unfinished = o.unfinished;
+    larger_sizes = none;
+    passed = subst (λ p. HasPassed s1.meter pass (p ++ moved size game.target ∷ [])) (sym g.goes.path) g.passed;
+  }
+
+  -- the verdict is also that of the search before
+  pub finds_after : (s0 s1 s2 : Search) (past : List PathMove) (position : Position) (e1 e2 : List (Position × Verdict)) (verdict : Verdict)
+      → WentOn game pass 0 past s0 s1 e1 → FindsVerdict game pass 1 position s1 s2 e2 verdict → FindsVerdict game pass 1 position s0 s2 e2 verdict
+  finds_after s0 s1 s2 past position e1 e2 verdict g f = record {
+    went = record {
+      goes = Goes-trans 0 1 s0 s1 s2 g.goes f.went.goes;
+      sound = f.went.sound;
+      passed = subst (HasPassed s2.meter pass) g.goes.path f.went.passed;
+    };
+    tells = f.tells;
+  }
+
+  -- past one more size
+  pub past_more : (s0 s1 s2 : Search) (position : Position) (room tried : ℕ) (e1 e2 : List (Position × Verdict)) (weighed : Weighed)
+      → WentOn game pass 0 (with_move s0 (room - tried) game.target) s0 s1 e1 → HasAnswered game pass (room - tried) position s1 s2 e2 weighed
+      → WentOn game pass 0 (with_move s0 (room - (tried + 1)) game.target) s0 s2 e2
+  past_more s0 s1 s2 position room tried e1 e2 weighed g a =
+      let next : room - tried - 1 ≡ room - (tried + 1) = omega arith in
+      subst (λ size. WentOn game pass 0 (with_move s0 size game.target) s0 s2 e2) next
+      (WentOn-then game pass 0 0 (room - tried - 1) game.target (with_move s0 (room - tried) game.target) s0 s1 s2 e1 e2 g a.went)
+
+  pub none_more : (position : Position) (room tried : ℕ) → tried < room → ((size : ℕ) → room - tried < size → WinsBy game pass position size → ⊥)
+      → (WinsBy game pass position (room - tried) → ⊥) → (size : ℕ) → room - (tried + 1) < size → WinsBy game pass position size → ⊥
+  none_more position room tried l none here size above w = elim (cases_lt (room - tried) size) [
+    | inl larger ↦ none size larger w
+    | inr small ↦ let same : size ≡ room - tried = omega (arith, above, small, l) in here (subst (WinsBy game pass position) same w)
+  ]
+
+  pub sizes_more : (room tried : ℕ) (entry : Entry) (entries more : List Entry)
+      → (length entries ≡ tried → map (λ (entry : Entry). entry.size) entries ≡ numbers_down room tried)
+      → entry.size ≡ room - tried → more ≡ entries ++ entry ∷ [] → length more ≡ tried + 1
+      → map (λ (entry : Entry). entry.size) more ≡ numbers_down room (tried + 1)
+  sizes_more room tried entry entries more sizes e is len =
+      let size_of : Entry → ℕ = λ entry. entry.size in
+      let before : length entries ≡ tried = omega (arith, len, ap length is, length_push entries entry) in
+      ap (map size_of) is ∙ map-append size_of entries (entry ∷ []) ∙ ap (λ xs. xs ++ entry.size ∷ []) (sizes before)
+      ∙ ap (λ x. numbers_down room tried ++ x ∷ []) e ∙ sym (map-range_with_len_more (λ k. room - k) 0 tried tried (omega arith))
+
+  pub replies_still : (s1 s2 : Search) (position : Position) (past : List PathMove) (entries : List Entry) (e2 : List (Position × Verdict))
+      → WentOn game pass 0 past s1 s2 e2 → All (IsReply game s1.replies.nodes position) entries → All (IsReply game s2.replies.nodes position) entries
+  replies_still s1 s2 position past entries e2 g all =
+      All-weaker (IsReply game s1.replies.nodes position) (IsReply game s2.replies.nodes position)
+      (λ entry r. IsReply-goes game s1.replies.nodes s2.replies.nodes position entry g.goes.replies r) entries all
+
+  pub replies_more : (s1 s2 : Search) (position : Position) (past : List PathMove) (entry : Entry) (entries more : List Entry) (e2 : List (Position × Verdict))
+      → WentOn game pass 0 past s1 s2 e2 → All (IsReply game s1.replies.nodes position) entries → IsReply game s2.replies.nodes position entry
+      → more ≡ entries ++ entry ∷ [] → All (IsReply game s2.replies.nodes position) more
+  replies_more s1 s2 position past entry entries more e2 g all r is =
+      subst (All (IsReply game s2.replies.nodes position)) (sym is)
+      (All-push (IsReply game s2.replies.nodes position) entries entry (replies_still s1 s2 position past entries e2 g all) r)
+
+  -- a position with a reply to each size is never won
+  pub never_by_replies : (s : Search) (position : Position) (room : ℕ) (replies : List Entry) (entries : List (Position × Verdict)) → IsSound game pass s entries
+      → ReplyToAll game s.replies.nodes position room replies → IsNeverWon game position
+  never_by_replies s position room replies entries sound r = IsNeverWon-answered game position (λ size packable.
+      let size_of : Entry → ℕ = λ entry. entry.size in
+      let none : Entry = record { size = 0; load = 0; to = 0 } in
+      let low = (size_of_last game position.items size packable).low in
+      let high = le_room game position.items room size r.is_room packable in
+      let len : length replies ≡ room = sym (length-map replies size_of) ∙ ap length r.sizes ∙ length-map-range_with_len (λ k. room - k) 0 room in
+      let within : room - size < length replies = omega (arith, len, low, high) in
+      let entry : Entry = get_or replies (room - size) none in
+      let reply = r.each (room - size) none within in
+      let down_to = get_or-map-range_with_len (λ k. room - k) 0 room (room - size) (room - size) 0 (omega (arith, low, high)) (omega arith) in
+      let is : entry.size ≡ size = sym (get_or-map size_of replies (room - size) none 0 within) ∙ ap (λ xs. get_or xs (room - size) 0) r.sizes ∙ down_to ∙
+      omega (arith, low, high) in
+      record {
+        load = entry.load;
+        member = reply.names.load;
+        below = subst (λ x. entry.load + x < game.target) is reply.names.below;
+        never = subst (λ x. IsNeverWon game (after position entry.load x)) is
+            (never_by_node game pass s.meter s.wins s.replies entries (after position entry.load entry.size) entry.to sound reply.leads);
+      })

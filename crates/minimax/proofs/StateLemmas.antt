@@ -1,0 +1,216 @@
+-- How a search keeps what it keeps: pools that go on, verdicts that stay true, and states that stay sound.
+use Rattle.std.proofs.Common.{◌≡◌, ℕ, zero, suc, ◌+◌, ◌<◌, ◌≤◌, Some, List, [], ◌∷◌, ◌++◌, map, length}
+use Rattle.std.proofs.Common.{refl, sym, ap, ◌∙◌, subst, append_assoc, inl, inr, arith}
+use Rattle.std.specs.Prelude.{All, slice_get}
+use Rattle.std.proofs.lemmas.List.{append-nil, map-append, length_push}
+use Rattle.std.proofs.lemmas.List.Elements.{All-push, All-weaker}
+use Rattle.std.proofs.lemmas.Option.{slice_get-map, get_or_from_slice_get, slice_get_within, none-some}
+use Rattle.items.specs.Game.{GameNumbers}
+use Rattle.loads.specs.After.{after}
+use Rattle.loads.specs.Position.{StandsAt}
+use Rattle.loads.specs.declared.position.Position.{Position}
+use Rattle.strategy_text.specs.declared.node.AdvNode.{AdvNode}
+use Rattle.strategy_text.specs.declared.node.AlgNode.{AlgNode}
+use Rattle.strategy_text.specs.declared.node.Entry.{Entry}
+use Rattle.strategy_text.specs.declared.node.Placement.{Placement}
+use Rattle.strategy_text.specs.declared.node.Then.{Then}
+use Rattle.strategy_text.specs.declared.node.Then.TheVariants.{Over, To}
+use Rattle.adversary_graph.specs.Nodes as adversary
+use Rattle.adversary_graph.specs.Pools as adversary_pools
+use Rattle.adversary_graph.specs.Rules.{LeadsTo}
+use Rattle.items.proofs.ListLemmas.{mapped}
+use Rattle.algorithm_graph.specs.Nodes as algorithm
+use Rattle.algorithm_graph.specs.Pools as algorithm_pools
+use Rattle.monotone.specs.Passes.{whole_game}
+use Rattle.monotone.specs.Visits.{Visit, Metered, IsLater, IsVisit, counted}
+use Rattle.monotone.proofs.VisitLemmas.{CountsVisits-counted}
+use Rattle.transposition.specs.declared.verdict.Verdict.{Verdict}
+use Rattle.transposition.specs.declared.verdict.Verdict.TheVariants.{Adversary, Algorithm, Held}
+use Rattle.minimax.specs.State.{AreKnown, AreSound, FollowsUp, GoesOn, IsNeverWon, IsNoWin, IsReply, IsSound, IsWonIn}
+use Rattle.minimax.specs.State.{PutsOnly, PutsReply, PutsWin, Says, Tells, allowed_by}
+use Rattle.minimax.specs.declared.expanding.Search.{Search}
+use Rattle.minimax.proofs.WinLemmas.{IsWonIn-later}
+
+-- ---- lists that go on
+
+pub GoesOn-refl : {X : Type 0} (xs : List X) → GoesOn xs xs
+GoesOn-refl xs = ([], sym (append-nil xs))
+
+pub GoesOn-push : {X : Type 0} (xs : List X) (x : X) → GoesOn xs (xs ++ x ∷ [])
+GoesOn-push xs x = (x ∷ [], refl)
+
+pub GoesOn-trans : {X : Type 0} (xs ys zs : List X) → GoesOn xs ys → GoesOn ys zs → GoesOn xs zs
+GoesOn-trans xs ys zs a b = (a.0 ++ b.0, b.1 ∙ ap (λ l. l ++ b.0) a.1 ∙ append_assoc xs a.0 b.0)
+
+slice_get-goes : {X : Type 0} (xs more : List X) (n : ℕ) (x : X) → slice_get xs n ≡ Some x → slice_get (xs ++ more) n ≡ Some x
+slice_get-goes [] more n x e = absurd (none-some x e)
+slice_get-goes (y ∷ ys) more zero x e = e
+slice_get-goes (y ∷ ys) more (suc n) x e = slice_get-goes ys more n x e
+
+pub StandsAt-goes : {X : Type 0} (f : X → Position) (xs ys : List X) (n : ℕ) (p : Position) → GoesOn xs ys → StandsAt (map f xs) n p → StandsAt (map f ys) n p
+StandsAt-goes f xs ys n p g h =
+    subst (λ l. StandsAt (map f l) n p) (sym g.1)
+    (subst (λ l. StandsAt l n p) (sym (map-append f xs g.0)) (slice_get-goes (map f xs) (map f g.0) n p h))
+
+last_at : {X : Type 0} (f : X → Position) (xs : List X) (x : X) → StandsAt (map f (xs ++ x ∷ [])) (length xs) (f x)
+last_at f [] x = refl
+last_at f (y ∷ ys) x = last_at f ys x
+
+pub StandsAt-last : {X : Type 0} (f : X → Position) (xs ys : List X) (x : X) (n : ℕ) (p : Position) → ys ≡ xs ++ x ∷ [] → n ≡ length xs → f x ≡ p
+    → StandsAt (map f ys) n p
+StandsAt-last f xs ys x n p e number at =
+    subst (λ l. StandsAt (map f l) n p) (sym e)
+    (subst (λ k. StandsAt (map f (xs ++ x ∷ [])) k p) (sym number) (subst (StandsAt (map f (xs ++ x ∷ [])) (length xs)) at (last_at f xs x)))
+
+all_at : {X : Type 0} (P : X → Type 0) (xs : List X) (n : ℕ) (x : X) → All P xs → slice_get xs n ≡ Some x → P x
+all_at P xs n x all e = subst P (get_or_from_slice_get xs n x x e) (all n x (slice_get_within xs n x e))
+
+pub all_stand : {X : Type 0} (f : X → Position) (P : Position → Type 0) (xs : List X) (n : ℕ) (p : Position) → All (λ x. P (f x)) xs → StandsAt (map f xs) n p → P p
+all_stand f P xs n p all h =
+    let m = mapped f (slice_get xs n) p (sym (slice_get-map f xs n) ∙ h) in
+    subst P m.2 (all_at (λ x. P (f x)) xs n m.0 all m.1)
+
+-- ---- verdicts
+
+pub Says-goes : (game : GameNumbers) (wins more_wins : List AdvNode) (replies more_replies : List AlgNode) (position : Position) (verdict : Verdict)
+    → GoesOn wins more_wins → GoesOn replies more_replies → Says game wins replies position verdict → Says game more_wins more_replies position verdict
+Says-goes game wins more_wins replies more_replies position (Adversary number) g h s = StandsAt-goes adversary.position_of wins more_wins number position g s
+Says-goes game wins more_wins replies more_replies position (Algorithm number) g h s = StandsAt-goes algorithm.position_of replies more_replies number position h s
+Says-goes game wins more_wins replies more_replies position (Held held) g h s = s
+
+-- where a verdict is a win of the adversary, it wins this pass
+pub won_by_node : (game : GameNumbers) (pass : ℕ) (meter : Metered) (wins : adversary_pools.Pool) (replies : algorithm_pools.Pool) (entries : List (Position × Verdict))
+    (position : Position) (number : ℕ) → AreSound game pass meter wins replies entries → StandsAt (map adversary.position_of wins.nodes) number position
+    → IsWonIn game pass position
+won_by_node game pass meter wins replies entries position number s h = all_stand adversary.position_of (IsWonIn game pass) wins.nodes number position s.won h
+
+-- where a verdict is the algorithm's, the position is won in no pass
+pub never_by_node : (game : GameNumbers) (pass : ℕ) (meter : Metered) (wins : adversary_pools.Pool) (replies : algorithm_pools.Pool) (entries : List (Position × Verdict))
+    (position : Position) (number : ℕ) → AreSound game pass meter wins replies entries → StandsAt (map algorithm.position_of replies.nodes) number position
+    → IsNeverWon game position
+never_by_node game pass meter wins replies entries position number s h = all_stand algorithm.position_of (IsNeverWon game) replies.nodes number position s.lost h
+
+-- a verdict that is no win of the adversary says that it does not win this pass
+pub not_won_by_verdict : (game : GameNumbers) (pass : ℕ) (search : Search) (entries : List (Position × Verdict)) (position : Position) (verdict : Verdict)
+    → IsSound game pass search entries → IsNoWin verdict → Tells game pass search position verdict → IsWonIn game pass position → ⊥
+not_won_by_verdict game pass state entries position (Adversary number) s nothing t won = nothing
+not_won_by_verdict game pass state entries position (Algorithm number) s nothing t won =
+    never_by_node game pass state.meter state.wins state.replies entries position number s t.says (allowed_by game pass) won
+not_won_by_verdict game pass state entries position (Held held) s nothing t won = t.says.1 (subst (λ k. IsWonIn game k position) (sym t.of_pass) won)
+
+-- ---- what follows an item
+
+pub LeadsTo-goes : (wins more : List AdvNode) (next : Then) (position : Position) → GoesOn wins more → LeadsTo (map adversary.position_of wins) next position
+    → LeadsTo (map adversary.position_of more) next position
+LeadsTo-goes wins more Over position g h = tt
+LeadsTo-goes wins more (To child) position g h = StandsAt-goes adversary.position_of wins more child position g h
+
+pub FollowsUp-goes : (game : GameNumbers) (pass : ℕ) (before after : Search) (position : Position) (size : ℕ) (placement : Placement)
+    → GoesOn before.wins.nodes after.wins.nodes → FollowsUp game pass before position size placement → FollowsUp game pass after position size placement
+FollowsUp-goes game pass before after position size placement g f =
+    record { over = f.over; leads = LeadsTo-goes before.wins.nodes after.wins.nodes placement.next _ g f.leads; won = f.won }
+
+pub IsReply-goes : (game : GameNumbers) (replies more : List AlgNode) (position : Position) (entry : Entry) → GoesOn replies more
+    → IsReply game replies position entry → IsReply game more position entry
+IsReply-goes game replies more position entry g r = record { names = r.names; leads = StandsAt-goes algorithm.position_of replies more entry.to _ g r.leads }
+
+-- ---- states that stay sound
+
+module _ (game : GameNumbers) (pass : ℕ) (meter : Metered) (wins : adversary_pools.Pool) (replies : algorithm_pools.Pool) (entries : List (Position × Verdict)) where
+  -- with other entries that hold
+  pub AreSound-known : (more : List (Position × Verdict)) → AreSound game pass meter wins replies entries → AreKnown game wins.nodes replies.nodes more
+      → AreSound game pass meter wins replies more
+  AreSound-known more s known = record {
+    wins_game = s.wins_game;
+    wins_format = s.wins_format;
+    replies_game = s.replies_game;
+    replies_format = s.replies_format;
+    counts = s.counts;
+    few = s.few;
+    within = s.within;
+    budget = s.budget;
+    won = s.won;
+    lost = s.lost;
+    known = known;
+  }
+
+  -- after a verdict was put that says what holds
+  pub AreSound-put : (more : List (Position × Verdict)) (position : Position) (verdict : Verdict) → AreSound game pass meter wins replies entries
+      → PutsOnly entries more position verdict → Says game wins.nodes replies.nodes position verdict → AreSound game pass meter wins replies more
+  AreSound-put more position verdict s puts says = AreSound-known more s
+      (λ one told e. elim (puts one told e) [
+        | inl (p, v) ↦ subst (λ q. Says game wins.nodes replies.nodes q told) (sym p) (subst (Says game wins.nodes replies.nodes position) (sym v) says)
+        | inr old ↦ s.known one told old
+      ])
+
+  -- after one more visit
+  pub AreSound-counted : (after : Metered) (next : Visit) → AreSound game pass meter wins replies entries → after ≡ counted meter next
+      → IsVisit (whole_game game) next → IsLater meter next → (meter.count ≡ meter.budget → ⊥) → AreSound game pass after wins replies entries
+  AreSound-counted after next s e is later left = subst (λ m. AreSound game pass m wins replies entries) (sym e) (record {
+    wins_game = s.wins_game;
+    wins_format = s.wins_format;
+    replies_game = s.replies_game;
+    replies_format = s.replies_format;
+    counts = CountsVisits-counted (whole_game game) meter next s.counts is later;
+    few = omega (arith, s.few);
+    within = omega (arith, s.within, left);
+    budget = s.budget;
+    won = s.won;
+    lost = s.lost;
+    known = s.known;
+  })
+
+  -- after a node of the adversary at a won position
+  pub AreSound-win : (after : adversary_pools.Pool) (position : Position) (number : ℕ) → AreSound game pass meter wins replies entries
+      → PutsWin wins after position number → IsWonIn game pass position → length wins.nodes + length replies.nodes < meter.count
+      → AreSound game pass meter after replies entries
+  AreSound-win after position number s p won spare = subst (λ w. AreSound game pass meter w replies entries) (sym p.pool) (record {
+    wins_game = s.wins_game;
+    wins_format = s.wins_format;
+    replies_game = s.replies_game;
+    replies_format = s.replies_format;
+    counts = s.counts;
+    few = omega (arith, spare, length_push wins.nodes p.node);
+    within = s.within;
+    budget = s.budget;
+    won = All-push (λ node. IsWonIn game pass (adversary.position_of node)) wins.nodes p.node s.won (subst (IsWonIn game pass) (sym p.stands) won);
+    lost = s.lost;
+    known = λ one told e. Says-goes game wins.nodes (wins.nodes ++ p.node ∷ []) replies.nodes replies.nodes one told
+        (GoesOn-push wins.nodes p.node) (GoesOn-refl replies.nodes) (s.known one told e);
+  })
+
+  -- after a node of the algorithm at a position that is never won
+  pub AreSound-reply : (after : algorithm_pools.Pool) (position : Position) (number : ℕ) → AreSound game pass meter wins replies entries
+      → PutsReply replies after position number → IsNeverWon game position → length wins.nodes + length replies.nodes < meter.count
+      → AreSound game pass meter wins after entries
+  AreSound-reply after position number s p never spare = subst (λ r. AreSound game pass meter wins r entries) (sym p.pool) (record {
+    wins_game = s.wins_game;
+    wins_format = s.wins_format;
+    replies_game = s.replies_game;
+    replies_format = s.replies_format;
+    counts = s.counts;
+    few = omega (arith, spare, length_push replies.nodes p.node);
+    within = s.within;
+    budget = s.budget;
+    won = s.won;
+    lost = All-push (λ node. IsNeverWon game (algorithm.position_of node)) replies.nodes p.node s.lost (subst (IsNeverWon game) (sym p.stands) never);
+    known = λ one told e. Says-goes game wins.nodes wins.nodes replies.nodes (replies.nodes ++ p.node ∷ []) one told
+        (GoesOn-refl wins.nodes) (GoesOn-push replies.nodes p.node) (s.known one told e);
+  })
+
+  -- in a later pass
+  pub AreSound-later : (later : ℕ) → pass ≤ later → AreSound game pass meter wins replies entries → AreSound game later meter wins replies entries
+  AreSound-later later l s = record {
+    wins_game = s.wins_game;
+    wins_format = s.wins_format;
+    replies_game = s.replies_game;
+    replies_format = s.replies_format;
+    counts = s.counts;
+    few = s.few;
+    within = s.within;
+    budget = s.budget;
+    won = All-weaker (λ node. IsWonIn game pass (adversary.position_of node)) (λ node. IsWonIn game later (adversary.position_of node))
+        (λ node w. IsWonIn-later game pass later (adversary.position_of node) l w) wins.nodes s.won;
+    lost = s.lost;
+    known = s.known;
+  }

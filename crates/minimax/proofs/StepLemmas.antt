@@ -1,0 +1,304 @@
+-- The steps of a search: what each part of an expansion leaves to the next.
+use Rattle.std.proofs.Common.{◌≡◌, ℕ, ◌+◌, ◌<◌, ◌≤◌, Option, Some, None, List, [], ◌∷◌, ◌++◌, length}
+use Rattle.std.proofs.Common.{refl, sym, ap, ◌∙◌, subst, inl, inr, arith}
+use Rattle.std.specs.Prelude.{Err, MatchOption, MatchResult, Ok, Result}
+use Rattle.std.specs.Result.{IsErrAnd}
+use Rattle.std.proofs.lemmas.List.{length_push}
+use Rattle.items.specs.Game.{GameNumbers}
+use Rattle.items.specs.Packable.{IsRoom}
+use Rattle.loads.specs.After.{after}
+use Rattle.loads.specs.Wins.{empty_position}
+use Rattle.loads.specs.Packed.{are_equal}
+use Rattle.loads.specs.declared.position.Position.{Position}
+use Rattle.packing_witness.proofs.PackingLemmas.{le_room}
+use Rattle.good_situations.specs.Finish.{Finishes}
+use Rattle.strategy_text.specs.declared.node.Then.TheVariants.{Over}
+use Rattle.adversary_graph.specs.Nodes as adversary
+use Rattle.adversary_graph.specs.Pools as adversary_pools
+use Rattle.algorithm_graph.specs.Nodes as algorithm
+use Rattle.algorithm_graph.specs.Pools as algorithm_pools
+use Rattle.monotone.specs.Paths.{IsEarlierMove, IsLegalMove, moved, position_after}
+use Rattle.monotone.specs.Visits.{visit, Metered, IsLater, counted}
+use Rattle.monotone.specs.declared.meter.VisitFault.{VisitFault}
+use Rattle.monotone.specs.declared.path.PathMove.{PathMove}
+use Rattle.monotone.proofs.PathLemmas.{IsLegalFrom-push, position_after-push}
+use Rattle.transposition.specs.Bounded.{SameEntries}
+use Rattle.transposition.specs.Memo.{verdict_of}
+use Rattle.transposition.specs.declared.verdict.Verdict.{Verdict}
+use Rattle.transposition.specs.declared.verdict.Verdict.TheVariants.{Adversary, Algorithm, Held}
+use Rattle.minimax.specs.Settled.{AreSettledFrom, IsSettledMove}
+use Rattle.minimax.specs.State.{AreSound, FindsVerdict, FollowsUp, Goes, HasPassed, HasReached, IsNeverWon, IsOfPass, IsOpenAt, IsOpenFrom}
+use Rattle.minimax.specs.State.{IsSound, IsWonIn, MayCome, MayVisit, PutsOnly, PutsReply, PutsWin, Says, StandsAtPath, Tells, WentOn}
+use Rattle.minimax.specs.State.{allowed_by, nodes_in, reached_by, with_move}
+use Rattle.minimax.specs.declared.expanding.Search.{Search}
+use Rattle.minimax.proofs.PastLemmas.{HasPassed-later, HasPassed-moves, HasPassed-path, HasPassed-visited}
+use Rattle.minimax.proofs.PlayableLemmas.{IsPlayable-after}
+use Rattle.minimax.proofs.StateLemmas.{AreSound-counted, AreSound-known, AreSound-put, AreSound-reply, AreSound-win}
+use Rattle.minimax.proofs.StateLemmas.{GoesOn-refl, GoesOn-trans}
+use Rattle.minimax.proofs.StateLemmas.{StandsAt-last, won_by_node}
+
+-- ---- faults
+
+-- a fault that is passed on
+pub passed_on : {X : Type 0} (P : X → Type 0) (Q : VisitFault → Type 0) (fault : VisitFault) (result : Result X VisitFault)
+    → IsErrAnd result (λ other. other ≡ fault) → Q fault → MatchResult result P Q
+passed_on P Q fault (Ok x) h q = absurd h
+passed_on P Q fault (Err other) h q = subst Q (sym h) q
+
+-- ---- going on
+
+pub Goes-refl : (search : Search) → Goes 0 search search
+Goes-refl s = record {
+  wins = GoesOn-refl s.wins.nodes;
+  replies = GoesOn-refl s.replies.nodes;
+  path = refl;
+  budget = refl;
+  counted = omega arith;
+}
+
+pub Goes-trans : (a b : ℕ) (s0 s1 s2 : Search) → Goes a s0 s1 → Goes b s1 s2 → Goes (a + b) s0 s2
+Goes-trans a b s0 s1 s2 g h = record {
+  wins = GoesOn-trans s0.wins.nodes s1.wins.nodes s2.wins.nodes g.wins h.wins;
+  replies = GoesOn-trans s0.replies.nodes s1.replies.nodes s2.replies.nodes g.replies h.replies;
+  path = h.path ∙ g.path;
+  budget = h.budget ∙ g.budget;
+  counted = omega (arith, g.counted, h.counted);
+}
+
+module _ (game : GameNumbers) (pass : ℕ) where
+  pub WentOn-refl : (past : List PathMove) (s : Search) (entries : List (Position × Verdict)) → IsSound game pass s entries → HasPassed s.meter pass past
+      → WentOn game pass 0 past s s entries
+  WentOn-refl past s entries sound passed = record { goes = Goes-refl s; sound = sound; passed = passed }
+
+  -- one step after another; what is past a move of the path is so from either state
+  pub WentOn-then : (a b size load : ℕ) (past : List PathMove) (s0 s1 s2 : Search) (e1 e2 : List (Position × Verdict)) → WentOn game pass a past s0 s1 e1
+      → WentOn game pass b (with_move s1 size load) s1 s2 e2 → WentOn game pass (a + b) (with_move s0 size load) s0 s2 e2
+  WentOn-then a b size load past s0 s1 s2 e1 e2 g h = record {
+    goes = Goes-trans a b s0 s1 s2 g.goes h.goes;
+    sound = h.sound;
+    passed = subst (λ p. HasPassed s2.meter pass (p ++ moved size load ∷ [])) g.goes.path h.passed;
+  }
+
+  -- past a later move
+  pub WentOn-later : (spare : ℕ) (a b : PathMove) (s0 s1 : Search) (entries : List (Position × Verdict)) → IsEarlierMove a b
+      → WentOn game pass spare (s0.path ++ a ∷ []) s0 s1 entries → WentOn game pass spare (s0.path ++ b ∷ []) s0 s1 entries
+  WentOn-later spare a b s0 s1 entries l g =
+      record { goes = g.goes; sound = g.sound; passed = HasPassed-moves s1.meter pass s0.path a b l g.passed }
+
+  -- there are fewer nodes than visits still
+  pub spare_still : (past : List PathMove) (s0 s1 : Search) (entries : List (Position × Verdict)) → WentOn game pass 0 past s0 s1 entries
+      → nodes_in s0 < s0.meter.count → nodes_in s1 < s1.meter.count
+  spare_still past s0 s1 entries g spare = omega (arith, g.goes.counted, spare)
+
+  -- the path leads where it led
+  pub stands_still : (path more : List PathMove) (position : Position) → more ≡ path → StandsAtPath game pass path position → StandsAtPath game pass more position
+  stands_still path more position e s = subst (λ p. StandsAtPath game pass p position) (sym e) s
+
+  -- ---- an expansion
+
+  pub finds_known : (s : Search) (position : Position) (entries more : List (Position × Verdict)) (verdict : Verdict) → IsSound game pass s entries
+      → MayVisit game pass s position → verdict_of entries position ≡ Some verdict → IsOfPass pass verdict → SameEntries are_equal entries more
+      → FindsVerdict game pass 0 position s s more verdict
+  finds_known s position entries more verdict sound may told of same = record {
+    went = WentOn-refl s.path s more
+        (AreSound-known game pass s.meter s.wins s.replies entries more sound (λ p v e. sound.known p v (sym (same.values p) ∙ e)))
+        (HasPassed-later s.meter pass s.path may.later);
+    tells = record { says = sound.known position verdict told; of_pass = of };
+  }
+
+  pub sound_visited : (s : Search) (position : Position) (entries more : List (Position × Verdict)) (meter : Metered) → IsSound game pass s entries
+      → MayVisit game pass s position → meter ≡ counted s.meter (visit pass s.path) → (s.meter.count ≡ s.meter.budget → ⊥) → SameEntries are_equal entries more
+      → AreSound game pass meter s.wins s.replies more
+  sound_visited s position entries more meter sound may e left same =
+      AreSound-counted game pass s.meter s.wins s.replies more meter (visit pass s.path)
+      (AreSound-known game pass s.meter s.wins s.replies entries more sound (λ p v told. sound.known p v (sym (same.values p) ∙ told))) e
+      (record { from_first = omega arith; to_last = may.stands.of_game; legal = may.stands.legal }) may.later left
+
+  pub finds_expanded : (s0 s2 : Search) (meter : Metered) (position : Position) (entries more : List (Position × Verdict)) (verdict : Verdict)
+      → meter ≡ counted s0.meter (visit pass s0.path) → FindsVerdict game pass 1 position (record s0 { meter = meter }) s2 entries verdict
+      → PutsOnly entries more position verdict → FindsVerdict game pass 0 position s0 s2 more verdict
+  finds_expanded s0 s2 meter position entries more verdict e f puts =
+      let g = f.went.goes in
+      record {
+        went = record {
+          goes = record {
+            wins = g.wins;
+            replies = g.replies;
+            path = g.path;
+            budget = g.budget ∙ ap (λ m. m.budget) e;
+            counted = omega (arith, g.counted, ap (λ m. m.count) e);
+          };
+          sound = AreSound-put game pass s2.meter s2.wins s2.replies entries more position verdict f.went.sound puts f.tells.says;
+          passed = f.went.passed;
+        };
+        tells = f.tells;
+      }
+
+  -- ---- a decision
+
+  -- a node of the algorithm gives the verdict
+  pub finds_reply : (s0 s1 : Search) (replies : algorithm_pools.Pool) (a : PathMove) (position : Position) (entries : List (Position × Verdict)) (number : ℕ)
+      → WentOn game pass 0 (s0.path ++ a ∷ []) s0 s1 entries → nodes_in s0 < s0.meter.count → PutsReply s1.replies replies position number
+      → IsNeverWon game position → FindsVerdict game pass 1 position s0 (record s1 { replies = replies }) entries (Algorithm number)
+  finds_reply s0 s1 replies a position entries number g spare p never =
+      let nodes : replies.nodes ≡ s1.replies.nodes ++ p.node ∷ [] = ap (λ r. r.nodes) p.pool in
+      record {
+        went = record {
+          goes = record {
+            wins = g.goes.wins;
+            replies = GoesOn-trans s0.replies.nodes s1.replies.nodes replies.nodes g.goes.replies (p.node ∷ [], nodes);
+            path = g.goes.path;
+            budget = g.goes.budget;
+            counted = omega (arith, g.goes.counted, ap length nodes, length_push s1.replies.nodes p.node);
+          };
+          sound = AreSound-reply game pass s1.meter s1.wins s1.replies entries replies position number g.sound p never
+              (spare_still (s0.path ++ a ∷ []) s0 s1 entries g spare);
+          passed = HasPassed-path s1.meter pass s0.path a g.passed;
+        };
+        tells = record {
+          says = StandsAt-last algorithm.position_of s1.replies.nodes replies.nodes p.node number position nodes p.is_last p.stands;
+          of_pass = tt;
+        };
+      }
+
+  -- a node of the adversary gives the verdict
+  pub finds_win : (s0 s1 : Search) (wins : adversary_pools.Pool) (a : PathMove) (position : Position) (entries : List (Position × Verdict)) (number : ℕ)
+      → WentOn game pass 0 (s0.path ++ a ∷ []) s0 s1 entries → nodes_in s0 < s0.meter.count → PutsWin s1.wins wins position number
+      → IsWonIn game pass position → FindsVerdict game pass 1 position s0 (record s1 { wins = wins }) entries (Adversary number)
+  finds_win s0 s1 wins a position entries number g spare p won =
+      let nodes : wins.nodes ≡ s1.wins.nodes ++ p.node ∷ [] = ap (λ w. w.nodes) p.pool in
+      record {
+        went = record {
+          goes = record {
+            wins = GoesOn-trans s0.wins.nodes s1.wins.nodes wins.nodes g.goes.wins (p.node ∷ [], nodes);
+            replies = g.goes.replies;
+            path = g.goes.path;
+            budget = g.goes.budget;
+            counted = omega (arith, g.goes.counted, ap length nodes, length_push s1.wins.nodes p.node);
+          };
+          sound = AreSound-win game pass s1.meter s1.wins s1.replies entries wins position number g.sound p won
+              (spare_still (s0.path ++ a ∷ []) s0 s1 entries g spare);
+          passed = HasPassed-path s1.meter pass s0.path a g.passed;
+        };
+        tells = record {
+          says = StandsAt-last adversary.position_of s1.wins.nodes wins.nodes p.node number position nodes p.is_last p.stands;
+          of_pass = tt;
+        };
+      }
+
+  -- that no size wins gives the verdict
+  pub finds_held : (s0 s1 : Search) (a : PathMove) (position : Position) (entries : List (Position × Verdict))
+      → WentOn game pass 0 (s0.path ++ a ∷ []) s0 s1 entries → pass + 1 < game.capacity → (IsWonIn game pass position → ⊥)
+      → FindsVerdict game pass 1 position s0 s1 entries (Held pass)
+  finds_held s0 s1 a position entries g before none = record {
+    went = record {
+      goes = record {
+        wins = g.goes.wins;
+        replies = g.goes.replies;
+        path = g.goes.path;
+        budget = g.goes.budget;
+        counted = omega (arith, g.goes.counted);
+      };
+      sound = g.sound;
+      passed = HasPassed-path s1.meter pass s0.path a g.passed;
+    };
+    tells = record { says = (before, none); of_pass = refl };
+  }
+
+  -- after a visit the sizes from the room on are to be weighed
+  pub opens : (s : Search) (position : Position) (room : ℕ) → StandsAtPath game pass s.path position → s.meter.last ≡ Some (visit pass s.path)
+      → (Finishes game position.loads → ⊥) → IsRoom game position.items room → IsOpenFrom game pass room s position
+  opens s position room stands last unfinished is_room = record {
+    stands = stands;
+    unfinished = unfinished;
+    larger_sizes = λ other l w. omega (arith, l, le_room game position.items room other is_room w.may_come);
+    passed = HasPassed-visited s.meter pass s.path (moved room game.target) last;
+  }
+
+  -- ---- a load
+
+  AreSettledFrom-push : (start : Position) (path : List PathMove) (step : PathMove) → AreSettledFrom game (allowed_by game pass) start path
+      → IsSettledMove game (allowed_by game pass) (position_after start path) step → AreSettledFrom game (allowed_by game pass) start (path ++ step ∷ [])
+  AreSettledFrom-push start [] step h m = (m, tt)
+  AreSettledFrom-push start (x ∷ path) step h m = (h.0, AreSettledFrom-push (after start x.load x.item) path step h.1 m)
+
+  -- the position after the item may be visited
+  pub may_visit_child : (s : Search) (path : List PathMove) (position child : Position) (size load : ℕ) → IsOpenAt game pass size load s position
+      → MayCome game pass position size → load + size < game.target → path ≡ with_move s size load → child ≡ after position load size
+      → MayVisit game pass (record s { path = path }) child
+  may_visit_child s path position child size load o may below e f =
+      let step : PathMove = moved size load in
+      let start = empty_position game in
+      let legal : IsLegalMove game (allowed_by game pass) position step =
+      record { allowed_size = may.allowed; packable = may.packable; has_load = o.has_load; below_target = below } in
+      let settled : IsSettledMove game (allowed_by game pass) position step =
+      record { unfinished = o.unfinished; larger_sizes = o.larger_sizes; larger_loads = o.larger_loads } in
+      let stands : StandsAtPath game pass (s.path ++ step ∷ []) (after position load size) = record {
+        of_game = o.stands.of_game;
+        playable = IsPlayable-after game position load size o.stands.playable o.has_load below may.packable;
+        legal = IsLegalFrom-push game (allowed_by game pass) start s.path step o.stands.legal
+            (subst (λ p. IsLegalMove game (allowed_by game pass) p step) o.stands.here legal);
+        here = ap (λ p. after p load size) o.stands.here ∙ sym (position_after-push start s.path step);
+        settled = AreSettledFrom-push start s.path step o.stands.settled
+            (subst (λ p. IsSettledMove game (allowed_by game pass) p step) o.stands.here settled);
+      } in
+      record {
+        stands = subst (λ p. StandsAtPath game pass p child) (sym e) (subst (StandsAtPath game pass (s.path ++ step ∷ [])) (sym f) stands);
+        later = subst (λ p. IsLater s.meter (visit pass p)) (sym e) o.later;
+      }
+
+  same_front : (xs ys : List PathMove) (x y : PathMove) → xs ++ x ∷ [] ≡ ys ++ y ∷ [] → xs ≡ ys
+  same_front [] [] x y e = refl
+  same_front [] (b ∷ ys) x y e = absurd (omega (arith, ap length e, length_push ys y))
+  same_front (a ∷ xs) [] x y e = absurd (omega (arith, ap length e, length_push xs x))
+  same_front (a ∷ xs) (b ∷ ys) x y e =
+      let heads : a ≡ b = cc in
+      let tails : xs ++ x ∷ [] ≡ ys ++ y ∷ [] = cc in
+      ap (λ h. h ∷ xs) heads ∙ ap (λ t. b ∷ t) (same_front xs ys x y tails)
+
+  -- the path without its last move
+  pub popped : (old new base : List PathMove) (step : PathMove) (o : Option PathMove) → old ≡ base ++ step ∷ []
+      → MatchOption o ((old ≡ []) × (new ≡ [])) (λ last. old ≡ new ++ last ∷ []) → new ≡ base
+  popped old new base step None e h = absurd (omega (arith, ap length e, ap length h.0, length_push base step))
+  popped old new base step (Some last) e h = same_front new base last step (sym h ∙ e)
+
+  reaches : (s : Search) (entries : List (Position × Verdict)) (position : Position) (size load : ℕ) (verdict : Verdict) → load + size < game.target
+      → IsSound game pass s entries → Tells game pass s (after position load size) verdict → HasReached game pass s position size load (reached_by verdict)
+  reaches s entries position size load (Adversary number) below sound t = record {
+    over = (λ o. absurd o, λ l. absurd (omega (arith, l, below)));
+    leads = t.says;
+    won = inr (won_by_node game pass s.meter s.wins s.replies entries (after position load size) number sound t.says);
+  }
+  reaches s entries position size load (Algorithm number) below sound t = (below, tt, t)
+  reaches s entries position size load (Held held) below sound t = (below, tt, t)
+
+  -- what the position after the item comes to
+  pub reached_child : (s0 s2 : Search) (path back : List PathMove) (o : Option PathMove) (position child : Position) (size load : ℕ)
+      (entries : List (Position × Verdict)) (verdict : Verdict) → load + size < game.target → path ≡ with_move s0 size load → child ≡ after position load size
+      → FindsVerdict game pass 0 child (record s0 { path = path }) s2 entries verdict
+      → MatchOption o ((s2.path ≡ []) × (back ≡ [])) (λ last. s2.path ≡ back ++ last ∷ [])
+      → WentOn game pass 0 (with_move s0 size load) s0 (record s2 { path = back }) entries
+      × HasReached game pass (record s2 { path = back }) position size load (reached_by verdict)
+  reached_child s0 s2 path back o position child size load entries verdict below e f finds h =
+      let g = finds.went.goes in
+      let base : back ≡ s0.path = popped s2.path back s0.path (moved size load) o (g.path ∙ e) h in (
+        record {
+          goes = record { wins = g.wins; replies = g.replies; path = base; budget = g.budget; counted = g.counted };
+          sound = finds.went.sound;
+          passed = subst (HasPassed s2.meter pass) e finds.went.passed;
+        },
+        reaches (record s2 { path = back }) entries position size load verdict below finds.went.sound
+            (record {
+              says = subst (λ p. Says game s2.wins.nodes s2.replies.nodes p verdict) f finds.tells.says;
+              of_pass = finds.tells.of_pass;
+            }),
+      )
+
+  -- a load at which the item reaches the target
+  pub reached_over : (s : Search) (position : Position) (size load : ℕ) (entries : List (Position × Verdict)) → IsSound game pass s entries
+      → IsOpenAt game pass size load s position → game.target ≤ load + size
+      → WentOn game pass 0 (with_move s size load) s s entries × FollowsUp game pass s position size (record { load = load; next = Over })
+  reached_over s position size load entries sound o over = (
+    WentOn-refl (with_move s size load) s entries sound (HasPassed-later s.meter pass (with_move s size load) o.later),
+    record { over = (λ h. over, λ h. tt); leads = tt; won = inl over },
+  )

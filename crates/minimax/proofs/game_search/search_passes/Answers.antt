@@ -1,0 +1,93 @@
+use Rattle.std.proofs.Common.{◌∙◌, ◌+◌, ℕ, sum, sym, ap, subst, inl, arith}
+use Rattle.loads.specs.Loads.{IsLoads}
+use Rattle.loads.specs.Position.{position}
+use Rattle.loads.specs.Wins.{empty_position}
+use Rattle.monotone.specs.Visits.{IsLater, Metered, visit}
+use Rattle.minimax.specs.State.{FindsVerdict, IsNeverWon, IsSpent, IsWonIn, Stops}
+use Rattle.minimax.specs.Fresh.{IsShort, progress}
+use Rattle.minimax.proofs.FreshLemmas.{IsLessThanEnds-short, IsWithinEnds-next, IsWithinEnds-start}
+use Rattle.minimax.proofs.StateLemmas.{AreSound-later, never_by_node}
+use Rattle.minimax.proofs.RootLemmas.{AreSound-new, IsDue-spent, may_visit_root, none_more, root_of_reply, root_of_win}
+use Rattle.minimax.proofs.game_search.search_passes.Goals as goal
+
+pub loop-pass-init : goal.loop-pass-init
+loop-pass-init g c = record {
+  sound = AreSound-new c.args.game.now 0 c.args.budget c.new.result c.new-2.result c.new-3.result (g.M.Memo.entries c.args.memo.now) c.new.ensures.unused c.new-2.ensures.empty
+      c.new-3.ensures.empty c.requires.empty c.requires.most;
+  ends = IsWithinEnds-start c.args.game.now (g.M.Memo.room c.args.memo.now) c.args.budget c.new.result (g.M.Memo.entries c.args.memo.now) c.new.ensures.unused c.requires.empty;
+  path = c.new-4.ensures.none;
+  budget = ap (λ (m : Metered). m.budget) c.new.ensures.unused;
+  none_before = λ earlier first l won. omega (arith, l);
+  later = λ path. subst (λ (m : Metered). IsLater m (visit 0 path)) (sym c.new.ensures.unused) tt;
+  of_game = omega (arith, c.g-pass-end.ensures.legal.capacity.low);
+}
+
+pub expand-requires-clause-may : goal.expand-requires-clause-may
+expand-requires-clause-may g c =
+    let game = c.args.game.now in
+    let root = ap (λ xs. position xs c.empty.result) c.zero.ensures.value ∙ ap (position (empty_position game).loads) c.empty.ensures.none in
+    may_visit_root game c.loop-pass.pass c.loop-pass.search (position c.zero.result c.empty.result) c.loop-pass.invariant.of_game
+    (subst (IsLoads game) c.zero.ensures.value c.zero.ensures.legal) root c.loop-pass.invariant.path c.loop-pass.invariant.later
+
+pub into_strategy-requires : goal.into_strategy-requires
+into_strategy-requires g c =
+    let game = c.args.game.now in
+    let e = g.M.Memo.entries c.expand.new.memo in
+    let root = ap (λ xs. position xs c.empty.result) c.zero.ensures.value ∙ ap (position (empty_position game).loads) c.empty.ensures.none in
+    let finds = subst (FindsVerdict game c.loop-pass.pass 0 (position c.zero.result c.empty.result) c.loop-pass.search c.expand.new.search e) c.in-Ok-Adversary.field-0-is
+    c.in-Ok-Adversary.ensures.found in
+    record { root = root_of_win game c.loop-pass.pass c.expand.new.search.wins.nodes c.in-Ok-Adversary.number (position c.zero.result c.empty.result) root finds.tells.says }
+
+pub into_strategy-requires-in-Ok-Algorithm : goal.into_strategy-requires-in-Ok-Algorithm
+into_strategy-requires-in-Ok-Algorithm g c =
+    let game = c.args.game.now in
+    let e = g.M.Memo.entries c.expand.new.memo in
+    let root = ap (λ xs. position xs c.empty.result) c.zero.ensures.value ∙ ap (position (empty_position game).loads) c.empty.ensures.none in
+    let finds = subst (FindsVerdict game c.loop-pass.pass 0 (position c.zero.result c.empty.result) c.loop-pass.search c.expand.new.search e) c.in-Ok-Algorithm.field-0-is
+    c.in-Ok-Algorithm.ensures.found in
+    record { root = root_of_reply game c.loop-pass.pass c.expand.new.search.replies.nodes c.in-Ok-Algorithm.number (position c.zero.result c.empty.result) root finds.tells.says }
+
+pub returns-in-Err-Spent-clause-answer : goal.returns-in-Err-Spent-clause-answer
+returns-in-Err-Spent-clause-answer g c =
+    let stops = subst (Stops c.args.game.now c.loop-pass.pass c.loop-pass.search.meter.budget c.expand.new.search) c.in-Err-Spent.field-0-is c.in-Err-Spent.ensures.found in
+    let spent = subst (λ budget. IsSpent c.args.game.now c.loop-pass.pass budget c.expand.new.search) c.loop-pass.invariant.budget stops in
+    (c.count.ensures.value ∙ spent.count, IsDue-spent c.args.game.now c.loop-pass.pass c.args.budget c.expand.new.search c.loop-pass.invariant.none_before spent)
+
+pub returns-in-Err-Spent-clause-within : goal.returns-in-Err-Spent-clause-within
+returns-in-Err-Spent-clause-within g c =
+    let game = c.args.game.now in
+    let at = progress c.loop-pass.search.meter (g.M.Memo.entries c.loop-pass.memo) (g.M.Memo.room c.loop-pass.memo) in
+    let volume : ℕ = sum c.empty.result in
+    let short = subst (IsShort game c.loop-pass.pass volume at) c.in-Err-Spent.field-0-is c.in-Err-Spent.ensures.counts in
+    IsLessThanEnds-short game (g.M.Memo.room c.args.memo.now) c.args.budget c.loop-pass.pass volume at c.loop-pass.invariant.ends short
+
+pub returns-in-Ok-Algorithm-clause-within : goal.returns-in-Ok-Algorithm-clause-within
+returns-in-Ok-Algorithm-clause-within g c =
+    let game = c.args.game.now in
+    let e = g.M.Memo.entries c.expand.new.memo in
+    let s = c.expand.new.search in
+    let root = ap (λ xs. position xs c.empty.result) c.zero.ensures.value ∙ ap (position (empty_position game).loads) c.empty.ensures.none in
+    let finds = subst (FindsVerdict game c.loop-pass.pass 0 (position c.zero.result c.empty.result) c.loop-pass.search s e) c.in-Ok-Algorithm.field-0-is
+    c.in-Ok-Algorithm.ensures.found in
+    subst (IsNeverWon game) root (never_by_node game c.loop-pass.pass s.meter s.wins s.replies e (position c.zero.result c.empty.result)
+    c.in-Ok-Algorithm.number finds.went.sound finds.tells.says)
+
+pub loop-pass-preserved : goal.loop-pass-preserved
+loop-pass-preserved g c =
+    let game = c.args.game.now in
+    let pass : ℕ = c.loop-pass.pass in
+    let s2 = c.expand.new.search in
+    let e = g.M.Memo.entries c.expand.new.memo in
+    let root = ap (λ xs. position xs c.empty.result) c.zero.ensures.value ∙ ap (position (empty_position game).loads) c.empty.ensures.none in
+    let finds = subst (FindsVerdict game pass 0 (position c.zero.result c.empty.result) c.loop-pass.search s2 e) c.in-Ok-Held.field-0-is c.in-Ok-Held.ensures.found in
+    let goes = finds.went.goes in
+    record {
+      sound = AreSound-later game pass s2.meter s2.wins s2.replies e (pass + 1) (omega arith) finds.went.sound;
+      ends = IsWithinEnds-next game (g.M.Memo.room c.args.memo.now) c.args.budget pass (sum c.empty.result) _ _ c.loop-pass.invariant.ends c.in-Ok-Held.ensures.counts;
+      path = goes.path ∙ c.loop-pass.invariant.path;
+      budget = goes.budget ∙ c.loop-pass.invariant.budget;
+      none_before = none_more game pass c.loop-pass.invariant.none_before
+          (λ won. finds.tells.says.1 (subst (IsWonIn game c.in-Ok-Held.field-0-0) (sym root) (subst (λ k. IsWonIn game k (empty_position game)) (sym finds.tells.of_pass) won)));
+      later = λ path. finds.went.passed (visit (pass + 1) path) (inl (omega arith));
+      of_game = omega (arith, finds.tells.says.0, finds.tells.of_pass);
+    }

@@ -1,0 +1,19 @@
+use Rattle.std.proofs.Common.{◌≡◌, ◌<◌, List, []}
+use Rattle.monotone.specs.Passes.{whole_game}
+use Rattle.monotone.specs.Visits.{IsLater, visit}
+use Rattle.monotone.specs.declared.path.PathMove.{PathMove}
+use Rattle.minimax.specs.Fresh.{IsWithinEnds, progress}
+use Rattle.minimax.specs.Settled.{NoneWonBefore}
+use Rattle.minimax.specs.State.{IsSound}
+use Rattle.minimax.proofs.game_search.search_passes.Given as goal
+
+abbrev pub invariant-loop-pass : goal.invariant-loop-pass
+invariant-loop-pass g l = record {
+  sound : IsSound l.game l.pass l.search (g.M.Memo.entries l.memo);
+  ends : IsWithinEnds l.game (g.M.Memo.room l.fn.memo) l.budget l.pass (progress l.search.meter (g.M.Memo.entries l.memo) (g.M.Memo.room l.memo));
+  path : l.search.path ≡ [];
+  budget : l.search.meter.budget ≡ l.budget;
+  none_before : NoneWonBefore (whole_game l.game) l.pass;
+  later : (path : List PathMove) → IsLater l.search.meter (visit l.pass path);
+  of_game : l.pass < l.game.capacity;
+}

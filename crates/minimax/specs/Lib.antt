@@ -1,0 +1,5 @@
+pub mod Settled
+pub mod Answers
+pub mod State
+pub mod Budgets
+pub mod Fresh

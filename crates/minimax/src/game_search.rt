@@ -1,0 +1,109 @@
+//! The search of a game, pass by pass.
+
+ghost use Rattle.std.specs.Prelude.{◌≡◌, ◌≤◌, ◌+◌, ◌*◌, ℕ, [], IfOk};
+ghost use Rattle.items.specs.Multiset.{sizes_of};
+ghost use Rattle.loads.specs.Wins.{IsWon, empty_position};
+ghost use Rattle.monotone.specs.Positions.{CountsAllEnds};
+ghost use Rattle.monotone.specs.Passes.{allowed_in, whole_game};
+ghost use Rattle.monotone.specs.Visits.{most_visits};
+ghost use Rattle.strategy_text.specs.Spelling.{most_nodes};
+ghost use Rattle.minimax.specs.Answers.{IsAnswer, IsDecided};
+ghost use Rattle.minimax.specs.Budgets.{AreNumbersOfEnds, HasRoom, IsOfAdversary, ends_before};
+ghost use Rattle.minimax.specs.Fresh.{IsWithin};
+
+use crate::answer::Answer;
+use crate::expanding::{Search, expand};
+use adversary_graph::AdvPool;
+use algorithm_graph::AlgPool;
+use items::{Game, Items};
+use loads::{Loads, Position};
+use monotone::{Meter, Path, VisitFault};
+use std::alloc::{AllocError, Global};
+use strategy_text::Format;
+use transposition::{Memo, Verdict};
+
+/// Who wins a game, searched pass by pass under a budget of visits; the memo is empty at the start.
+///
+/// A visit is a pass and a path of moves, and each position that is expanded is one. Pass k allows the sizes that, with
+/// k, are at least the largest item so far; the last pass allows all. Within a pass the larger sizes come first, and
+/// for a size the larger loads. The memo keeps the verdicts of positions, so that a position need not be expanded
+/// twice; how many it may keep does not change who wins. The passes and the rule at which a position finishes are this
+/// project's; the game is that of Böhm and Simon, "Discovering and certifying lower bounds for the online bin
+/// stretching problem".
+///
+/// A strategy has format 1, is legal, and has at most as many nodes as the budget allows visits. `Undecided` is
+/// answered where the budget is spent and a further visit is due, before which all is decided. With a budget of
+/// `g * (m + 1) ^ (m * g)` visits it never is. Where the memo has room for all positions at which legal paths end, no
+/// position is expanded twice in a pass: then as many visits as there are such positions serve for each pass, and
+/// where the adversary wins a pass, those of the passes up to it. Fails only for want of memory; what the memo then
+/// holds is open.
+///
+/// The recursion is as deep as items are sent: at most `m * g`, and the first position.
+pub fn solve<M: Memo>(
+    alloc: Global,
+    game: &Game,
+    budget: u32,
+    memo: &mut M,
+) -> Result<Answer, AllocError>
+    requires some { 1 ≤ budget }
+    requires most { budget ≤ most_nodes }
+    requires empty { M.entries memo.old ≡ [] }
+    ensures answer { IfOk result (IsAnswer game.now budget) }
+    ensures many_visits { most_visits (whole_game game.now) ≤ budget → IfOk result IsDecided }
+    ensures all_positions { (all : ℕ) → CountsAllEnds game.now all → all ≤ M.room memo.old
+        → game.now.capacity * all ≤ budget → IfOk result IsDecided }
+    ensures each_pass { (numbers : ℕ → ℕ) → AreNumbersOfEnds game.now numbers → HasRoom game.now (M.room memo.old)
+        → ends_before numbers game.now.capacity ≤ budget → IfOk result IsDecided }
+    ensures won_pass { (numbers : ℕ → ℕ) (pass : ℕ) → AreNumbersOfEnds game.now numbers
+        → HasRoom game.now (M.room memo.old)
+        → IsWon game.now (allowed_in (sizes_of game.now) pass) (empty_position game.now)
+        → ends_before numbers (pass + 1) ≤ budget → IfOk result IsOfAdversary }
+{
+    search_passes(alloc, game, budget, memo)
+}
+
+// The same, pass by pass.
+fn search_passes<M: Memo>(
+    alloc: Global,
+    game: &Game,
+    budget: u32,
+    memo: &mut M,
+) -> Result<Answer, AllocError>
+    requires some { 1 ≤ budget }
+    requires most { budget ≤ most_nodes }
+    requires empty { M.entries memo.old ≡ [] }
+    ensures answer { IfOk result (IsAnswer game.now budget) }
+    ensures within { IfOk result (IsWithin game.now (M.room memo.old) budget) }
+{
+    let mut search = Search {
+        alloc,
+        meter: Meter::new(alloc, game, budget),
+        wins: AdvPool::new(alloc, game, Format::One),
+        replies: AlgPool::new(alloc, game, Format::One),
+        path: Path::new(alloc),
+    };
+    let root = Position {
+        loads: Loads::zero(alloc, game),
+        items: Items::empty(),
+    };
+    for pass in 0..game.g() {
+        match expand(game, pass, &mut search, memo, &root) {
+            Ok(Verdict::Held(_)) => {}
+            Ok(Verdict::Adversary(number)) => {
+                return Ok(Answer::Adversary(search.wins.into_strategy(number)));
+            }
+            Ok(Verdict::Algorithm(number)) => {
+                return Ok(Answer::Algorithm(search.replies.into_strategy(number)));
+            }
+            Err(VisitFault::Spent) => {
+                return Ok(Answer::Undecided {
+                    visits: search.meter.count(),
+                    pass,
+                    path: search.path,
+                });
+            }
+            Err(VisitFault::Memory) => return Err(AllocError),
+        }
+    }
+    unreachable!()
+}

@@ -1,0 +1,14 @@
+//! The search of a game under a counted budget: a strategy of one side, or the visit at which the budget ended.
+#![tactic(auto)]
+
+mod answer;
+mod expanding;
+mod game_search;
+mod nodes;
+mod table;
+
+pub use answer::Answer;
+pub use game_search::solve;
+
+#[cfg(test)]
+mod tests;

@@ -1,0 +1,113 @@
+//! The nodes that a search puts into the pools of both sides.
+
+ghost use Rattle.std.specs.Prelude.{◌≡◌, ◌<◌, ◌++◌, ◌∷◌, [], IfOk, length};
+ghost use Rattle.items.specs.Packable.{Packable};
+ghost use Rattle.strategy_text.specs.Spelling.{most_nodes};
+ghost use Rattle.strategy_text.specs.declared.node.Format.TheVariants.{One};
+ghost use Rattle.good_situations.specs.Finish.{Finishes};
+ghost use Rattle.minimax.specs.State.{IsPlayable, PutsWin, PutsReply, PlacesAll, ReplyToAll, MayAct};
+
+use adversary_graph::AdvPool;
+use algorithm_graph::AlgPool;
+use items::Nums;
+use items::laws::game_is_legal;
+use loads::Position;
+use reachable_loads::pack;
+use std::alloc::{AllocError, Global};
+use strategy_text::{Act, AdvNode, AlgNode, Entries, Entry, Placements, Step};
+
+/// Puts the node of the adversary that sends an item of this size at the position, with a packing of its items and
+/// the sent one, and gives its number.
+pub(crate) fn push_win(
+    alloc: Global,
+    wins: &mut AdvPool,
+    position: &Position,
+    size: u16,
+    placements: Placements,
+) -> Result<u32, AllocError>
+    requires playable { IsPlayable wins.old.game position.now }
+    requires may_come { Packable wins.old.game (position.now.items ++ size ∷ []) }
+    requires format { wins.old.format ≡ One }
+    requires room { length wins.old.nodes < most_nodes }
+    requires places { PlacesAll wins.old.game wins.old.nodes position.now size placements }
+    ensures { IfOk result (PutsWin wins.old wins.new position.now) }
+{
+    let game = wins.game();
+    game_is_legal(&game);
+    let pack = pack(alloc, &game, &position.items.add(size))?;
+    let step = Step::Send {
+        size,
+        pack,
+        placements,
+    };
+    let node = AdvNode {
+        loads: Nums::from_slice(alloc, position.loads.as_slice())?,
+        items: position.items.list(alloc)?,
+        step,
+    };
+    wins.push(node)
+}
+
+/// Puts the node of the algorithm that finishes at the position, and gives its number.
+pub(crate) fn push_finish(
+    alloc: Global,
+    replies: &mut AlgPool,
+    position: &Position,
+) -> Result<u32, AllocError>
+    requires playable { IsPlayable replies.old.game position.now }
+    requires format { replies.old.format ≡ One }
+    requires room { length replies.old.nodes < most_nodes }
+    requires finishes { Finishes replies.old.game position.now.loads }
+    ensures { IfOk result (PutsReply replies.old replies.new position.now) }
+{
+    push_act(alloc, replies, position, Act::Finish)
+}
+
+/// Puts the node of the algorithm that replies at the position by these entries, which are given from the last to the
+/// first, and gives its number.
+pub(crate) fn push_reply(
+    alloc: Global,
+    replies: &mut AlgPool,
+    position: &Position,
+    room: u16,
+    mut entries: Vec<Entry>,
+) -> Result<u32, AllocError>
+    requires playable { IsPlayable replies.old.game position.now }
+    requires format { replies.old.format ≡ One }
+    requires room { length replies.old.nodes < most_nodes }
+    requires replies { ReplyToAll replies.old.game replies.old.nodes position.now room entries.items }
+    ensures { IfOk result (PutsReply replies.old replies.new position.now) }
+{
+    entries.reverse();
+    let entries = entries_of(alloc, entries.as_slice())?;
+    push_act(alloc, replies, position, Act::Reply(entries))
+}
+
+// These entries.
+fn entries_of(alloc: Global, list: &[Entry]) -> Result<Entries, AllocError>
+    ensures { IfOk result (λ made. made ≡ list.now) }
+{
+    let mut made = Entries::new(alloc);
+    for entry in list {
+        made.push(*entry)?;
+    }
+    Ok(made)
+}
+
+// Puts a node of the algorithm, and gives its number.
+fn push_act(
+    alloc: Global,
+    replies: &mut AlgPool,
+    position: &Position,
+    act: Act,
+) -> Result<u32, AllocError>
+    requires { MayAct replies.old position.now act }
+    ensures { IfOk result (PutsReply replies.old replies.new position.now) }
+{
+    let node = AlgNode {
+        loads: Nums::from_slice(alloc, position.loads.as_slice())?,
+        items: position.items.list(alloc)?,
+        act,
+    };
+    replies.push(node)
+}

@@ -1,0 +1,264 @@
+-- Legal nodes of the adversary: positions of the game, references back, and the rules after a renaming.
+use Rattle.std.proofs.Common.{◌≡◌, ◌↔◌, ◌⊎◌, ℕ, ◌-◌, ◌<◌, ◌≤◌, Bool, IsTrue, Option, List, [], ◌∷◌, length, map, take, get_or, refl, sym, ap, ◌∙◌}
+use Rattle.std.proofs.Common.{subst, arith, inl, inr}
+use Rattle.std.specs.Prelude.{All, Contains, IfSome, slice_get}
+use Rattle.std.specs.List.{cons_option, filter_map}
+use Rattle.std.proofs.lemmas.List.{get_or-map, length-map, length-take-le}
+use Rattle.std.proofs.lemmas.List.Elements.{All-map, All-nil, All-weaker}
+use Rattle.std.proofs.lemmas.Option.{slice_get-map, slice_get_within}
+use Rattle.std.proofs.lemmas.Simd.{map-map}
+use Rattle.items.specs.Game.{GameNumbers}
+use Rattle.items.specs.Multiset.{sizes_of}
+use Rattle.loads.specs.After.{after}
+use Rattle.loads.specs.Position.{IsEmptyPosition, StandsAt, position}
+use Rattle.loads.specs.declared.position.Position.{Position}
+use Rattle.strategy_text.specs.declared.node.AdvNode.{AdvNode}
+use Rattle.strategy_text.specs.declared.node.Format.{Format}
+use Rattle.strategy_text.specs.declared.node.Nodes.{Nodes}
+use Rattle.strategy_text.specs.declared.node.Nodes.TheVariants.{Adversary, Algorithm}
+use Rattle.strategy_text.specs.declared.node.Placement.{Placement}
+use Rattle.strategy_text.specs.declared.node.Format.TheVariants.{One, Two}
+use Rattle.strategy_text.specs.declared.node.Step.{Step}
+use Rattle.strategy_text.specs.declared.node.Step.TheVariants.{Send, Burst}
+use Rattle.strategy_text.specs.declared.node.Then.{Then}
+use Rattle.strategy_text.specs.declared.node.Then.TheVariants.{Over, To}
+use Rattle.adversary_graph.specs.Judging.{HasPosition, node_at}
+use Rattle.adversary_graph.specs.Legal.{EachMeetsRules, IsLegal}
+use Rattle.adversary_graph.specs.Nodes.{IsOfFormat, placements_of, position_of}
+use Rattle.adversary_graph.specs.Play.{child_of}
+use Rattle.adversary_graph.specs.Pools as adversary
+use Rattle.adversary_graph.specs.Rules.{IsOver, IsOverAtTarget, IsPackingAsked, IsPacked, LeadsTo, MeetsRules}
+use Rattle.adversary_graph.proofs.PoolLemmas.{IsPool-from_legal, each_has_position, root_of_legal}
+use Rattle.adversary_graph.proofs.WonLemmas.{met}
+use Rattle.items.proofs.ListLemmas.{mapped}
+use Rattle.algorithm_graph.specs.Pools as algorithm
+use Rattle.minimise.specs.Nodes.{IsPositionOf, LeadBack}
+use Rattle.minimise.specs.References.{adversary_references, renamed_adversary, renamed_placement, renamed_step, renamed_then}
+use Rattle.minimise.specs.Canonical.{canonical}
+use Rattle.minimise.proofs.AgreeLemmas.{empty_positions, form_agrees, one_form}
+use Rattle.minimise.proofs.FormLemmas.{IsForm, legal_form, map_alike}
+use Rattle.minimise.proofs.KeptLemmas.{IsGraph, graph_of, position_of_last}
+use Rattle.minimise.specs.Agree.{Agree}
+use Rattle.minimise.proofs.RepresentativeLemmas.{no_position}
+use Rattle.minimise.proofs.NodeLemmas.{All-filter_map, Contains-filter_map, filter_map_at, map_at}
+
+-- the nodes of a legal strategy that are the adversary's are legal
+pub legal_adversary : (format : Format) (game : GameNumbers) (all : Nodes) (nodes : List AdvNode)
+    → adversary.AreLegal format game all ⊎ algorithm.AreLegal format game all → all ≡ Adversary nodes → IsLegal format game (sizes_of game) nodes
+legal_adversary format game all nodes legal is = by (Adversary nodes) refl (subst (λ some. adversary.AreLegal format game some ⊎ algorithm.AreLegal format game some) is legal)
+  where
+    by : (some : Nodes) → some ≡ Adversary nodes → adversary.AreLegal format game some ⊎ algorithm.AreLegal format game some → IsLegal format game (sizes_of game) nodes
+    by (Adversary list) e (inl h) = (let same : list ≡ nodes = cc in subst (IsLegal format game (sizes_of game)) same h)
+    by (Adversary list) e (inr h) = absurd h
+    by (Algorithm list) e h = cc
+
+pub adversary_positions : (format : Format) (game : GameNumbers) (nodes : List AdvNode) → IsLegal format game (sizes_of game) nodes
+    → All (λ node. IsPositionOf game (position_of node)) nodes
+adversary_positions format game nodes legal =
+    All-weaker (HasPosition game) (λ node. IsPositionOf game (position_of node)) (λ node h. record { loads = h.loads; items = h.items }) nodes
+    (each_has_position format game nodes (IsPool-from_legal format game nodes legal))
+
+child_before : (earlier : List Position) (next : Then) (position : Position) (count : ℕ) → length earlier ≤ count → LeadsTo earlier next position
+    → IfSome (child_of next) (λ child. child < count)
+child_before earlier Over position count few h = tt
+child_before earlier (To child) position count few h = omega (arith, slice_get_within earlier child position h, few)
+
+pub adversary_leads_back : (format : Format) (game : GameNumbers) (sizes : List ℕ) (nodes : List AdvNode) → IsLegal format game sizes nodes
+    → LeadBack (map adversary_references nodes)
+unfolding EachMeetsRules
+adversary_leads_back format game sizes nodes legal number children e =
+    let found = mapped adversary_references (slice_get nodes number) children (sym (slice_get-map adversary_references nodes number) ∙ e) in
+    let node = found.0 in
+    let earlier = map position_of (take number nodes) in
+    let few : length earlier ≤ number = omega (
+      arith,
+      length-map (take number nodes) position_of,
+      length-take-le number nodes (omega (arith, slice_get_within nodes number node found.1)),
+    ) in
+    let rules = met format game sizes earlier _ node (legal.each number node found.1) in
+    subst (All (λ child. child < number)) found.2
+    (All-filter_map (λ child. child < number) (λ (placement : Placement). child_of placement.next) (placements_of node.step)
+    (λ k d l. child_before earlier _ _ number few (rules.child k d l)))
+
+-- ---- a renaming
+
+renamed_child : (name : ℕ → ℕ) (next : Then) (some : List ℕ)
+    → cons_option (child_of (renamed_then name next)) (map name some) ≡ map name (cons_option (child_of next) some)
+renamed_child name Over some = refl
+renamed_child name (To child) some = refl
+
+renamed_children : (name : ℕ → ℕ) (placements : List Placement)
+    → filter_map (λ (placement : Placement). child_of placement.next) (map (renamed_placement name) placements)
+    ≡ map name (filter_map (λ (placement : Placement). child_of placement.next) placements)
+renamed_children name [] = refl
+renamed_children name (placement ∷ placements) =
+    ap (cons_option (child_of (renamed_then name placement.next))) (renamed_children name placements)
+    ∙ renamed_child name placement.next (filter_map (λ (p : Placement). child_of p.next) placements)
+
+renamed_references : (name : ℕ → ℕ) (step : Step)
+    → filter_map (λ (placement : Placement). child_of placement.next) (placements_of (renamed_step name step))
+    ≡ map name (filter_map (λ (placement : Placement). child_of placement.next) (placements_of step))
+renamed_references name (Send size pack placements) = renamed_children name placements
+renamed_references name (Burst count size pack) = refl
+
+pub adversary_renames : (name : ℕ → ℕ) (node : AdvNode) → adversary_references (renamed_adversary name node) ≡ map name (adversary_references node)
+adversary_renames name node = renamed_references name node.step
+
+over_renamed : (name : ℕ → ℕ) (next : Then) → IsOver next ↔ IsOver (renamed_then name next)
+over_renamed name Over = (λ h. h, λ h. h)
+over_renamed name (To child) = (λ h. h, λ h. h)
+
+asked_renamed : (name : ℕ → ℕ) (format : Format) (size : ℕ) (pack : Option (List (List ℕ))) (placements : List Placement)
+    → IsPackingAsked format (Send size pack placements) ↔ IsPackingAsked format (Send size pack (map (renamed_placement name) placements))
+asked_renamed name One size pack placements = (λ h. h, λ h. h)
+asked_renamed name Two size pack placements = (
+  λ all. All-map (λ (p : Placement). IsOver p.next) (renamed_placement name) placements
+      (All-weaker (λ (p : Placement). IsOver p.next) (λ p. IsOver (renamed_then name p.next)) (λ p h. (over_renamed name p.next).0 h) placements all),
+  λ all k d l. (over_renamed name (get_or placements k d).next).1 (map_at (λ (p : Placement). IsOver p.next) (renamed_placement name) placements k d l all),
+)
+
+leads_renamed : (name : ℕ → ℕ) (earlier later : List Position) (next : Then) (position : Position)
+    → ((child : ℕ) → next ≡ To child → StandsAt earlier child position → StandsAt later (name child) position)
+    → LeadsTo earlier next position → LeadsTo later (renamed_then name next) position
+leads_renamed name earlier later Over position leads h = tt
+leads_renamed name earlier later (To child) position leads h = leads child refl h
+
+-- where each reference leads on as before, a renamed node meets the rules as the node did
+meets_renamed : (name : ℕ → ℕ) (format : Format) (game : GameNumbers) (sizes : List ℕ) (earlier later : List Position) (last final : Bool) (loads items : List ℕ)
+    (step : Step) → MeetsRules format game sizes earlier last (node_at (position loads items) step)
+    → ((child : ℕ) (p : Position) → Contains (adversary_references (node_at (position loads items) step)) child → StandsAt earlier child p → StandsAt later (name child) p)
+    → (IsTrue final → IsEmptyPosition (position loads items))
+    → MeetsRules format game sizes later final (node_at (position loads items) (renamed_step name step))
+meets_renamed name format game sizes earlier later last final loads items (Send size pack placements) m leads root =
+    let rules = met format game sizes earlier last (node_at (position loads items) (Send size pack placements)) m in
+    let asked = asked_renamed name format size pack placements in
+    let packed : IsPacked game format (node_at (position loads items) (Send size pack (map (renamed_placement name) placements))) = record {
+      shown = (λ h. asked.0 (rules.pack.shown.0 h), λ h. rules.pack.shown.1 (asked.1 h));
+      holds = rules.pack.holds;
+    } in
+    let placed = map-map (λ (p : Placement). p.load) (renamed_placement name) placements ∙ rules.placements in
+    let over = All-map (IsOverAtTarget game size) (renamed_placement name) placements (λ k d l.
+    let same = over_renamed name (get_or placements k d).next in
+    let h = rules.over k d l in
+    (λ o. h.0 (same.1 o), λ t. same.0 (h.1 t))) in
+    let child = All-map (λ (p : Placement). LeadsTo later p.next (after (position loads items) p.load size)) (renamed_placement name) placements (λ k d l.
+    let p = get_or placements k d in
+    leads_renamed name earlier later p.next (after (position loads items) p.load size)
+    (λ number e. leads number (after (position loads items) p.load size)
+    (Contains-filter_map (λ (q : Placement). child_of q.next) placements k d number l (ap child_of e)))
+    (rules.child k d l)) in
+    (m.0, (m.1.0, (m.1.1.0, (m.1.1.1.0, (packed, (placed, (over, (child, (root, tt)))))))))
+meets_renamed name format game sizes earlier later last final loads items (Burst count size pack) m leads root =
+    (m.0, (m.1.0, (m.1.1.0, (m.1.1.1.0, (m.1.1.1.1.0, (m.1.1.1.1.1.0, (m.1.1.1.1.1.1.0, (All-nil _, (root, tt)))))))))
+
+of_format_renamed : (name : ℕ → ℕ) (format : Format) (step : Step) → IsOfFormat format step → IsOfFormat format (renamed_step name step)
+of_format_renamed name One (Send size pack placements) h = h
+of_format_renamed name One (Burst count size pack) h = h
+of_format_renamed name Two step h = h
+
+-- ---- the canonical form
+
+-- what holds of the canonical form of a legal strategy of the adversary
+abbrev pub IsAdversaryForm : Format → GameNumbers → List AdvNode → List AdvNode → Type 0
+IsAdversaryForm format game nodes form =
+    IsForm position_of adversary_references (MeetsRules format game (sizes_of game)) (λ (node : AdvNode). IsOfFormat format node.step) nodes form
+
+last_is_empty : (format : Format) (game : GameNumbers) (nodes : List AdvNode) → IsLegal format game (sizes_of game) nodes
+    → IsEmptyPosition (get_or (map position_of nodes) (length (map position_of nodes) - 1) no_position)
+last_is_empty format game nodes legal =
+    let root = root_of_legal format game nodes legal in
+    subst IsEmptyPosition (sym (position_of_last position_of nodes root.0 root.1)) root.2
+
+pub adversary_graph_of : (format : Format) (game : GameNumbers) (nodes : List AdvNode) → IsLegal format game (sizes_of game) nodes
+    → IsGraph (map position_of nodes) (map adversary_references nodes)
+adversary_graph_of format game nodes legal =
+    graph_of position_of adversary_references nodes legal.low (adversary_leads_back format game (sizes_of game) nodes legal)
+
+pub adversary_form : (format : Format) (game : GameNumbers) (nodes : List AdvNode) → IsLegal format game (sizes_of game) nodes
+    → IsAdversaryForm format game nodes (canonical position_of adversary_references renamed_adversary nodes)
+unfolding EachMeetsRules
+adversary_form format game nodes legal =
+    legal_form position_of adversary_references renamed_adversary (λ name node. refl) adversary_renames (MeetsRules format game (sizes_of game))
+    (λ (node : AdvNode). IsOfFormat format node.step) nodes (node_at (position [] []) (Burst 0 0 []))
+    (adversary_graph_of format game nodes legal)
+    (λ name earlier later last final node. meets_renamed name format game (sizes_of game) earlier later last final node.loads node.items node.step)
+    (λ name node. of_format_renamed name format node.step)
+    legal.each legal.formed (last_is_empty format game nodes legal)
+
+pub adversary_form_legal : (format : Format) (game : GameNumbers) (nodes : List AdvNode) → IsLegal format game (sizes_of game) nodes
+    → IsLegal format game (sizes_of game) (canonical position_of adversary_references renamed_adversary nodes)
+unfolding EachMeetsRules
+adversary_form_legal format game nodes legal =
+    let form = adversary_form format game nodes legal in
+    record { of_game = legal.of_game; low = form.some; high = omega (arith, form.few, legal.high); formed = form.formed; each = form.each }
+
+-- ---- strategies that agree
+
+twice_renamed : (name again : ℕ → ℕ) (next : Then) → renamed_then again (renamed_then name next) ≡ renamed_then (λ child. again (name child)) next
+twice_renamed name again Over = refl
+twice_renamed name again (To child) = refl
+
+placements_twice : (name again : ℕ → ℕ) (placements : List Placement)
+    → map (renamed_placement again) (map (renamed_placement name) placements) ≡ map (renamed_placement (λ child. again (name child))) placements
+placements_twice name again [] = refl
+placements_twice name again (placement ∷ placements) =
+    ap (λ next. (record { load = placement.load; next = next }) ∷ map (renamed_placement again) (map (renamed_placement name) placements))
+    (twice_renamed name again placement.next)
+    ∙ ap (λ list. renamed_placement (λ child. again (name child)) placement ∷ list) (placements_twice name again placements)
+
+step_twice : (name again : ℕ → ℕ) (step : Step) → renamed_step again (renamed_step name step) ≡ renamed_step (λ child. again (name child)) step
+step_twice name again (Send size pack placements) = ap (Send size pack) (placements_twice name again placements)
+step_twice name again (Burst count size pack) = refl
+
+renamed_alike : (name another : ℕ → ℕ) (next : Then) → IfSome (child_of next) (λ child. name child ≡ another child) → renamed_then name next ≡ renamed_then another next
+renamed_alike name another Over h = refl
+renamed_alike name another (To child) h = ap To h
+
+placements_alike : (name another : ℕ → ℕ) (placements : List Placement)
+    → All (λ child. name child ≡ another child) (filter_map (λ (placement : Placement). child_of placement.next) placements)
+    → map (renamed_placement name) placements ≡ map (renamed_placement another) placements
+placements_alike name another placements all =
+    map_alike (renamed_placement name) (renamed_placement another) placements (λ k d l.
+    let placement = get_or placements k d in
+    ap (λ next. record { load = placement.load; next = next }) (renamed_alike name another placement.next
+    (filter_map_at (λ child. name child ≡ another child) (λ (p : Placement). child_of p.next) placements k d l all)))
+
+step_alike : (name another : ℕ → ℕ) (step : Step)
+    → All (λ child. name child ≡ another child) (filter_map (λ (placement : Placement). child_of placement.next) (placements_of step))
+    → renamed_step name step ≡ renamed_step another step
+step_alike name another (Send size pack placements) all = ap (Send size pack) (placements_alike name another placements all)
+step_alike name another (Burst count size pack) all = refl
+
+twice : (name again : ℕ → ℕ) (node : AdvNode) → renamed_adversary again (renamed_adversary name node) ≡ renamed_adversary (λ child. again (name child)) node
+twice name again node = ap (node_at (position node.loads node.items)) (step_twice name again node.step)
+
+alike : (name another : ℕ → ℕ) (node : AdvNode) → All (λ child. name child ≡ another child) (adversary_references node)
+    → renamed_adversary name node ≡ renamed_adversary another node
+alike name another node all = ap (node_at (position node.loads node.items)) (step_alike name another node.step all)
+
+last_loads : (format : Format) (game : GameNumbers) (nodes : List AdvNode) → IsLegal format game (sizes_of game) nodes
+    → length (get_or (map position_of nodes) (length (map position_of nodes) - 1) no_position).loads ≡ game.bins
+last_loads format game nodes legal =
+    let last : ℕ = length (map position_of nodes) - 1 in
+    let none = node_at no_position (Burst 0 0 []) in
+    let within : last < length nodes = omega (arith, legal.low, length-map nodes position_of) in
+    ap (λ (p : Position). length p.loads) (get_or-map position_of nodes last none no_position within)
+    ∙ (adversary_positions format game nodes legal last none within).loads.one_each
+
+pub adversary_agree : (format another : Format) (game : GameNumbers) (one other : List AdvNode) → IsLegal format game (sizes_of game) one
+    → IsLegal another game (sizes_of game) other → Agree position_of adversary_references renamed_adversary one other
+    → canonical position_of adversary_references renamed_adversary one ≡ canonical position_of adversary_references renamed_adversary other
+adversary_agree format another game one other legal also agree =
+    one_form position_of adversary_references renamed_adversary (λ name node. refl) adversary_renames twice alike one other
+    (adversary_graph_of format game one legal) (adversary_graph_of another game other also) (node_at no_position (Burst 0 0 []))
+    (empty_positions _ _ game.bins (last_is_empty format game one legal) (last_is_empty another game other also)
+    (last_loads format game one legal) (last_loads another game other also))
+    agree
+
+pub adversary_again : (format : Format) (game : GameNumbers) (nodes : List AdvNode) → IsLegal format game (sizes_of game) nodes
+    → canonical position_of adversary_references renamed_adversary (canonical position_of adversary_references renamed_adversary nodes)
+    ≡ canonical position_of adversary_references renamed_adversary nodes
+adversary_again format game nodes legal =
+    let graph = adversary_graph_of format game nodes legal in
+    sym (adversary_agree format format game nodes (canonical position_of adversary_references renamed_adversary nodes) legal (adversary_form_legal format game nodes legal)
+    (form_agrees position_of adversary_references renamed_adversary (λ name node. refl) adversary_renames nodes graph (node_at no_position (Burst 0 0 []))))

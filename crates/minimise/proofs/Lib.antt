@@ -1,0 +1,12 @@
+pub mod FirstsLemmas
+pub mod PlaceLemmas
+pub mod WalkLemmas
+pub mod RepresentativeLemmas
+pub mod OrderLemmas
+pub mod NodeLemmas
+pub mod FormLemmas
+pub mod AgreeLemmas
+pub mod AdversaryLemmas
+pub mod AlgorithmLemmas
+pub mod KeptLemmas
+pub mod StrategyLemmas

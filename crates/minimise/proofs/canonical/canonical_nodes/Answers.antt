@@ -1,0 +1,26 @@
+use Rattle.items.specs.Multiset.{sizes_of}
+use Rattle.minimise.proofs.AdversaryLemmas.{adversary_leads_back, adversary_positions, legal_adversary}
+use Rattle.minimise.proofs.AlgorithmLemmas.{algorithm_leads_back, algorithm_positions, legal_algorithm}
+use Rattle.minimise.proofs.canonical.canonical_nodes.Goals as goal
+
+pub canonical-requires-clause-of_game : goal.canonical-requires-clause-of_game
+canonical-requires-clause-of_game c =
+    let s = c.args.strategy.now in
+    adversary_positions s.format s.game c.in-Adversary.nodes (legal_adversary s.format s.game s.nodes c.in-Adversary.nodes c.requires.legal c.in-Adversary.is)
+
+pub canonical-requires-clause-back : goal.canonical-requires-clause-back
+canonical-requires-clause-back c =
+    let s = c.args.strategy.now in
+    adversary_leads_back s.format s.game (sizes_of s.game) c.in-Adversary.nodes
+    (legal_adversary s.format s.game s.nodes c.in-Adversary.nodes c.requires.legal c.in-Adversary.is)
+
+pub canonical-requires-in-Algorithm-clause-of_game : goal.canonical-requires-in-Algorithm-clause-of_game
+canonical-requires-in-Algorithm-clause-of_game c =
+    let s = c.args.strategy.now in
+    algorithm_positions s.format s.game c.in-Algorithm.nodes (legal_algorithm s.format s.game s.nodes c.in-Algorithm.nodes c.requires.legal c.in-Algorithm.is)
+
+pub canonical-requires-in-Algorithm-clause-back : goal.canonical-requires-in-Algorithm-clause-back
+canonical-requires-in-Algorithm-clause-back c =
+    let s = c.args.strategy.now in
+    algorithm_leads_back s.format s.game (sizes_of s.game) c.in-Algorithm.nodes
+    (legal_algorithm s.format s.game s.nodes c.in-Algorithm.nodes c.requires.legal c.in-Algorithm.is)

@@ -1,0 +1,7 @@
+pub mod LowestLemmas
+pub mod WayLemmas
+pub mod WalkLemmas
+pub mod LeadLemmas
+pub mod DrawLemmas
+pub mod DrillRules
+pub mod DrillLemmas
