@@ -13,6 +13,7 @@ use Rattle.loads.specs.Loads.{IsLoads}
 use Rattle.loads.specs.Position.{IsEmptyPosition, StandsAt}
 use Rattle.loads.specs.Wins.{IsWon, empty_position}
 use Rattle.loads.specs.declared.position.Position.{Position}
+use Rattle.packing_witness.proofs.PackingLemmas.{size_of_last}
 use Rattle.strategy_text.specs.Spelling.{most_nodes}
 use Rattle.strategy_text.specs.declared.node.AdvNode.{AdvNode}
 use Rattle.strategy_text.specs.declared.node.AlgNode.{AlgNode}
@@ -83,8 +84,9 @@ AreSound-new game pass budget meter wins replies entries m w r e few =
 module _ (game : GameNumbers) (pass : ℕ) where
   -- the root may be visited
   pub may_visit_root : (s : Search) (root : Position) → pass < game.capacity → IsLoads game (replicate game.bins 0) → root ≡ empty_position game → s.path ≡ []
+      → s.most ≡ game.capacity
       → ((path : List PathMove) → IsLater s.meter (visit pass path)) → MayVisit game pass s root
-  may_visit_root s root of_game loads is path later =
+  may_visit_root s root of_game loads is path most later =
       subst (MayVisit game pass s) (sym is) (record {
         stands = subst (λ p. StandsAtPath game pass p (empty_position game)) (sym path) (record {
           of_game = of_game;
@@ -93,6 +95,7 @@ module _ (game : GameNumbers) (pass : ℕ) where
           here = refl;
           settled = tt;
         });
+        bound = λ size p. omega (arith, most, (size_of_last game [] size p).high);
         later = later s.path;
       })
 

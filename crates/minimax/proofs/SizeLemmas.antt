@@ -29,7 +29,7 @@ use Rattle.monotone.specs.declared.path.PathMove.{PathMove}
 use Rattle.monotone.proofs.PassLemmas.{allowed_in-exact}
 use Rattle.transposition.specs.declared.verdict.Verdict.{Verdict}
 use Rattle.transposition.specs.declared.verdict.Verdict.TheVariants.{Adversary, Algorithm, Held}
-use Rattle.minimax.specs.State.{FindsVerdict, FollowsUp, HasAnswered, HasPassed, HasWeighed, IsNeverWon, IsNoWin, IsOpenAt}
+use Rattle.minimax.specs.State.{IsBound, FindsVerdict, FollowsUp, HasAnswered, HasPassed, HasWeighed, IsNeverWon, IsNoWin, IsOpenAt}
 use Rattle.minimax.specs.State.{IsOpenFrom, IsReply}
 use Rattle.minimax.specs.State.{IsSound, IsWonIn, MayCome, PlacesAll, ReplyToAll, Tells, WentOn, WinsBy, allowed_by, kept_of}
 use Rattle.minimax.specs.State.{numbers_down, with_move}
@@ -90,6 +90,7 @@ module _ (game : GameNumbers) (pass : ℕ) where
       let lower : load < bound = omega (arith, above, e) in
       record {
         stands = stands_still game pass s0.path s1.path position g.goes.path o.stands;
+        bound = subst (IsBound game position.items) (sym g.goes.most) o.bound;
         unfinished = o.unfinished;
         larger_sizes = o.larger_sizes;
         larger_loads = λ other c greater below.
@@ -221,6 +222,7 @@ module _ (game : GameNumbers) (pass : ℕ) where
       → IsOpenFrom game pass size s1 position
   opens_size s0 s1 position room size entries o g none = record {
     stands = stands_still game pass s0.path s1.path position g.goes.path o.stands;
+    bound = subst (IsBound game position.items) (sym g.goes.most) o.bound;
     unfinished = o.unfinished;
     larger_sizes = none;
     passed = subst (λ p. HasPassed s1.meter pass (p ++ moved size game.target ∷ [])) (sym g.goes.path) g.passed;

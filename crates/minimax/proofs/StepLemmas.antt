@@ -6,6 +6,9 @@ use Rattle.std.specs.Result.{IsErrAnd}
 use Rattle.std.proofs.lemmas.List.{length_push}
 use Rattle.items.specs.Game.{GameNumbers}
 use Rattle.items.specs.Packable.{IsRoom}
+use Rattle.items.specs.Multiset.{put_ascending}
+use Rattle.items.proofs.MultisetLemmas.{count-append, count-put_ascending}
+use Rattle.packing_witness.proofs.PackableLemmas.{Packable-part}
 use Rattle.loads.specs.After.{after}
 use Rattle.loads.specs.Wins.{empty_position}
 use Rattle.loads.specs.Packed.{are_equal}
@@ -27,7 +30,7 @@ use Rattle.transposition.specs.Memo.{verdict_of}
 use Rattle.transposition.specs.declared.verdict.Verdict.{Verdict}
 use Rattle.transposition.specs.declared.verdict.Verdict.TheVariants.{Adversary, Algorithm, Held}
 use Rattle.minimax.specs.Settled.{AreSettledFrom, IsSettledMove}
-use Rattle.minimax.specs.State.{AreSound, FindsVerdict, FollowsUp, Goes, HasPassed, HasReached, IsNeverWon, IsOfPass, IsOpenAt, IsOpenFrom}
+use Rattle.minimax.specs.State.{IsBound, AreSound, FindsVerdict, FollowsUp, Goes, HasPassed, HasReached, IsNeverWon, IsOfPass, IsOpenAt, IsOpenFrom}
 use Rattle.minimax.specs.State.{IsSound, IsWonIn, MayCome, MayVisit, PutsOnly, PutsReply, PutsWin, Says, StandsAtPath, Tells, WentOn}
 use Rattle.minimax.specs.State.{allowed_by, nodes_in, reached_by, with_move}
 use Rattle.minimax.specs.declared.expanding.Search.{Search}
@@ -52,6 +55,7 @@ Goes-refl s = record {
   wins = GoesOn-refl s.wins.nodes;
   replies = GoesOn-refl s.replies.nodes;
   path = refl;
+  most = refl;
   budget = refl;
   counted = omega arith;
 }
@@ -61,6 +65,7 @@ Goes-trans a b s0 s1 s2 g h = record {
   wins = GoesOn-trans s0.wins.nodes s1.wins.nodes s2.wins.nodes g.wins h.wins;
   replies = GoesOn-trans s0.replies.nodes s1.replies.nodes s2.replies.nodes g.replies h.replies;
   path = h.path ∙ g.path;
+  most = h.most ∙ g.most;
   budget = h.budget ∙ g.budget;
   counted = omega (arith, g.counted, h.counted);
 }
@@ -125,6 +130,7 @@ module _ (game : GameNumbers) (pass : ℕ) where
             wins = g.wins;
             replies = g.replies;
             path = g.path;
+            most = g.most;
             budget = g.budget ∙ ap (λ m. m.budget) e;
             counted = omega (arith, g.counted, ap (λ m. m.count) e);
           };
@@ -148,6 +154,7 @@ module _ (game : GameNumbers) (pass : ℕ) where
             wins = g.goes.wins;
             replies = GoesOn-trans s0.replies.nodes s1.replies.nodes replies.nodes g.goes.replies (p.node ∷ [], nodes);
             path = g.goes.path;
+            most = g.goes.most;
             budget = g.goes.budget;
             counted = omega (arith, g.goes.counted, ap length nodes, length_push s1.replies.nodes p.node);
           };
@@ -173,6 +180,7 @@ module _ (game : GameNumbers) (pass : ℕ) where
             wins = GoesOn-trans s0.wins.nodes s1.wins.nodes wins.nodes g.goes.wins (p.node ∷ [], nodes);
             replies = g.goes.replies;
             path = g.goes.path;
+            most = g.goes.most;
             budget = g.goes.budget;
             counted = omega (arith, g.goes.counted, ap length nodes, length_push s1.wins.nodes p.node);
           };
@@ -196,6 +204,7 @@ module _ (game : GameNumbers) (pass : ℕ) where
         wins = g.goes.wins;
         replies = g.goes.replies;
         path = g.goes.path;
+        most = g.goes.most;
         budget = g.goes.budget;
         counted = omega (arith, g.goes.counted);
       };
@@ -205,11 +214,28 @@ module _ (game : GameNumbers) (pass : ℕ) where
     tells = record { says = (before, none); of_pass = refl };
   }
 
+  -- the bound on the room is put back
+  pub finds_decided : (s0 s1 : Search) (room : ℕ) (position : Position) (entries : List (Position × Verdict)) (verdict : Verdict)
+      → FindsVerdict game pass 1 position (record s0 { most = room }) s1 entries verdict
+      → FindsVerdict game pass 1 position s0 (record s1 { most = s0.most }) entries verdict
+  finds_decided s0 s1 room position entries verdict f =
+      let g = f.went.goes in
+      record {
+        went = record {
+          goes = record { wins = g.wins; replies = g.replies; path = g.path; most = refl; budget = g.budget; counted = g.counted };
+          sound = f.went.sound;
+          passed = f.went.passed;
+        };
+        tells = record { says = f.tells.says; of_pass = f.tells.of_pass };
+      }
+
   -- after a visit the sizes from the room on are to be weighed
   pub opens : (s : Search) (position : Position) (room : ℕ) → StandsAtPath game pass s.path position → s.meter.last ≡ Some (visit pass s.path)
-      → (Finishes game position.loads → ⊥) → IsRoom game position.items room → IsOpenFrom game pass room s position
+      → (Finishes game position.loads → ⊥) → IsRoom game position.items room
+      → IsOpenFrom game pass room (record s { most = room }) position
   opens s position room stands last unfinished is_room = record {
     stands = stands;
+    bound = λ size p. le_room game position.items room size is_room p;
     unfinished = unfinished;
     larger_sizes = λ other l w. omega (arith, l, le_room game position.items room other is_room w.may_come);
     passed = HasPassed-visited s.meter pass s.path (moved room game.target) last;
@@ -221,6 +247,16 @@ module _ (game : GameNumbers) (pass : ℕ) where
       → IsSettledMove game (allowed_by game pass) (position_after start path) step → AreSettledFrom game (allowed_by game pass) start (path ++ step ∷ [])
   AreSettledFrom-push start [] step h m = (m, tt)
   AreSettledFrom-push start (x ∷ path) step h m = (h.0, AreSettledFrom-push (after start x.load x.item) path step h.1 m)
+
+  -- a bound is one also after one more item
+  IsBound-after : (items : List ℕ) (size most : ℕ) → IsBound game items most → IsBound game (put_ascending size items) most
+  IsBound-after items size most bound other p =
+      bound other (Packable-part game (items ++ other ∷ []) (put_ascending size items ++ other ∷ []) (λ x. omega (
+        arith,
+        count-append x items (other ∷ []),
+        count-append x (put_ascending size items) (other ∷ []),
+        count-put_ascending x size items,
+      )) p)
 
   -- the position after the item may be visited
   pub may_visit_child : (s : Search) (path : List PathMove) (position child : Position) (size load : ℕ) → IsOpenAt game pass size load s position
@@ -244,6 +280,7 @@ module _ (game : GameNumbers) (pass : ℕ) where
       } in
       record {
         stands = subst (λ p. StandsAtPath game pass p child) (sym e) (subst (StandsAtPath game pass (s.path ++ step ∷ [])) (sym f) stands);
+        bound = subst (λ (p : Position). IsBound game p.items s.most) (sym f) (IsBound-after position.items size s.most o.bound);
         later = subst (λ p. IsLater s.meter (visit pass p)) (sym e) o.later;
       }
 
@@ -283,7 +320,7 @@ module _ (game : GameNumbers) (pass : ℕ) where
       let g = finds.went.goes in
       let base : back ≡ s0.path = popped s2.path back s0.path (moved size load) o (g.path ∙ e) h in (
         record {
-          goes = record { wins = g.wins; replies = g.replies; path = base; budget = g.budget; counted = g.counted };
+          goes = record { wins = g.wins; replies = g.replies; path = base; most = g.most; budget = g.budget; counted = g.counted };
           sound = finds.went.sound;
           passed = subst (HasPassed s2.meter pass) e finds.went.passed;
         },

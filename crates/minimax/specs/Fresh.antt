@@ -1,6 +1,7 @@
 -- Serves private contracts: how many positions a search has still to visit in a pass.
 use Rattle.std.specs.Prelude.{◌≡◌, ℕ, ◌+◌, ◌-◌, ◌<◌, ◌≤◌, ◌==◌, ◌&&◌, not, Bool, true, false, List, Option, Some}
 use Rattle.std.specs.Prelude.{None, IsSome, count_by, sum}
+use Rattle.std.specs.Prelude.{MatchResult, Result}
 use Rattle.items.specs.Game.{GameNumbers}
 use Rattle.loads.specs.Packed.{are_equal}
 use Rattle.loads.specs.Wins.{empty_position}
@@ -75,6 +76,11 @@ IsShort game pass volume before Spent =
     (looked : Position → Bool) (positions : List Position) → Looks game pass volume looked positions before
     → before.meter.budget < counted_and_fresh pass looked positions before
 IsShort game pass volume before Memory = Unit {0}
+
+-- a call that found something took a fresh position away for each visit; where the budget has ended, it was too short
+abbrev pub KeepsCount : {X : Type 0} → GameNumbers → ℕ → ℕ → Progress → Progress → Result X VisitFault → Type 0
+KeepsCount game pass volume before after result =
+    MatchResult result (λ found. CountsFresh game pass volume before after) (IsShort game pass volume before)
 
 -- before a pass at most so many visits were counted as the earlier passes have ends
 pub record IsWithinEnds (game : GameNumbers) (room budget pass : ℕ) (at : Progress) : Type 0 where

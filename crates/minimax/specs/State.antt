@@ -131,6 +131,10 @@ IsPastVisit pass path next = (pass < next.pass) ⊎ ((pass ≡ next.pass) × IsP
 abbrev pub HasPassed : Metered → ℕ → List PathMove → Type 0
 HasPassed meter pass path = (next : Visit) → IsPastVisit pass path next → IsLater meter next
 
+-- no size above the bound may come after the items
+abbrev pub IsBound : GameNumbers → List ℕ → ℕ → Type 0
+IsBound game items most = (size : ℕ) → Packable game (items ++ size ∷ []) → size ≤ most
+
 -- the path of a search with one more move
 abbrev pub with_move : Search → ℕ → ℕ → List PathMove
 with_move search size load = search.path ++ moved size load ∷ []
@@ -146,6 +150,7 @@ pub record StandsAtPath (game : GameNumbers) (pass : ℕ) (path : List PathMove)
 -- at the position of the path no size above this one wins, and all that is past this size is to come
 pub record IsOpenFrom (game : GameNumbers) (pass size : ℕ) (search : Search) (position : Position) : Type 0 where
   pub stands : StandsAtPath game pass search.path position
+  pub bound : IsBound game position.items search.most
   pub unfinished : Finishes game position.loads → ⊥
   pub larger_sizes : (other : ℕ) → size < other → WinsBy game pass position other → ⊥
   pub passed : HasPassed search.meter pass (with_move search size game.target)
@@ -153,6 +158,7 @@ pub record IsOpenFrom (game : GameNumbers) (pass size : ℕ) (search : Search) (
 -- with this size the adversary wins at each larger load below the target, and the visit at this load may come
 pub record IsOpenAt (game : GameNumbers) (pass size load : ℕ) (search : Search) (position : Position) : Type 0 where
   pub stands : StandsAtPath game pass search.path position
+  pub bound : IsBound game position.items search.most
   pub unfinished : Finishes game position.loads → ⊥
   pub larger_sizes : (other : ℕ) → size < other → WinsBy game pass position other → ⊥
   pub larger_loads : (other : ℕ) → Contains position.loads other → load < other → other + size < game.target
@@ -168,6 +174,7 @@ pub record MayCome (game : GameNumbers) (pass : ℕ) (position : Position) (size
 -- the path may be visited next
 pub record MayVisit (game : GameNumbers) (pass : ℕ) (search : Search) (position : Position) : Type 0 where
   pub stands : StandsAtPath game pass search.path position
+  pub bound : IsBound game position.items search.most
   pub later : IsLater search.meter (visit pass search.path)
 
 -- the budget has ended where the path was due
@@ -192,6 +199,7 @@ pub record Goes (spare : ℕ) (before after : Search) : Type 0 where
   pub wins : GoesOn before.wins.nodes after.wins.nodes
   pub replies : GoesOn before.replies.nodes after.replies.nodes
   pub path : after.path ≡ before.path
+  pub most : after.most ≡ before.most
   pub budget : after.meter.budget ≡ before.meter.budget
   pub counted : nodes_in after + before.meter.count ≤ nodes_in before + after.meter.count + spare
 

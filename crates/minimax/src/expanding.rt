@@ -4,9 +4,9 @@ ghost use Rattle.std.specs.Prelude.{◌≡◌, ◌+◌, ◌-◌, ◌<◌, ◌++�
 ghost use Rattle.items.specs.Packable.{IsRoom, Packable};
 ghost use Rattle.loads.specs.After.{after};
 ghost use Rattle.monotone.specs.Visits.{visit};
-ghost use Rattle.minimax.specs.Fresh.{CountsFresh, IsShort, progress};
+ghost use Rattle.minimax.specs.Fresh.{KeepsCount, progress};
 ghost use Rattle.minimax.specs.State.{IsSound, IsPlayable, HasReached, HasTried, HasWeighed, FindsVerdict};
-ghost use Rattle.minimax.specs.State.{IsOpenAt, IsOpenFrom, MayCome, MayVisit, StandsAtPath, Stops, WentOn};
+ghost use Rattle.minimax.specs.State.{IsBound, IsOpenAt, IsOpenFrom, MayCome, MayVisit, StandsAtPath, Stops, WentOn};
 ghost use Rattle.minimax.specs.State.{kept_of, nodes_in, reached_by, with_move};
 
 use crate::nodes::{push_finish, push_reply, push_win};
@@ -18,7 +18,7 @@ use items::Game;
 use items::laws::game_is_legal;
 use loads::Position;
 use monotone::{Meter, Path, PathMove, VisitFault, allows};
-use reachable_loads::room_of;
+use reachable_loads::room_up_to;
 use std::alloc::{AllocError, Global};
 use strategy_text::{Entry, Placement, Placements, Then};
 use transposition::{Key, Memo, Verdict};
@@ -31,6 +31,8 @@ pub(crate) struct Search {
     pub(crate) wins: AdvPool,
     pub(crate) replies: AlgPool,
     pub(crate) path: Path,
+    // A bound on the room of the position that the path leads to: the room of the one before it.
+    pub(crate) most: u16,
 }
 
 // What an item comes to at a load: the adversary wins, with what follows, or this is the verdict.
@@ -70,12 +72,9 @@ pub(crate) fn expand<M: Memo>(
     ensures found { MatchResult result
         (FindsVerdict game.now pass 0 position.now search.old search.new (M.entries memo.new))
         (Stops game.now pass search.old.meter.budget search.new) }
-    ensures counts { MatchResult result
-        (λ _found. CountsFresh game.now pass (sum position.now.items)
+    ensures counts { KeepsCount game.now pass (sum position.now.items)
         (progress search.old.meter (M.entries memo.old) (M.room memo.old))
-        (progress search.new.meter (M.entries memo.new) (M.room memo.new)))
-        (IsShort game.now pass (sum position.now.items)
-        (progress search.old.meter (M.entries memo.old) (M.room memo.old))) }
+        (progress search.new.meter (M.entries memo.new) (M.room memo.new)) result }
 {
     let key = Key::of(search.alloc, &position.loads, &position.items)?;
     if let Some(verdict) = known(memo, &key, pass) {
@@ -100,23 +99,25 @@ fn decide<M: Memo>(
     requires stands { StandsAtPath game.now pass search.old.path position.now }
     requires visited { search.old.meter.last ≡ Some (visit pass search.old.path) }
     requires spare { nodes_in search.old < search.old.meter.count }
+    requires bound { IsBound game.now position.now.items search.old.most }
     ensures found { MatchResult result
         (FindsVerdict game.now pass 1 position.now search.old search.new (M.entries memo.new))
         (Stops game.now pass search.old.meter.budget search.new) }
-    ensures counts { MatchResult result
-        (λ _found. CountsFresh game.now pass (sum position.now.items + 1)
+    ensures counts { KeepsCount game.now pass (sum position.now.items + 1)
         (progress search.old.meter (M.entries memo.old) (M.room memo.old))
-        (progress search.new.meter (M.entries memo.new) (M.room memo.new)))
-        (IsShort game.now pass (sum position.now.items + 1)
-        (progress search.old.meter (M.entries memo.old) (M.room memo.old))) }
+        (progress search.new.meter (M.entries memo.new) (M.room memo.new)) result }
 {
     game_is_legal(game);
     if finishes(game, &position.loads) {
         let number = push_finish(search.alloc, &mut search.replies, position)?;
         return Ok(Verdict::Algorithm(number));
     }
-    let room = room_of(search.alloc, game, &position.items)?;
-    weigh_all(game, pass, search, memo, position, room)
+    let most = search.most;
+    let room = room_up_to(search.alloc, game, &position.items, most)?;
+    search.most = room;
+    let verdict = weigh_all(game, pass, search, memo, position, room)?;
+    search.most = most;
+    Ok(verdict)
 }
 
 // The same by the sizes up to the room, from the largest on.
@@ -136,12 +137,9 @@ fn weigh_all<M: Memo>(
     ensures found { MatchResult result
         (FindsVerdict game.now pass 1 position.now search.old search.new (M.entries memo.new))
         (Stops game.now pass search.old.meter.budget search.new) }
-    ensures counts { MatchResult result
-        (λ _found. CountsFresh game.now pass (sum position.now.items + 1)
+    ensures counts { KeepsCount game.now pass (sum position.now.items + 1)
         (progress search.old.meter (M.entries memo.old) (M.room memo.old))
-        (progress search.new.meter (M.entries memo.new) (M.room memo.new)))
-        (IsShort game.now pass (sum position.now.items + 1)
-        (progress search.old.meter (M.entries memo.old) (M.room memo.old))) }
+        (progress search.new.meter (M.entries memo.new) (M.room memo.new)) result }
 {
     let mut entries = Vec::new(search.alloc);
     for tried in 0..room {
@@ -183,12 +181,9 @@ fn weigh<M: Memo>(
     ensures found { MatchResult result
         (HasWeighed game.now pass size position.now search.old search.new (M.entries memo.new))
         (Stops game.now pass search.old.meter.budget search.new) }
-    ensures counts { MatchResult result
-        (λ _found. CountsFresh game.now pass (sum position.now.items + 1)
+    ensures counts { KeepsCount game.now pass (sum position.now.items + 1)
         (progress search.old.meter (M.entries memo.old) (M.room memo.old))
-        (progress search.new.meter (M.entries memo.new) (M.room memo.new)))
-        (IsShort game.now pass (sum position.now.items + 1)
-        (progress search.old.meter (M.entries memo.old) (M.room memo.old))) }
+        (progress search.new.meter (M.entries memo.new) (M.room memo.new)) result }
 {
     game_is_legal(game);
     if !allows(pass, &position.items, size) {
@@ -230,12 +225,9 @@ fn try_size<M: Memo>(
         (λ tried. WentOn game.now pass 0 (with_move search.old (size - 1) game.now.target) search.old search.new
         (M.entries memo.new) × HasTried game.now pass search.new position.now size tried)
         (Stops game.now pass search.old.meter.budget search.new) }
-    ensures counts { MatchResult result
-        (λ _found. CountsFresh game.now pass (sum position.now.items + 1)
+    ensures counts { KeepsCount game.now pass (sum position.now.items + 1)
         (progress search.old.meter (M.entries memo.old) (M.room memo.old))
-        (progress search.new.meter (M.entries memo.new) (M.room memo.new)))
-        (IsShort game.now pass (sum position.now.items + 1)
-        (progress search.old.meter (M.entries memo.old) (M.room memo.old))) }
+        (progress search.new.meter (M.entries memo.new) (M.room memo.new)) result }
 {
     let mut placements = Placements::new(search.alloc);
     for i in 0..position.loads.distinct_count() {
@@ -266,12 +258,9 @@ fn try_load<M: Memo>(
         (λ reached. WentOn game.now pass 0 (with_move search.old size load) search.old search.new
         (M.entries memo.new) × HasReached game.now pass search.new position.now size load reached)
         (Stops game.now pass search.old.meter.budget search.new) }
-    ensures counts { MatchResult result
-        (λ _found. CountsFresh game.now pass (sum position.now.items + 1)
+    ensures counts { KeepsCount game.now pass (sum position.now.items + 1)
         (progress search.old.meter (M.entries memo.old) (M.room memo.old))
-        (progress search.new.meter (M.entries memo.new) (M.room memo.new)))
-        (IsShort game.now pass (sum position.now.items + 1)
-        (progress search.old.meter (M.entries memo.old) (M.room memo.old))) }
+        (progress search.new.meter (M.entries memo.new) (M.room memo.new)) result }
 {
     let target = game.t();
     if load + size >= target {

@@ -81,6 +81,7 @@ fn search_passes<M: Memo>(
         wins: AdvPool::new(alloc, game, Format::One),
         replies: AlgPool::new(alloc, game, Format::One),
         path: Path::new(alloc),
+        most: game.g(),
     };
     let root = Position {
         loads: Loads::zero(alloc, game),

@@ -23,7 +23,7 @@ use Rattle.minimax.proofs.PlayableLemmas.{total_with}
 use Rattle.minimax.proofs.SizeLemmas.{finds_after, follows_more, next_bound, may_come_allowed, never_by_replies, none_more, not_allowed}
 use Rattle.minimax.proofs.SizeLemmas.{opens_load, opens_size, past_more, past_size}
 use Rattle.minimax.proofs.SizeLemmas.{placed_more, replies_more, replies_still, sizes_more, weighs, wins_by}
-use Rattle.minimax.proofs.StepLemmas.{finds_expanded, finds_held, finds_known, finds_reply, finds_win, may_visit_child, opens, passed_on}
+use Rattle.minimax.proofs.StepLemmas.{finds_decided, finds_expanded, finds_held, finds_known, finds_reply, finds_win, may_visit_child, opens, passed_on}
 use Rattle.minimax.proofs.StepLemmas.{reached_child, reached_over}
 use Rattle.minimax.proofs.StepLemmas.{sound_visited, spare_still, WentOn-refl, WentOn-then}
 use Rattle.minimax.proofs.FreshLemmas.{CountsFresh-above, CountsFresh-refl, CountsFresh-same, CountsFresh-trans, CountsFresh-visited}
@@ -57,7 +57,7 @@ expand-decide-requires g t c κs l =
             c.requires.may.stands,
             (
               ap (λ (m : Metered). m.last) counted,
-              omega (arith, c.requires.sound.few, ap (λ (m : Metered). m.count) counted),
+              (omega (arith, c.requires.sound.few, ap (λ (m : Metered). m.count) counted), c.requires.may.bound),
             ),
           ),
         ),
@@ -92,6 +92,14 @@ decide-weigh_all-requires g t c κs l = (
     ),
   ),
 )
+
+pub decide-returns-clause-found : goal.decide-returns-clause-found
+decide-returns-clause-found g t c =
+    finds_decided c.args.game.now c.args.pass c.args.search.now c.weigh_all.new.search c.in_ok-room.room c.args.position.now (g.M.Memo.entries c.weigh_all.new.memo)
+    c.in_ok-verdict.verdict c.in_ok-verdict.ensures.found
+
+pub decide-returns-clause-counts : goal.decide-returns-clause-counts
+decide-returns-clause-counts g t c = c.in_ok-verdict.ensures.counts
 
 -- ---- try_load
 

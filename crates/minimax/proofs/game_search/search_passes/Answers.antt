@@ -16,6 +16,7 @@ loop-pass-init g c = record {
       c.new-3.ensures.empty c.requires.empty c.requires.most;
   ends = IsWithinEnds-start c.args.game.now (g.M.Memo.room c.args.memo.now) c.args.budget c.new.result (g.M.Memo.entries c.args.memo.now) c.new.ensures.unused c.requires.empty;
   path = c.new-4.ensures.none;
+  most = c.g.ensures.value;
   budget = ap (λ (m : Metered). m.budget) c.new.ensures.unused;
   none_before = λ earlier first l won. omega (arith, l);
   later = λ path. subst (λ (m : Metered). IsLater m (visit 0 path)) (sym c.new.ensures.unused) tt;
@@ -27,7 +28,7 @@ expand-requires-clause-may g c =
     let game = c.args.game.now in
     let root = ap (λ xs. position xs c.empty.result) c.zero.ensures.value ∙ ap (position (empty_position game).loads) c.empty.ensures.none in
     may_visit_root game c.loop-pass.pass c.loop-pass.search (position c.zero.result c.empty.result) c.loop-pass.invariant.of_game
-    (subst (IsLoads game) c.zero.ensures.value c.zero.ensures.legal) root c.loop-pass.invariant.path c.loop-pass.invariant.later
+    (subst (IsLoads game) c.zero.ensures.value c.zero.ensures.legal) root c.loop-pass.invariant.path c.loop-pass.invariant.most c.loop-pass.invariant.later
 
 pub into_strategy-requires : goal.into_strategy-requires
 into_strategy-requires g c =
@@ -85,6 +86,7 @@ loop-pass-preserved g c =
       sound = AreSound-later game pass s2.meter s2.wins s2.replies e (pass + 1) (omega arith) finds.went.sound;
       ends = IsWithinEnds-next game (g.M.Memo.room c.args.memo.now) c.args.budget pass (sum c.empty.result) _ _ c.loop-pass.invariant.ends c.in-Ok-Held.ensures.counts;
       path = goes.path ∙ c.loop-pass.invariant.path;
+      most = goes.most ∙ c.loop-pass.invariant.most;
       budget = goes.budget ∙ c.loop-pass.invariant.budget;
       none_before = none_more game pass c.loop-pass.invariant.none_before
           (λ won. finds.tells.says.1 (subst (IsWonIn game c.in-Ok-Held.field-0-0) (sym root) (subst (λ k. IsWonIn game k (empty_position game)) (sym finds.tells.of_pass) won)));

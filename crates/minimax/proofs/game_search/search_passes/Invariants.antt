@@ -12,6 +12,7 @@ invariant-loop-pass g l = record {
   sound : IsSound l.game l.pass l.search (g.M.Memo.entries l.memo);
   ends : IsWithinEnds l.game (g.M.Memo.room l.fn.memo) l.budget l.pass (progress l.search.meter (g.M.Memo.entries l.memo) (g.M.Memo.room l.memo));
   path : l.search.path ≡ [];
+  most : l.search.most ≡ l.game.capacity;
   budget : l.search.meter.budget ≡ l.budget;
   none_before : NoneWonBefore (whole_game l.game) l.pass;
   later : (path : List PathMove) → IsLater l.search.meter (visit l.pass path);
