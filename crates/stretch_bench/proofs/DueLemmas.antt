@@ -1,7 +1,7 @@
 -- What follows from a text that is due.
-use Rattle.std.proofs.Common.{◌≡◌, ◌≤◌, ℕ, List, [], ◌∷◌, ◌++◌, length, get_or, take, drop, codes, Option, Some, None, inl, inr, refl, ap, sym, subst, ◌∙◌, arith, append_assoc, append-nil, take-append-drop}
+use Rattle.std.proofs.Common.{◌≡◌, ◌==◌, ◌≤◌, ℕ, List, [], ◌∷◌, ◌++◌, length, get_or, take, drop, codes, Option, Some, None, inl, inr, refl, ap, sym, subst, ◌∙◌, arith, append_assoc, append-nil, take-append-drop}
 use Rattle.std.proofs.lemmas.List.{append_cancel_left}
-use Rattle.std.specs.Prelude.{unwrap_or, IfSome, ◌↔◌}
+use Rattle.std.specs.Prelude.{unwrap_or, IfSome, ◌↔◌, if◌then◌else◌}
 use Rattle.std.proofs.lemmas.List.{length-map}
 use Rattle.std.specs.Io.KnownBytes.{append_known}
 use Rattle.port_io.specs.Told.{AppendsSome}
@@ -10,7 +10,8 @@ use Rattle.items.specs.Multiset.{sizes_of}
 use Rattle.online_play.specs.Algorithm.{ForcesEvery}
 use Rattle.online_play.specs.declared.transcript.Transcript.{Transcript}
 use Rattle.strategy_text.specs.Spelling.{most_nodes}
-use Rattle.strategy_text.specs.Text.{of_adversary, of_algorithm, nodes_of, side_of, text_of, line_of, text_of_lines}
+use Rattle.strategy_text.specs.Text.{of_adversary, of_algorithm, nodes_of, side_of, text_of, first_line, line_of, text_of_lines}
+use Rattle.strategy_text.specs.declared.node.Format.TheVariants.{One, Two}
 use Rattle.strategy_text.specs.Writing.{spaced}
 use Rattle.strategy_text.proofs.Spaced.{line_spaced}
 use Rattle.strategy_text.specs.declared.node.Format.{Format}
@@ -28,17 +29,18 @@ use Rattle.checker.specs.declared.fault.Wanted.{Wanted}
 use Rattle.checker.specs.declared.fault.Wanted.TheVariants.{Either, Only}
 use Rattle.checker.proofs.ForcedLemmas as forced
 use Rattle.checker.proofs.LegalText.{legal_text_has_no_fault}
+use Rattle.minimise.specs.Strategies.{canonical_form}
 use Rattle.match_player.specs.declared.answered.Answered.{Answered}
 use Rattle.match_player.specs.Lines.{game_words, run_lines, pack_line, play_text, answer_text}
 use Rattle.stretch_bench.specs.declared.command.Command.{Command}
-use Rattle.stretch_bench.specs.declared.command.Command.TheVariants.{Check, Play, Answer}
+use Rattle.stretch_bench.specs.declared.command.Command.TheVariants.{Check, Play, Answer, Minimise, Report, Drill, Search}
 use Rattle.stretch_bench.specs.declared.status.Status.{Status}
 use Rattle.stretch_bench.specs.declared.status.Status.TheVariants.{Done, Rejected, Usage, Undecided, ReadFault, WriteFault, OutOfMemory, Unpackable}
-use Rattle.stretch_bench.specs.Answer.{Run, IsAnswer, IsServed, IsStopped}
+use Rattle.stretch_bench.specs.Answer.{Run, IsAnswer, IsExact, IsServed, IsStopped}
 use Rattle.stretch_bench.specs.Words.{Spells, SpellsNone}
 use Rattle.stretch_bench.specs.Lines.{accepted_line, adversary_accepted, algorithm_accepted}
 use Rattle.stretch_bench.specs.Replying.{Replying}
-use Rattle.stretch_bench.specs.Due.{Call, IsDue, IsOutcome, wanted_by}
+use Rattle.stretch_bench.specs.Due.{Call, HasNoPacking, IsDue, IsFaulty, IsOutcome, IsSpent, wanted_by}
 use Rattle.stretch_bench.specs.Written.{WritesFirst}
 use Rattle.stretch_bench.proofs.Fronts.{HasSmallNumbers, same_line}
 
@@ -91,6 +93,43 @@ not_answered game answered accepted more e =
     sym (first_line_of (codes "answer") (game_words game) lines) ∙ e in
     absurd (let other : 110 ≡ 99 = ap (λ (l : List ℕ). get_or l 1 0) text in omega arith)
 
+-- the text of a strategy begins with another letter
+first_letter : (format : Format) (rest : List ℕ) → get_or ((first_line format ++ 10 ∷ []) ++ rest) 0 0 ≡ 115
+first_letter One rest = refl
+first_letter Two rest = refl
+
+not_spelled : (strategy : Strategy) (accepted : Accepted) (more : List ℕ) → text_of strategy ≡ accepted_line accepted ++ more → ⊥
+not_spelled strategy accepted more e =
+    absurd (let other : 115 ≡ 97 = sym (first_letter strategy.format _) ∙ ap (λ (l : List ℕ). get_or l 0 0) e in omega arith)
+
+not_faulty : (wanted : Option Wanted) (left new_left : Option (List ℕ)) (text : List ℕ) (accepted : Accepted) (more : List ℕ)
+    → IsFaulty wanted left new_left text → text ≡ accepted_line accepted ++ more → ⊥
+not_faulty None left new_left text accepted more due e = due
+not_faulty (Some wanted) left new_left text accepted more due e =
+    absurd (let other : 114 ≡ 97 = ap (λ (l : List ℕ). get_or l 0 0) (sym due.line ∙ e) in omega arith)
+
+not_spent : (left new_left : Option (List ℕ)) (command : Command) (text : List ℕ) (accepted : Accepted) (more : List ℕ) → IsSpent left new_left text command
+    → text ≡ accepted_line accepted ++ more → ⊥
+not_spent left new_left (Search game budget table) text accepted more due e =
+    absurd (let other : 117 ≡ 97 = ap (λ (l : List ℕ). get_or l 0 0) (sym due.1.line ∙ e) in omega arith)
+not_spent left new_left Check text accepted more due e = due
+not_spent left new_left (Play place) text accepted more due e = due
+not_spent left new_left (Answer items) text accepted more due e = due
+not_spent left new_left Minimise text accepted more due e = due
+not_spent left new_left Report text accepted more due e = due
+not_spent left new_left (Drill number copies) text accepted more due e = due
+
+not_packable : (left new_left : Option (List ℕ)) (command : Command) (text : List ℕ) (accepted : Accepted) (more : List ℕ) → HasNoPacking left new_left text command
+    → text ≡ accepted_line accepted ++ more → ⊥
+not_packable left new_left (Answer items) text accepted more due e =
+    absurd (let other : 117 ≡ 97 = ap (λ (l : List ℕ). get_or l 0 0) (sym due.is.line ∙ e) in omega arith)
+not_packable left new_left Check text accepted more due e = due
+not_packable left new_left (Play place) text accepted more due e = due
+not_packable left new_left Minimise text accepted more due e = due
+not_packable left new_left Report text accepted more due e = due
+not_packable left new_left (Drill number copies) text accepted more due e = due
+not_packable left new_left (Search game budget table) text accepted more due e = due
+
 -- a legal strategy stands after an accepted line
 outcome_stands : (names : List (List ℕ)) (answers : List (GameNumbers → List ℕ → ℕ)) (left new_left : Option (List ℕ)) (command : Command) (status : Status) (text : List ℕ) (accepted : Accepted) (more : List ℕ)
     → IsOutcome names answers left new_left command status text → text ≡ accepted_line accepted ++ more → Accepts Either accepted left new_left
@@ -100,17 +139,22 @@ outcome_stands names answers left new_left (Play place) Done text accepted more 
     let played = due.read.is in absurd (not_played due.name due.read.strategy.game played.transcript accepted more (sym played.lines ∙ e))
 outcome_stands names answers left new_left (Answer items) Done text accepted more due e =
     absurd (not_answered due.strategy.game _ accepted more (sym due.is.lines ∙ e))
+outcome_stands names answers left new_left Minimise Done text accepted more due e =
+    absurd (not_spelled (canonical_form due.strategy) accepted more (sym due.is ∙ e))
+outcome_stands names answers left new_left Report Done text accepted more due e =
+    absurd (let other : 114 ≡ 97 = ap (λ (l : List ℕ). get_or l 0 0) (sym due.is.line ∙ e) in omega arith)
+outcome_stands names answers left new_left (Drill number copies) Done text accepted more due e =
+    absurd (let other : 100 ≡ 97 = ap (λ (l : List ℕ). get_or l 0 0) (sym due.1 ∙ e) in omega arith)
+outcome_stands names answers left new_left (Search game budget table) Done text accepted more due e =
+    absurd (not_spelled due.1.strategy accepted more (sym due.1.spelled ∙ e))
 outcome_stands names answers left new_left command Rejected text accepted more due e =
-    absurd (let other : 114 ≡ 97 = ap (λ l. get_or l 0 0) (sym due.line ∙ e) in omega arith)
+    absurd (not_faulty (wanted_by command) left new_left text accepted more due e)
 outcome_stands names answers left new_left command Usage text accepted more due e = absurd due
-outcome_stands names answers left new_left command Undecided text accepted more due e = absurd due
+outcome_stands names answers left new_left command Undecided text accepted more due e = absurd (not_spent left new_left command text accepted more due e)
 outcome_stands names answers left new_left command ReadFault text accepted more due e = absurd due
 outcome_stands names answers left new_left command WriteFault text accepted more due e = absurd due
 outcome_stands names answers left new_left command OutOfMemory text accepted more due e = absurd due
-outcome_stands names answers left new_left Check Unpackable text accepted more due e = absurd due
-outcome_stands names answers left new_left (Play place) Unpackable text accepted more due e = absurd due
-outcome_stands names answers left new_left (Answer items) Unpackable text accepted more due e =
-    absurd (let other : 117 ≡ 97 = ap (λ l. get_or l 0 0) (sym due.is.line ∙ e) in omega arith)
+outcome_stands names answers left new_left command Unpackable text accepted more due e = absurd (not_packable left new_left command text accepted more due e)
 
 stands_after : (call : Call) (status : Status) (text : List ℕ) (accepted : Accepted) (more : List ℕ) → IsDue call status text
     → text ≡ accepted_line accepted ++ more → Accepts Either accepted call.left call.new_left
@@ -171,55 +215,112 @@ legal_bytes wanted strategy bytes (Some rest) loads =
       spelled = all ∙ ap (λ (more : List ℕ). spells.read ++ more) none ∙ append-nil spells.read ∙ spells.spelled ∙ append-nil (text_of strategy);
     }
 
--- words of one command spell no other that wants another side
-first_letters : (words : List (List ℕ)) (first other : List ℕ) (rest more : List (List ℕ)) → words ≡ first ∷ rest → words ≡ other ∷ more → get_or first 0 0 ≡ get_or other 0 0
-first_letters words first other rest more e f = ap (λ (ws : List (List ℕ)). get_or (get_or ws 0 []) 0 0) (sym e ∙ f)
+-- the first letter of the words of a command, and what the letter tells of the side that it wants
+letter : Command → ℕ
+letter Check = 99
+letter (Play place) = 112
+letter (Answer items) = 97
+letter Minimise = 109
+letter Report = 114
+letter (Drill number copies) = 100
+letter (Search game budget table) = 115
 
+letter_of : List (List ℕ) → ℕ
+letter_of words = get_or (get_or words 0 []) 0 0
+
+spelled_letter : (names words : List (List ℕ)) (command : Command) → Spells names words command → letter_of words ≡ letter command
+unfolding letter letter_of
+spelled_letter names words Check e = ap letter_of e
+spelled_letter names words (Play place) e = ap letter_of e.1
+spelled_letter names words (Answer items) e = ap letter_of e.0
+spelled_letter names words Minimise e = ap letter_of e
+spelled_letter names words Report e = ap letter_of e
+spelled_letter names words (Drill number copies) e = ap letter_of e.spelled
+spelled_letter names words (Search game budget table) e = ap letter_of e.spelled
+
+wanted_at : ℕ → Option Wanted
+wanted_at n =
+    if n == 99 then Some Either else if n == 112 then Some (Only Adversary) else if n == 97 then Some (Only Algorithm)
+    else if n == 109 then Some Either else if n == 114 then Some Either else None
+
+wanted_is : (command : Command) → wanted_by command ≡ wanted_at (letter command)
+unfolding letter wanted_at
+wanted_is Check = refl
+wanted_is (Play place) = refl
+wanted_is (Answer items) = refl
+wanted_is Minimise = refl
+wanted_is Report = refl
+wanted_is (Drill number copies) = refl
+wanted_is (Search game budget table) = refl
+
+-- the same words spell no two commands that want other sides
 same_wanted : (names words : List (List ℕ)) (one other : Command) → Spells names words one → Spells names words other → wanted_by one ≡ wanted_by other
-same_wanted names words Check Check e f = refl
-same_wanted names words (Play i) (Play j) e f = refl
-same_wanted names words (Answer xs) (Answer ys) e f = refl
-same_wanted names words Check (Play j) e f = absurd (let d : 99 ≡ 112 = first_letters words _ _ _ _ e f.1 in omega arith)
-same_wanted names words Check (Answer ys) e f = absurd (let d : 99 ≡ 97 = first_letters words _ _ _ _ e f.0 in omega arith)
-same_wanted names words (Play i) Check e f = absurd (let d : 112 ≡ 99 = first_letters words _ _ _ _ e.1 f in omega arith)
-same_wanted names words (Play i) (Answer ys) e f = absurd (let d : 112 ≡ 97 = first_letters words _ _ _ _ e.1 f.0 in omega arith)
-same_wanted names words (Answer xs) Check e f = absurd (let d : 97 ≡ 99 = first_letters words _ _ _ _ e.0 f in omega arith)
-same_wanted names words (Answer xs) (Play j) e f = absurd (let d : 97 ≡ 112 = first_letters words _ _ _ _ e.0 f.1 in omega arith)
+same_wanted names words one other e f =
+    wanted_is one ∙ ap wanted_at (sym (spelled_letter names words one e) ∙ spelled_letter names words other f) ∙ sym (wanted_is other)
+
+-- where a fault was found, the bytes are no legal text
+faulty_exact : (wanted : Option Wanted) (bytes : List ℕ) (new_left : Option (List ℕ)) (text : List ℕ) → IsFaulty wanted (Some bytes) new_left text
+    → IsExact wanted (Some bytes) Rejected
+faulty_exact None bytes new_left text due = tt
+faulty_exact (Some wanted) bytes new_left text due =
+    λ on. (λ served. absurd served, λ legal. absurd (legal_text_has_no_fault wanted bytes legal due.at due.why due.rejects.first_of_input.has))
+
+-- a strategy that was read is that of the bytes
+read_exact : (wanted : Wanted) (status : Status) (strategy : Strategy) (bytes : List ℕ) (new_left : Option (List ℕ)) → IsServed status
+    → Loads wanted strategy (Some bytes) new_left → IsExact (Some wanted) (Some bytes) status
+read_exact wanted status strategy bytes new_left served loads = λ on. (λ any. legal_bytes wanted strategy bytes new_left loads, λ legal. served)
 
 -- a command is served exactly where the bytes are a legal text of the side that it wants
-outcome_exact : (names : List (List ℕ)) (answers : List (GameNumbers → List ℕ → ℕ)) (bytes : List ℕ) (new_left : Option (List ℕ)) (command : Command) (status : Status) (text : List ℕ)
-    → IsOutcome names answers (Some bytes) new_left command status text → IsServed status ↔ IsLegalText (wanted_by command) bytes
-outcome_exact names answers bytes new_left Check Done text due = (λ served. legal_bytes Either due.accepts.strategy bytes new_left due.accepts.loads, λ legal. tt)
-outcome_exact names answers bytes new_left (Play place) Done text due = (λ served. legal_bytes (Only Adversary) due.read.strategy bytes new_left due.read.loads, λ legal. tt)
-outcome_exact names answers bytes new_left (Answer items) Done text due = (λ served. legal_bytes (Only Algorithm) due.strategy bytes new_left due.loads, λ legal. tt)
-outcome_exact names answers bytes new_left command Rejected text due =
-    (λ served. absurd served, λ legal. absurd (legal_text_has_no_fault (wanted_by command) bytes legal due.at due.why due.rejects.first_of_input.has))
+outcome_exact : (names : List (List ℕ)) (answers : List (GameNumbers → List ℕ → ℕ)) (bytes : List ℕ) (new_left : Option (List ℕ)) (command : Command)
+    (status : Status) (text : List ℕ) → IsOutcome names answers (Some bytes) new_left command status text → IsExact (wanted_by command) (Some bytes) status
+outcome_exact names answers bytes new_left Check Done text due = read_exact Either Done due.accepts.strategy bytes new_left tt due.accepts.loads
+outcome_exact names answers bytes new_left (Play place) Done text due = read_exact (Only Adversary) Done due.read.strategy bytes new_left tt due.read.loads
+outcome_exact names answers bytes new_left (Answer items) Done text due = read_exact (Only Algorithm) Done due.strategy bytes new_left tt due.loads
+outcome_exact names answers bytes new_left Minimise Done text due = read_exact Either Done due.strategy bytes new_left tt due.loads
+outcome_exact names answers bytes new_left Report Done text due = read_exact Either Done due.strategy bytes new_left tt due.loads
+outcome_exact names answers bytes new_left (Drill number copies) Done text due = tt
+outcome_exact names answers bytes new_left (Search game budget table) Done text due = tt
+outcome_exact names answers bytes new_left command Rejected text due = faulty_exact (wanted_by command) bytes new_left text due
 outcome_exact names answers bytes new_left command Usage text due = absurd due
-outcome_exact names answers bytes new_left command Undecided text due = absurd due
 outcome_exact names answers bytes new_left command ReadFault text due = absurd due
 outcome_exact names answers bytes new_left command WriteFault text due = absurd due
 outcome_exact names answers bytes new_left command OutOfMemory text due = absurd due
 outcome_exact names answers bytes new_left Check Unpackable text due = absurd due
 outcome_exact names answers bytes new_left (Play place) Unpackable text due = absurd due
-outcome_exact names answers bytes new_left (Answer items) Unpackable text due = (λ served. legal_bytes (Only Algorithm) due.strategy bytes new_left due.loads, λ legal. tt)
+outcome_exact names answers bytes new_left (Answer items) Unpackable text due = read_exact (Only Algorithm) Unpackable due.strategy bytes new_left tt due.loads
+outcome_exact names answers bytes new_left Minimise Unpackable text due = absurd due
+outcome_exact names answers bytes new_left Report Unpackable text due = absurd due
+outcome_exact names answers bytes new_left (Drill number copies) Unpackable text due = absurd due
+outcome_exact names answers bytes new_left (Search game budget table) Unpackable text due = absurd due
+outcome_exact names answers bytes new_left Check Undecided text due = absurd due
+outcome_exact names answers bytes new_left (Play place) Undecided text due = absurd due
+outcome_exact names answers bytes new_left (Answer items) Undecided text due = absurd due
+outcome_exact names answers bytes new_left Minimise Undecided text due = absurd due
+outcome_exact names answers bytes new_left Report Undecided text due = absurd due
+outcome_exact names answers bytes new_left (Drill number copies) Undecided text due = absurd due
+outcome_exact names answers bytes new_left (Search game budget table) Undecided text due = tt
 
-pub exact_due : (names : List (List ℕ)) (answers : List (GameNumbers → List ℕ → ℕ)) (words : List (List ℕ)) (left new_left : Option (List ℕ)) (status : Status) (text : List ℕ)
-    → IsDue (made_call names answers words left new_left) status text → (command : Command) → Spells names words command
-    → IfSome left (λ bytes. ¬ IsStopped status → IsServed status ↔ IsLegalText (wanted_by command) bytes)
-exact_due names answers words None new_left status text due command spelled = tt
+-- nothing is claimed of a source that tells nothing
+untold : (wanted : Option Wanted) (status : Status) → IsExact wanted None status
+untold None status = tt
+untold (Some wanted) status = tt
+
+pub exact_due : (names : List (List ℕ)) (answers : List (GameNumbers → List ℕ → ℕ)) (words : List (List ℕ)) (left new_left : Option (List ℕ)) (status : Status)
+    (text : List ℕ) → IsDue (made_call names answers words left new_left) status text → (command : Command) → Spells names words command
+    → IsExact (wanted_by command) left status
+exact_due names answers words None new_left status text due command spelled = untold (wanted_by command) status
 exact_due names answers words (Some bytes) new_left status text (inl due) command spelled =
-    λ on.
-    subst (λ wanted. IsServed status ↔ IsLegalText wanted bytes) (same_wanted names words due.0 command due.1 spelled)
+    subst (λ wanted. IsExact wanted (Some bytes) status) (same_wanted names words due.0 command due.1 spelled)
     (outcome_exact names answers bytes new_left due.0 status text due.2)
 exact_due names answers words (Some bytes) new_left status text (inr due) command spelled = absurd (due.1.no_command command spelled)
 
 -- a run that was stopped says nothing of the input
-pub stopped_any : (left : Option (List ℕ)) (status : Status) (command : Command) → IsStopped status
-    → IfSome left (λ bytes. ¬ IsStopped status → IsServed status ↔ IsLegalText (wanted_by command) bytes)
-stopped_any None status command h = tt
-stopped_any (Some bytes) status command h = λ on. absurd (on h)
+pub stopped_any : (wanted : Option Wanted) (left : Option (List ℕ)) (status : Status) → IsStopped status → IsExact wanted left status
+stopped_any None left status h = tt
+stopped_any (Some wanted) None status h = tt
+stopped_any (Some wanted) (Some bytes) status h = λ on. absurd (on h)
 
--- no status but four is due with a text
+-- no text is due with the statuses of a run that was stopped
 never_due : (call : Call) (status : Status) (text : List ℕ) → IsDue call status text → IsStopped status → ⊥
 never_due call Done text due stopped = stopped
 never_due call Rejected text due stopped = stopped
@@ -233,17 +334,13 @@ never_due call WriteFault text (inr due) stopped = absurd cc
 never_due call OutOfMemory text (inl due) stopped = due.2
 never_due call OutOfMemory text (inr due) stopped = absurd cc
 
-never_undecided : (call : Call) (text : List ℕ) → IsDue call Undecided text → ⊥
-never_undecided call text (inl due) = due.2
-never_undecided call text (inr due) = absurd cc
-
 -- a text that is due was written whole
 pub answer_due : (run : Run) (status : Status) (text : List ℕ) → IsDue run.call status text → run.new_written ≡ append_known run.written text
     → IsAnswer run status
 answer_due run Done text due e = (text, due, e)
 answer_due run Rejected text due e = (text, due, e)
 answer_due run Usage text due e = (text, due, e)
-answer_due run Undecided text due e = never_undecided run.call text due
+answer_due run Undecided text due e = (text, due, e)
 answer_due run ReadFault text due e = absurd (never_due run.call ReadFault text due tt)
 answer_due run WriteFault text due e = absurd (never_due run.call WriteFault text due tt)
 answer_due run OutOfMemory text due e = absurd (never_due run.call OutOfMemory text due tt)

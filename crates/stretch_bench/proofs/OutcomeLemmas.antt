@@ -1,5 +1,5 @@
 -- What the work of a command comes to.
-use Rattle.std.proofs.Common.{◌≡◌, ◌≤◌, ◌<◌, ◌+◌, ◌-◌, ℕ, List, [], length, map, get_or, Option, Some, Result, Ok, Err, IfOk, inl, inr, sym, ap, subst, refl, ◌∙◌, arith}
+use Rattle.std.proofs.Common.{◌≡◌, ◌⊎◌, ◌*◌, ◌≤◌, ◌<◌, ◌+◌, ◌-◌, ℕ, List, [], length, map, get_or, Option, Some, Result, Ok, Err, IfOk, inl, inr, sym, ap, subst, refl, ◌∙◌, arith}
 use Rattle.std.specs.Prelude.{slice_get, All, MatchOption}
 use Rattle.std.proofs.lemmas.List.{length-map, take_all}
 use Rattle.std.proofs.lemmas.Option.{slice_get_within}
@@ -22,6 +22,20 @@ use Rattle.adversary_graph.specs.Pools as adversary
 use Rattle.algorithm_graph.specs.Pools as algorithm
 use Rattle.algorithm_graph.specs.Replies.{replies}
 use Rattle.checker.specs.Head.{AreLegalNodes}
+use Rattle.checker.proofs.LegalText.{legal_is_spellable, legal_text_has_no_fault}
+use Rattle.checker.specs.FirstFault.{IsLegalText}
+use Rattle.minimise.specs.Strategies.{IsLegal, canonical_form, canonical_nodes}
+use Rattle.minimise.proofs.StrategyLemmas.{canonical-legal, canonical_forms_stay, canonical_forms_have_no_more_nodes}
+use Rattle.minimax.specs.Answers.{IsAnswer, IsDecided, IsFor}
+use Rattle.minimax.specs.Budgets.{AreNumbersOfEnds, HasRoom, IsOfAdversary, ends_before}
+use Rattle.minimax.specs.declared.answer.Answer.{Answer as SearchAnswer}
+use Rattle.minimax.specs.declared.answer.Answer.TheVariants as answers
+use Rattle.monotone.specs.Passes.{allowed_in, whole_game}
+use Rattle.monotone.specs.Positions.{CountsAllEnds}
+use Rattle.monotone.specs.Visits.{most_visits}
+use Rattle.monotone.specs.declared.path.PathMove.{PathMove}
+use Rattle.loads.specs.Wins.{IsWon, empty_position}
+use Rattle.strategy_text.specs.Spelling.{IsSpellable}
 use Rattle.checker.specs.Accepted.{Loads, IsFaultOf, IsInterrupted}
 use Rattle.checker.specs.declared.fault.CheckFault.{CheckFault}
 use Rattle.checker.specs.declared.fault.CheckFault.TheVariants as check_fault
@@ -32,24 +46,28 @@ use Rattle.match_player.specs.Answers.{IsLeastUnpackable, answered_by}
 use Rattle.match_player.specs.declared.answered.Answered.{Answered}
 use Rattle.match_player.specs.Lines.{play_text, answer_text}
 use Rattle.stretch_bench.specs.declared.command.Command.{Command}
-use Rattle.stretch_bench.specs.declared.command.Command.TheVariants.{Check, Play, Answer}
+use Rattle.stretch_bench.specs.declared.command.Command.TheVariants.{Check, Play, Answer, Minimise, Report, Drill, Search}
 use Rattle.stretch_bench.specs.declared.due.Due.{Due}
 use Rattle.stretch_bench.specs.declared.status.Status.{Status}
 use Rattle.stretch_bench.specs.declared.status.Status.TheVariants.{Done, Rejected, Usage, Undecided, ReadFault, WriteFault, OutOfMemory, Unpackable}
-use Rattle.stretch_bench.specs.Due.{IsAnswerOf, IsDue, IsOutcome, IsPlayOf, IsRead, IsRejected, IsUnpackable, wanted_by}
-use Rattle.stretch_bench.specs.Lines.{rejected_line, unpackable_line, usage_line}
-use Rattle.stretch_bench.specs.Outcomes.{IsAnswered, IsFaultLine, IsOfPlayers, IsReply}
+use Rattle.stretch_bench.specs.Due.{IsAnswerOf, IsCanonicalText, IsDue, IsFaulty, IsFound, IsOutcome, IsPlayOf, IsRead, IsRejected, IsSummaryOf, IsUndecided, IsUnpackable, drilled, wanted_by}
+use Rattle.stretch_bench.specs.Lines.{rejected_line, undecided_line, unpackable_line, usage_line}
+use Rattle.stretch_bench.specs.Outcomes.{IsAnswered, IsFaultLine, IsFoundBy, IsInRange, IsReply, IsSearched}
 use Rattle.stretch_bench.specs.Words.{Spells, SpellsNone}
 use Rattle.stretch_bench.proofs.WordLemmas.{named_at}
 
--- the player of a command that is spelled is one of the list
-pub of_players : (names words : List (List ℕ)) (number : ℕ) (command : Command) → length names ≡ number → Spells names words command → IsOfPlayers number command
-of_players names words number Check n spelled = tt
-of_players names words number (Play place) n spelled = omega (arith, slice_get_within names place spelled.0 spelled.2.here, n)
-of_players names words number (Answer items) n spelled = tt
+-- what a command that is spelled names is in range
+pub in_range : (names words : List (List ℕ)) (number : ℕ) (command : Command) → length names ≡ number → Spells names words command → IsInRange number command
+in_range names words number Check n spelled = tt
+in_range names words number (Play place) n spelled = omega (arith, slice_get_within names place spelled.0 spelled.2.here, n)
+in_range names words number (Answer items) n spelled = tt
+in_range names words number Minimise n spelled = tt
+in_range names words number Report n spelled = tt
+in_range names words number (Drill seed copies) n spelled = (spelled.some, spelled.most)
+in_range names words number (Search game budget table) n spelled = (spelled.some_visits, spelled.most_visits, spelled.some_entries)
 
 module _ (names : List (List ℕ)) (answers : List (GameNumbers → List ℕ → ℕ)) (left new_left : Option (List ℕ)) where
-  fault_status : (command : Command) (status : Status) (text : List ℕ) → status ≡ Rejected → IsRejected (wanted_by command) left new_left text
+  fault_status : (command : Command) (status : Status) (text : List ℕ) → status ≡ Rejected → IsFaulty (wanted_by command) left new_left text
       → IsOutcome names answers left new_left command status text
   fault_status command status text e rejected = subst (λ s. IsOutcome names answers left new_left command s text) (sym e) rejected
 
@@ -71,6 +89,17 @@ module _ (names : List (List ℕ)) (answers : List (GameNumbers → List ℕ →
   reply_status items strategy WriteFault text loads is = absurd is
   reply_status items strategy OutOfMemory text loads is = absurd is
 
+  found_status : (game : GameNumbers) (budget table : ℕ) (status : Status) (text : List ℕ) → new_left ≡ left → IsFoundBy game budget table status text
+      → IsOutcome names answers left new_left (Search game budget table) status text
+  found_status game budget table Done text unread is = (unread, is)
+  found_status game budget table Undecided text unread is = (unread, is)
+  found_status game budget table Rejected text unread is = absurd is
+  found_status game budget table Usage text unread is = absurd is
+  found_status game budget table Unpackable text unread is = absurd is
+  found_status game budget table ReadFault text unread is = absurd is
+  found_status game budget table WriteFault text unread is = absurd is
+  found_status game budget table OutOfMemory text unread is = absurd is
+
 module _ {E : Type 0} (names : List (List ℕ)) (answers : List (GameNumbers → List ℕ → ℕ)) (left new_left : Option (List ℕ)) where
   -- the outcome of a command that is spelled is due
   pub outcome_due : (words : List (List ℕ)) (command : Command) (r : Result Due E) → Spells names words command
@@ -87,10 +116,13 @@ module _ {E : Type 0} (names : List (List ℕ)) (answers : List (GameNumbers →
       subst (λ command. IfOk r (λ due. IsOutcome names answers left new_left command due.status due.text)) (sym e) outcome
 
   -- the line of a first fault is an outcome
-  pub fault_outcome : (command : Command) (r : Result Due E) → IfOk r (λ due. IsFaultLine (wanted_by command) left new_left due)
+  pub fault_outcome : (command : Command) (wanted : Wanted) (r : Result Due E) → wanted_by command ≡ Some wanted
+      → IfOk r (λ due. IsFaultLine wanted left new_left due)
       → IfOk r (λ due. IsOutcome names answers left new_left command due.status due.text)
-  fault_outcome command (Ok due) line = fault_status names answers left new_left command due.status due.text line.status line.rejected
-  fault_outcome command (Err e) line = tt
+  fault_outcome command wanted (Ok due) e line =
+      fault_status names answers left new_left command due.status due.text line.status
+      (subst (λ w. IsFaulty w left new_left due.text) (sym e) line.rejected)
+  fault_outcome command wanted (Err f) e line = tt
 
   -- the play of a strategy that was read
   pub play_outcome : (place : ℕ) (name : List ℕ) (answer : GameNumbers → List ℕ → ℕ) (strategy : Strategy) (r : Result Due E)
@@ -106,7 +138,54 @@ module _ {E : Type 0} (names : List (List ℕ)) (answers : List (GameNumbers →
   reply_outcome items strategy (Ok due) loads is = reply_status names answers left new_left items strategy due.status due.text loads is
   reply_outcome items strategy (Err e) loads is = tt
 
+  done_with : (command : Command) (Is : List ℕ → Type 0) (r : Result Due E)
+      → ((text : List ℕ) → Is text → IsOutcome names answers left new_left command Done text)
+      → IfOk r (λ due. (due.status ≡ Done) × Is due.text) → IfOk r (λ due. IsOutcome names answers left new_left command due.status due.text)
+  done_with command Is (Ok due) gives is =
+      subst (λ s. IsOutcome names answers left new_left command s due.text) (sym is.0) (gives due.text is.1)
+  done_with command Is (Err e) gives is = tt
+
+  -- what was made of a strategy that was read
+  pub canonical_outcome : (strategy : Strategy) (r : Result Due E) → Loads Either strategy left new_left
+      → IfOk r (λ due. (due.status ≡ Done) × IsCanonicalText due.text strategy)
+      → IfOk r (λ due. IsOutcome names answers left new_left Minimise due.status due.text)
+  canonical_outcome strategy r loads is =
+      done_with Minimise (λ text. IsCanonicalText text strategy) r (λ text made. record { strategy = strategy; loads = loads; is = made }) is
+
+  pub summary_outcome : (strategy : Strategy) (r : Result Due E) → Loads Either strategy left new_left
+      → IfOk r (λ due. (due.status ≡ Done) × IsSummaryOf due.text strategy)
+      → IfOk r (λ due. IsOutcome names answers left new_left Report due.status due.text)
+  summary_outcome strategy r loads is =
+      done_with Report (λ text. IsSummaryOf text strategy) r (λ text made. record { strategy = strategy; loads = loads; is = made }) is
+
+  -- what was made without reading
+  pub drill_outcome : (number copies : ℕ) (r : Result Due E) → new_left ≡ left
+      → IfOk r (λ due. (due.status ≡ Done) × (due.text ≡ drilled number copies))
+      → IfOk r (λ due. IsOutcome names answers left new_left (Drill number copies) due.status due.text)
+  drill_outcome number copies r unread is = done_with (Drill number copies) (λ text. text ≡ drilled number copies) r (λ text made. (unread, made)) is
+
+  pub search_outcome : (game : GameNumbers) (budget table : ℕ) (r : Result Due E) → new_left ≡ left → IfOk r (IsSearched game budget table)
+      → IfOk r (λ due. IsOutcome names answers left new_left (Search game budget table) due.status due.text)
+  search_outcome game budget table (Ok due) unread is = found_status names answers left new_left game budget table due.status due.text unread is
+  search_outcome game budget table (Err e) unread is = tt
+
 -- ---- legal strategies of a side
+
+pub legal_of_either : (format : Format) (game : GameNumbers) (nodes : Nodes) → AreLegalNodes format game (sizes_of game) nodes
+    → adversary.AreLegal format game nodes ⊎ algorithm.AreLegal format game nodes
+legal_of_either format game (nodes_of_side.Adversary list) legal = inl legal
+legal_of_either format game (nodes_of_side.Algorithm list) legal = inr legal
+
+pub legal_nodes : (format : Format) (game : GameNumbers) (nodes : Nodes) → adversary.AreLegal format game nodes ⊎ algorithm.AreLegal format game nodes
+    → AreLegalNodes format game (sizes_of game) nodes
+legal_nodes format game (nodes_of_side.Adversary list) (inl legal) = legal
+legal_nodes format game (nodes_of_side.Adversary list) (inr legal) = absurd legal
+legal_nodes format game (nodes_of_side.Algorithm list) (inl legal) = absurd legal
+legal_nodes format game (nodes_of_side.Algorithm list) (inr legal) = legal
+
+-- a legal strategy has a text
+pub spellable : (strategy : Strategy) → IsLegal strategy → IsSpellable strategy
+spellable strategy legal = legal_is_spellable strategy (legal_nodes strategy.format strategy.game strategy.nodes legal)
 
 pub legal_adversary : (format : Format) (game : GameNumbers) (nodes : Nodes) → AreLegalNodes format game (sizes_of game) nodes → Adversary ≡ side_of nodes
     → adversary.AreLegal format game nodes
@@ -158,6 +237,13 @@ play_of_pool name answer strategy pool root text transcript e last played lost l
 
 -- ---- faults
 
+-- the text of a legal strategy has no fault
+pub no_fault : (fault : CheckFault) (line : ℕ) (why : Why) (text bytes : List ℕ) (new_left : Option (List ℕ)) → fault ≡ check_fault.Rejected line why
+    → bytes ≡ text → IsLegalText Either text → IsFaultOf Either [] fault (Some bytes) new_left → ⊥
+no_fault fault line why text bytes new_left e same legal of =
+    let rejects = subst (λ f. IsFaultOf Either [] f (Some bytes) new_left) e of in
+    legal_text_has_no_fault Either bytes (subst (IsLegalText Either) (sym same) legal) line why rejects.first_of_input.has
+
 -- a fault of a line is its line
 pub line_of_fault : {E : Type 0} (fault : CheckFault) (line : ℕ) (why : Why) (r : Result (List ℕ) E) (wanted : Wanted) (left new_left : Option (List ℕ)) (text : List ℕ)
     → fault ≡ check_fault.Rejected line why → text ≡ rejected_line line why → IsFaultOf wanted [] fault left new_left
@@ -165,7 +251,44 @@ pub line_of_fault : {E : Type 0} (fault : CheckFault) (line : ℕ) (why : Why) (
 line_of_fault fault line why r wanted left new_left text e is of =
     record { at = line; why = why; rejects = subst (λ f. IsFaultOf wanted [] f left new_left) e of; line = is }
 
+-- the visit that was due where a search spent its budget
+pub found_undecided : (game : GameNumbers) (budget table room visits pass : ℕ) (path : List PathMove) (answer : SearchAnswer) (text : List ℕ)
+    → answer ≡ answers.Undecided visits pass path → room ≡ table → IsAnswer game budget answer
+    → (most_visits (whole_game game) ≤ budget → IsDecided answer)
+    → ((all : ℕ) → CountsAllEnds game all → all ≤ room → game.capacity * all ≤ budget → IsDecided answer)
+    → ((numbers : ℕ → ℕ) (won : ℕ) → AreNumbersOfEnds game numbers → HasRoom game room
+    → IsWon game (allowed_in (sizes_of game) won) (empty_position game) → ends_before numbers (won + 1) ≤ budget → IsOfAdversary answer)
+    → text ≡ undecided_line game visits pass path → IsUndecided game budget table text
+found_undecided game budget table room visits pass path answer text e same is many all won line =
+    let due = subst (IsAnswer game budget) e is in
+    record {
+      pass = pass;
+      path = path;
+      due = due.1;
+      fewer_than_visits = λ h. subst IsDecided e (many h);
+      fewer_than_positions = λ number counts within h. subst IsDecided e (all number counts (subst (λ r. number ≤ r) (sym same) within) h);
+      not_won = λ numbers pass are room_for is_won h. subst IsOfAdversary e (won numbers pass are (subst (HasRoom game) (sym same) room_for) is_won h);
+      line = line ∙ ap (λ v. undecided_line game v pass path) due.0;
+    }
+
 -- the command that was read is spelled
 pub spelled_of : (names words : List (List ℕ)) (r : Option Command) (command : Command) → MatchOption r (SpellsNone names words) (Spells names words)
     → r ≡ Some command → Spells names words command
 spelled_of names words r command told is = subst (λ o. MatchOption o (SpellsNone names words) (Spells names words)) is told
+
+-- the canonical form of a strategy that was found
+pub found_canonical : {E : Type 0} (game : GameNumbers) (budget table : ℕ) (strategy : Strategy) (r : Result Due E) → IsLegal strategy
+    → IsFor game budget strategy → IfOk r (λ due. (due.status ≡ Done) × IsCanonicalText due.text strategy) → IfOk r (IsSearched game budget table)
+found_canonical game budget table strategy (Err e) legal for made = tt
+found_canonical game budget table strategy (Ok due) legal for made =
+    let nodes = canonical-legal strategy.format strategy.game strategy.nodes legal in
+    let found : IsFound game budget due.text = record {
+      strategy = canonical_form strategy;
+      legal = legal_nodes strategy.format strategy.game (canonical_nodes strategy.nodes) nodes;
+      of_game = for.of_game;
+      of_format = for.of_format;
+      canonical = canonical_forms_stay strategy legal;
+      few = omega (arith, canonical_forms_have_no_more_nodes strategy legal, for.few);
+      spelled = made.1;
+    } in
+    subst (λ (s : Status). IsFoundBy game budget table s due.text) (sym made.0) found

@@ -3,109 +3,172 @@ use Rattle.std.proofs.Common.{suc, ◌≡◌, ◌≢◌, ◌-◌, ◌^◌, true,
 use Rattle.std.proofs.lemmas.List.{take_more, take_all, get_or-map, length-map}
 use Rattle.std.proofs.lemmas.List.Elements.{All-get_or}
 use Rattle.std.proofs.lemmas.Bool.{cases_lt}
-use Rattle.std.proofs.lemmas.Fmt.{parse-decimal}
+use Rattle.std.proofs.lemmas.Fmt.{decimal_injective, parse-decimal}
+use Rattle.items.specs.GameFaults.{IsFaultOf}
+use Rattle.items.specs.declared.game.GameFault.{GameFault}
+use Rattle.checker.proofs.HeadLemmas.{no_game as is_no_game}
 use Rattle.std.proofs.lemmas.Option.{slice_get-map, slice_get-get_or, slice_get_past}
 use Rattle.std.specs.Str.Parse.{ParsesUnsigned}
 use Rattle.std.specs.Cmp.Lexicographic.{pointwise, same_text, bytes_decides}
-use Rattle.std.specs.Prelude.{slice_get, nat_eq, option_map, MatchOption, IfOk}
+use Rattle.std.specs.Prelude.{slice_get, nat_eq, not, option_map, ◌↔◌, MatchOption, IfOk}
 use Rattle.std.specs.declared.alloc.Global.{Global}
+use Rattle.items.specs.Game.{GameNumbers, IsGame, numbers}
 use Rattle.items.specs.Multiset.{IsSize}
 use Rattle.stretch_bench.specs.declared.command.Command.{Command}
-use Rattle.stretch_bench.specs.declared.command.Command.TheVariants.{Check, Play, Answer}
-use Rattle.stretch_bench.specs.Words.{spelling_of, Spells, SpellsNone, IsFirstNamed, most_item}
+use Rattle.stretch_bench.specs.declared.command.Command.TheVariants.{Check, Play, Answer, Minimise, Report, Drill, Search}
+use Rattle.stretch_bench.specs.Words.{spelling_of, Spells, SpellsNone, IsDrill, IsFirstNamed, IsGameOf, IsSearch, most_item}
 
 -- a text that differs from another in the test differs from it
 other_text : (read word other : List ℕ) → read ≡ word → false ≡ pointwise nat_eq read other → word ≡ other → ⊥
 other_text read word other e differ same =
     let d : false ≡ true = differ ∙ (bytes_decides read other).1 (e ∙ same) in absurd cc
 
--- words are the first one and the others
-pub first_and_others : (words : List (String Global)) (first : String Global) (read word : List ℕ) → 1 ≤ length words → first ≡ get_or words 0 first
+-- the word at a place
+pub word_at : (words : List (String Global)) (k : ℕ) (word : String Global) (read : List ℕ) → k < length words → word ≡ get_or words k word
+    → read ≡ string_bytes word → get_or (spelling_of words) k [] ≡ read
+word_at words k word read l at is = get_or-map string_bytes words k word [] l ∙ ap string_bytes (sym at) ∙ sym is
+
+pub length_spelled : (words : List (String Global)) → length (spelling_of words) ≡ length words
+length_spelled words = length-map words string_bytes
+
+-- a word that differs in a test from the one that stands at its place in these words
+pub other_at : (words : List (String Global)) (k : ℕ) (word : String Global) (read other : List ℕ) (list : List (List ℕ)) → k < length words
+    → word ≡ get_or words k word → read ≡ string_bytes word → false ≡ pointwise nat_eq read other → get_or list k [] ≡ other → spelling_of words ≢ list
+other_at words k word read other list l at is differ there e =
+    other_text read read other refl differ (sym (word_at words k word read l at is) ∙ ap (λ ws. get_or ws k []) e ∙ there)
+
+-- as many words as in another list
+pub same_length : (words : List (String Global)) (list : List (List ℕ)) (n : ℕ) → length list ≡ n → (length words ≡ n → ⊥) → spelling_of words ≢ list
+same_length words list n there not e = not (sym (length_spelled words) ∙ ap length e ∙ there)
+
+-- a test that did not find a difference
+pub was_same : (b : Bool) → false ≡ not b → true ≡ b
+was_same true e = refl
+was_same false e = absurd cc
+
+-- ---- one word
+
+pub one_of : (ws : List (List ℕ)) → length ws ≡ 1 → ws ≡ get_or ws 0 [] ∷ []
+one_of [] e = absurd (omega (arith, e))
+one_of (a ∷ []) e = refl
+one_of (a ∷ b ∷ ws) e = absurd (omega (arith, e))
+
+pub only_word : (words : List (String Global)) (only : String Global) (read word : List ℕ) (b : Bool) → 1 ≤ length words → length words < 2
+    → only ≡ get_or words 0 only → read ≡ string_bytes only → b ≡ pointwise nat_eq read word → IsTrue b ↔ (spelling_of words ≡ word ∷ [])
+only_word words only read word b low high at is test =
+    let here = word_at words 0 only read (omega (arith, low)) at is in
+    let one = one_of (spelling_of words) (omega (arith, length_spelled words, low, high)) in (
+      λ t. one ∙ ap (λ (w : List ℕ). w ∷ []) (here ∙ same_text read word (sym t ∙ test)),
+      λ e. test ∙ (bytes_decides read word).1 (sym here ∙ ap (λ ws. get_or ws 0 []) e),
+    )
+
+-- ---- a play
+
+pub two_of : (ws : List (List ℕ)) → length ws ≡ 2 → ws ≡ get_or ws 0 [] ∷ get_or ws 1 [] ∷ []
+two_of [] e = absurd (omega (arith, e))
+two_of (a ∷ []) e = absurd (omega (arith, e))
+two_of (a ∷ b ∷ []) e = refl
+two_of (a ∷ b ∷ c ∷ ws) e = absurd (omega (arith, e))
+
+pub play_words : (words : List (String Global)) (first name : String Global) (word read : List ℕ) → 2 ≤ length words → length words < 3
+    → first ≡ get_or words 0 first → word ≡ string_bytes first → true ≡ pointwise nat_eq word (codes "play") → name ≡ get_or words 1 name
+    → read ≡ string_bytes name → spelling_of words ≡ codes "play" ∷ read ∷ []
+play_words words first name word read low high first_at first_is same name_at name_is =
+    two_of (spelling_of words) (omega (arith, length_spelled words, low, high))
+    ∙ ap (λ (w : List ℕ). w ∷ get_or (spelling_of words) 1 [] ∷ []) (word_at words 0 first word (omega (arith, low)) first_at first_is ∙ same_text word (codes "play") same)
+    ∙ ap (λ (w : List ℕ). codes "play" ∷ w ∷ []) (word_at words 1 name read (omega (arith, low)) name_at name_is)
+
+-- the player of a play by the name in its words
+pub player_named : (names : List (List ℕ)) (words : List (List ℕ)) (read : List ℕ) (r : Option ℕ) → words ≡ codes "play" ∷ read ∷ []
+    → MatchOption r ((place : ℕ) → IsFirstNamed names read place → ⊥) (IsFirstNamed names read)
+    → MatchOption r ((place : ℕ) → Spells names words (Play place) → ⊥) (λ place. Spells names words (Play place))
+player_named names words read (Some place) e named = (read, e, named)
+player_named names words read None e none = λ place spelled.
+    let same : spelled.0 ≡ read = ap (λ ws. get_or ws 1 []) (sym spelled.1 ∙ e) in
+    none place (subst (λ n. IsFirstNamed names n place) same spelled.2)
+
+-- ---- answers
+
+pub rest_spelled : (words : List (String Global)) (first : String Global) (read word : List ℕ) → 1 ≤ length words → first ≡ get_or words 0 first
     → read ≡ string_bytes first → true ≡ pointwise nat_eq read word → spelling_of words ≡ word ∷ spelling_of (take (length words - 1) (drop 1 words))
-first_and_others [] first read word low at is same = absurd (omega arith)
-first_and_others (w ∷ ws) first read word low at is same =
+rest_spelled [] first read word low at is same = absurd (omega (arith, low))
+rest_spelled (w ∷ ws) first read word low at is same =
     let here : first ≡ w = at in
     ap (λ x. x ∷ spelling_of ws) (ap string_bytes (sym here) ∙ sym is ∙ same_text read word same)
     ∙ ap (λ l. word ∷ spelling_of l) (sym (take_all (length (w ∷ ws) - 1) ws (omega arith)))
 
--- the command of the words after the first, said of all words
-pub command_of : (names words : List (List ℕ)) (r : Option Command) (first : List ℕ) (rest : List (List ℕ)) → words ≡ first ∷ rest
-    → MatchOption r (SpellsNone names (first ∷ rest)) (Spells names (first ∷ rest)) → MatchOption r (SpellsNone names words) (Spells names words)
-command_of names words r first rest e of = subst (λ ws. MatchOption r (SpellsNone names ws) (Spells names ws)) (sym e) of
+pub answer_words : {E : Type 0} (names words rest : List (List ℕ)) (r : Result (Option (List ℕ)) E) → words ≡ codes "answer" ∷ rest
+    → IfOk r (λ read. MatchOption read ((items : List ℕ) → All (IsSize most_item) items → rest ≢ map decimal items)
+    (λ items. (rest ≡ map decimal items) × All (IsSize most_item) items))
+    → IfOk r (λ read. MatchOption read ((items : List ℕ) → Spells names words (Answer items) → ⊥) (λ items. Spells names words (Answer items)))
+answer_words names words rest (Ok (Some items)) e told = (e ∙ ap (λ ws. codes "answer" ∷ ws) told.0, told.1)
+answer_words names words rest (Ok None) e told = λ items spelled. told items spelled.1 (ap (λ ws. drop 1 ws) (sym e ∙ spelled.0))
+answer_words names words rest (Err f) e told = tt
 
-pub made_of : {E : Type 0} (names words : List (List ℕ)) (r : Result (Option Command) E) (first : List ℕ) (rest : List (List ℕ)) → words ≡ first ∷ rest
-    → IfOk r (λ read. MatchOption read (SpellsNone names (first ∷ rest)) (Spells names (first ∷ rest)))
-    → IfOk r (λ read. MatchOption read (SpellsNone names words) (Spells names words))
-made_of names words r first rest e of =
-    subst (λ ws. IfOk r (λ read. MatchOption read (SpellsNone names ws) (Spells names ws))) (sym e) of
+-- ---- a drill
 
-first_of : (words : List (List ℕ)) (first other : List ℕ) (rest more : List (List ℕ)) → words ≡ first ∷ rest → words ≡ other ∷ more → first ≡ other
-first_of words first other rest more e f = ap (λ (ws : List (List ℕ)). get_or ws 0 []) (sym e ∙ f)
+pub three_of : (ws : List (List ℕ)) → length ws ≡ 3 → ws ≡ get_or ws 0 [] ∷ get_or ws 1 [] ∷ get_or ws 2 [] ∷ []
+three_of [] e = absurd (omega (arith, e))
+three_of (a ∷ []) e = absurd (omega (arith, e))
+three_of (a ∷ b ∷ []) e = absurd (omega (arith, e))
+three_of (a ∷ b ∷ c ∷ []) e = refl
+three_of (a ∷ b ∷ c ∷ d ∷ ws) e = absurd (omega (arith, e))
 
--- words that begin with none of the commands' words spell none
-pub no_first : (names words : List (List ℕ)) (first : List ℕ) (rest : List (List ℕ)) → words ≡ first ∷ rest → first ≢ codes "check" → first ≢ codes "play"
-    → first ≢ codes "answer" → SpellsNone names words
-no_first names words first rest e check play answer Check spelled = check (first_of words first _ rest _ e spelled)
-no_first names words first rest e check play answer (Play place) spelled = play (first_of words first _ rest _ e spelled.1)
-no_first names words first rest e check play answer (Answer items) spelled = answer (first_of words first _ rest _ e spelled.0)
+pub three_words : (ws : List (List ℕ)) (a b c : List ℕ) → length ws ≡ 3 → get_or ws 0 [] ≡ a → get_or ws 1 [] ≡ b → get_or ws 2 [] ≡ c → ws ≡ a ∷ b ∷ c ∷ []
+three_words ws a b c n p q r =
+    three_of ws n ∙ ap (λ (w : List ℕ). w ∷ get_or ws 1 [] ∷ get_or ws 2 [] ∷ []) p ∙ ap (λ (w : List ℕ). a ∷ w ∷ get_or ws 2 [] ∷ []) q
+    ∙ ap (λ (w : List ℕ). a ∷ b ∷ w ∷ []) r
 
--- the words begin with none of the three words
-pub other_first : (names : List (List ℕ)) (words : List (String Global)) (first : String Global) (read : List ℕ) → 1 ≤ length words
-    → first ≡ get_or words 0 first → read ≡ string_bytes first
-    → false ≡ pointwise nat_eq read (codes "check") → false ≡ pointwise nat_eq read (codes "play") → false ≡ pointwise nat_eq read (codes "answer")
-    → SpellsNone names (spelling_of words)
-other_first names [] first read low at is check play answer = absurd (omega arith)
-other_first names (w ∷ ws) first read low at is check play answer =
-    let here : first ≡ w = at in
-    let word : read ≡ string_bytes w = is ∙ ap string_bytes here in
-    no_first names (spelling_of (w ∷ ws)) (string_bytes w) (spelling_of ws) refl (other_text read _ _ word check) (other_text read _ _ word play)
-    (other_text read _ _ word answer)
+-- ---- a search
 
--- words that are the same begin with the same byte
-same_byte : (word other : List ℕ) (rest more : List (List ℕ)) → word ∷ rest ≡ other ∷ more → get_or word 0 0 ≡ get_or other 0 0
-same_byte word other rest more e = ap (λ (ws : List (List ℕ)). get_or (get_or ws 0 []) 0 0) e
+pub six_of : (ws : List (List ℕ)) → length ws ≡ 6
+    → ws ≡ get_or ws 0 [] ∷ get_or ws 1 [] ∷ get_or ws 2 [] ∷ get_or ws 3 [] ∷ get_or ws 4 [] ∷ get_or ws 5 [] ∷ []
+six_of [] e = absurd (omega (arith, e))
+six_of (a ∷ []) e = absurd (omega (arith, e))
+six_of (a ∷ b ∷ []) e = absurd (omega (arith, e))
+six_of (a ∷ b ∷ c ∷ []) e = absurd (omega (arith, e))
+six_of (a ∷ b ∷ c ∷ d ∷ []) e = absurd (omega (arith, e))
+six_of (a ∷ b ∷ c ∷ d ∷ f ∷ []) e = absurd (omega (arith, e))
+six_of (a ∷ b ∷ c ∷ d ∷ f ∷ g ∷ []) e = refl
+six_of (a ∷ b ∷ c ∷ d ∷ f ∷ g ∷ h ∷ ws) e = absurd (omega (arith, e))
 
-not_empty : (word : List ℕ) (rest : List (List ℕ)) → ◌≡◌ {A = List (List ℕ)} [] (word ∷ rest) → ⊥
-not_empty word rest e = let d : 0 ≡ suc (length rest) = ap (λ (ws : List (List ℕ)). length ws) e in omega arith
+pub six_words : (ws : List (List ℕ)) (a b c d f g : List ℕ) → length ws ≡ 6 → get_or ws 0 [] ≡ a → get_or ws 1 [] ≡ b → get_or ws 2 [] ≡ c
+    → get_or ws 3 [] ≡ d → get_or ws 4 [] ≡ f → get_or ws 5 [] ≡ g → ws ≡ a ∷ b ∷ c ∷ d ∷ f ∷ g ∷ []
+six_words ws a b c d f g n p q r s t u = six_of ws n ∙ rw (p, q, r, s, t, u) refl
 
--- no words spell no command
-pub no_words : (names : List (List ℕ)) → SpellsNone names []
-no_words names Check spelled = not_empty _ _ spelled
-no_words names (Play place) spelled = not_empty _ _ spelled.1
-no_words names (Answer items) spelled = not_empty _ _ spelled.0
+pub spelled_at : (words : List (String Global)) (k : ℕ) (word : String Global) (read : List ℕ) (list : List (List ℕ)) → k < length words
+    → word ≡ get_or words k word → read ≡ string_bytes word → spelling_of words ≡ list → read ≡ get_or list k []
+spelled_at words k word read list l at is e = sym (word_at words k word read l at is) ∙ ap (λ (ws : List (List ℕ)). get_or ws k []) e
 
-others : (first : List ℕ) (rest : List (List ℕ)) (other : List ℕ) (more : List (List ℕ)) → first ∷ rest ≡ other ∷ more → rest ≡ more
-others first rest other more e = ap (drop 1) e
+-- ---- all words
 
--- ---- the word of a check stands alone
+pub answers_of : (names words : List (List ℕ)) (r : Option (List ℕ)) (items : List ℕ)
+    → MatchOption r ((items : List ℕ) → Spells names words (Answer items) → ⊥) (λ items. Spells names words (Answer items)) → r ≡ Some items
+    → Spells names words (Answer items)
+answers_of names words r items told is =
+    subst (λ (o : Option (List ℕ)). MatchOption o ((items : List ℕ) → Spells names words (Answer items) → ⊥) (λ items. Spells names words (Answer items))) is told
 
-pub check_alone : (names rest : List (List ℕ)) → rest ≡ [] → Spells names (codes "check" ∷ rest) Check
-check_alone names rest e = ap (λ ws. codes "check" ∷ ws) e
+pub no_answers : (names words : List (List ℕ)) (r : Option (List ℕ))
+    → MatchOption r ((items : List ℕ) → Spells names words (Answer items) → ⊥) (λ items. Spells names words (Answer items)) → r ≡ None
+    → (items : List ℕ) → Spells names words (Answer items) → ⊥
+no_answers names words r told is =
+    subst (λ (o : Option (List ℕ)). MatchOption o ((items : List ℕ) → Spells names words (Answer items) → ⊥) (λ items. Spells names words (Answer items))) is told
 
-pub check_with : (names rest : List (List ℕ)) → rest ≢ [] → SpellsNone names (codes "check" ∷ rest)
-check_with names rest some Check spelled = some (others _ _ _ _ spelled)
-check_with names rest some (Play place) spelled = absurd (let d : 99 ≡ 112 = same_byte _ _ _ _ spelled.1 in omega arith)
-check_with names rest some (Answer items) spelled = absurd (let d : 99 ≡ 97 = same_byte _ _ _ _ spelled.0 in omega arith)
+untrue : IsTrue false → ⊥
+untrue t = let wrong : false ≡ true = t in absurd cc
 
--- ---- the word of a play has a name after it
-
-pub play_without : (names rest : List (List ℕ)) → ((name : List ℕ) (place : ℕ) → rest ≡ name ∷ [] → IsFirstNamed names name place → ⊥)
-    → SpellsNone names (codes "play" ∷ rest)
-play_without names rest none Check spelled = absurd (let d : 112 ≡ 99 = same_byte _ _ _ _ spelled in omega arith)
-play_without names rest none (Play place) spelled = none spelled.0 place (others _ _ _ _ spelled.1) spelled.2
-play_without names rest none (Answer items) spelled = absurd (let d : 112 ≡ 97 = same_byte _ _ _ _ spelled.0 in omega arith)
-
--- ---- the word of answers has sizes after it
-
-pub answer_without : (names rest : List (List ℕ)) → ((items : List ℕ) → All (IsSize most_item) items → rest ≢ map decimal items)
-    → SpellsNone names (codes "answer" ∷ rest)
-answer_without names rest none Check spelled = absurd (let d : 97 ≡ 99 = same_byte _ _ _ _ spelled in omega arith)
-answer_without names rest none (Play place) spelled = absurd (let d : 97 ≡ 112 = same_byte _ _ _ _ spelled.1 in omega arith)
-answer_without names rest none (Answer items) spelled = none items spelled.1 (others _ _ _ _ spelled.0)
-
-pub answer_with : (names rest : List (List ℕ)) (items : List ℕ) → rest ≡ map decimal items → All (IsSize most_item) items
-    → Spells names (codes "answer" ∷ rest) (Answer items)
-answer_with names rest items e sizes = (ap (λ ws. codes "answer" ∷ ws) e, sizes)
+-- words that spell none of the commands
+pub none_spelled : (names words : List (List ℕ)) → (words ≡ codes "check" ∷ [] → IsTrue false) → (words ≡ codes "minimise" ∷ [] → IsTrue false)
+    → (words ≡ codes "report" ∷ [] → IsTrue false) → ((place : ℕ) → Spells names words (Play place) → ⊥)
+    → ((number copies : ℕ) → IsDrill words number copies → ⊥) → ((game : GameNumbers) (budget table : ℕ) → IsSearch words game budget table → ⊥)
+    → ((items : List ℕ) → Spells names words (Answer items) → ⊥) → SpellsNone names words
+none_spelled names words check minimise report play drill search answer Check spelled = untrue (check spelled)
+none_spelled names words check minimise report play drill search answer Minimise spelled = untrue (minimise spelled)
+none_spelled names words check minimise report play drill search answer Report spelled = untrue (report spelled)
+none_spelled names words check minimise report play drill search answer (Play place) spelled = play place spelled
+none_spelled names words check minimise report play drill search answer (Drill number copies) spelled = drill number copies spelled
+none_spelled names words check minimise report play drill search answer (Search game budget table) spelled = search game budget table spelled
+none_spelled names words check minimise report play drill search answer (Answer items) spelled = answer items spelled
 
 -- ---- names of players
 
@@ -188,3 +251,15 @@ pub not_within : {E : Type 0} (word : List ℕ) (low high number : ℕ) (r : Res
 not_within word low high number r fits parses is out n above below e =
     let same = number_told word n number high r below fits parses is e in
     ⊎_elim (λ (under : number < low). absurd (omega (arith, same))) (λ (over : high < number). absurd (omega (arith, same))) out
+
+-- ---- games
+
+-- words that tell numbers which are no game
+pub no_game : (bins capacity target : ℕ) (game : GameNumbers) (fault : GameFault) (high : ℕ) → high ≡ 65535 → bins ≤ high → capacity ≤ high → target ≤ high
+    → decimal bins ≡ decimal game.bins → decimal capacity ≡ decimal game.capacity → decimal target ≡ decimal game.target → IsGame game
+    → IsFaultOf (numbers bins capacity target) fault → ⊥
+no_game bins capacity target game fault high is b c t same_bins same_capacity same_target of found =
+    let m = decimal_injective bins game.bins (omega (arith, is, b)) (omega (arith, of.bins.high)) same_bins in
+    let g = decimal_injective capacity game.capacity (omega (arith, is, c)) (omega (arith, of.capacity.high)) same_capacity in
+    let goal = decimal_injective target game.target (omega (arith, is, t)) (omega (arith, of.capacity.high, of.target.high)) same_target in
+    is_no_game game fault (subst (λ (n : GameNumbers). IsFaultOf n fault) (λ i. numbers (m i) (g i) (goal i)) found) of

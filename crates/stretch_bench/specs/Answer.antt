@@ -1,11 +1,12 @@
 -- What a run comes to.
-use Rattle.std.specs.Prelude.{◌≡◌, ℕ, List, [], Option}
+use Rattle.std.specs.Prelude.{◌≡◌, ◌↔◌, ℕ, List, Option, Some, None, IfSome}
 use Rattle.port_io.specs.Faults.{Rose}
-use Rattle.checker.specs.Accepted.{IsInterrupted}
 use Rattle.stretch_bench.specs.declared.status.Status.{Status}
 use Rattle.stretch_bench.specs.declared.status.Status.TheVariants.{Done, Rejected, Usage, Undecided, ReadFault}
 use Rattle.stretch_bench.specs.declared.status.Status.TheVariants.{WriteFault, OutOfMemory, Unpackable}
-use Rattle.stretch_bench.specs.Due.{Call, IsCommanded, IsDue, IsDueText, wanted_by}
+use Rattle.stretch_bench.specs.Due.{Call, IsCommanded, IsCut, IsDue, IsDueText, wanted_by}
+use Rattle.checker.specs.FirstFault.{IsLegalText}
+use Rattle.checker.specs.declared.fault.Wanted.{Wanted}
 use Rattle.stretch_bench.specs.Written.{WritesWhole, WritesFront}
 
 -- a run: what it is about; the faults of the source before and after; what the sink had written and has written, and its
@@ -25,7 +26,7 @@ IsWritten run status = WritesWhole run.written run.new_written (IsDue run.call s
 
 -- no whole line of the bytes that a call read has a fault
 abbrev pub IsCutShort : Call → Type 0
-IsCutShort call = IsCommanded call (λ command. IsInterrupted (wanted_by command) [] call.left call.new_left)
+IsCutShort call = IsCommanded call (λ command. IsCut (wanted_by command) call.left call.new_left)
 
 -- a read failed in this run, and no whole line of the bytes that were read has a fault
 pub record IsReadFault (run : Run) : Type 0 where
@@ -37,12 +38,12 @@ pub record IsWriteFault (run : Run) : Type 0 where
   pub rose : Rose run.writes_failed run.new_writes_failed
   pub prefix : WritesFront run.written run.new_written (IsDueText run.call)
 
--- what each status stands for; one of them is that of a command to come, and no run ends with it
+-- what each status stands for
 abbrev pub IsAnswer : Run → Status → Type 0
 IsAnswer run Done = IsWritten run Done
 IsAnswer run Rejected = IsWritten run Rejected
 IsAnswer run Usage = IsWritten run Usage
-IsAnswer run Undecided = ⊥
+IsAnswer run Undecided = IsWritten run Undecided
 IsAnswer run Unpackable = IsWritten run Unpackable
 IsAnswer run ReadFault = IsReadFault run
 IsAnswer run WriteFault = IsWriteFault run
@@ -69,3 +70,9 @@ IsServed Unpackable = Unit {0}
 IsServed ReadFault = ⊥
 IsServed WriteFault = ⊥
 IsServed OutOfMemory = ⊥
+
+-- a command that reads is served exactly where the bytes are the text of a legal strategy of the side that it wants
+abbrev pub IsExact : Option Wanted → Option (List ℕ) → Status → Type 0
+IsExact None left status = Unit {0}
+IsExact (Some wanted) left status =
+    IfSome left (λ bytes. ¬ IsStopped status → IsServed status ↔ IsLegalText wanted bytes)

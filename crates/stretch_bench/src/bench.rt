@@ -8,7 +8,7 @@ ghost use Rattle.checker.specs.declared.fault.Wanted.TheVariants.{Either};
 ghost use Rattle.checker.specs.Accepted.{Accepts};
 ghost use Rattle.checker.specs.FirstFault.{IsLegalText};
 ghost use Rattle.stretch_bench.specs.declared.command.Command.{Command};
-ghost use Rattle.stretch_bench.specs.Answer.{IsAnswer, IsServed, IsStopped};
+ghost use Rattle.stretch_bench.specs.Answer.{IsAnswer, IsExact};
 ghost use Rattle.stretch_bench.specs.Due.{wanted_by};
 ghost use Rattle.stretch_bench.specs.Lines.{accepted_line, adversary_accepted, algorithm_accepted};
 ghost use Rattle.stretch_bench.specs.Replying.{Replying};
@@ -71,8 +71,7 @@ pub fn run_bench<S: Source, K: Sink>(
     // A command is carried out exactly where the input is the text of a legal strategy of the side that it wants.
     ensures exact { (command : Command)
         → Spells (map (λ player. player.name) players.now.items) (spelling_of words.now) command
-        → IfSome (S.left source.old) (λ bytes. ¬ IsStopped result →
-        IsServed result ↔ IsLegalText (wanted_by command) bytes) }
+        → IsExact (wanted_by command) (S.left source.old) result }
 
     // A legal strategy stands after an accepted line that was written, whatever the status.
     ensures accepted { (accepted : Accepted)

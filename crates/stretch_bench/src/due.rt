@@ -5,28 +5,27 @@ ghost use Rattle.items.specs.Game.{GameNumbers};
 ghost use Rattle.port_io.specs.Faults.{Rose};
 ghost use Rattle.adversary_graph.specs.Pools.{IsLegalOfAdversary};
 ghost use Rattle.algorithm_graph.specs.Pools.{IsLegalOfAlgorithm};
-ghost use Rattle.checker.specs.Accepted.{IsFaultOf, IsInterrupted};
+ghost use Rattle.checker.specs.Accepted.{IsFaultOf};
 ghost use Rattle.checker.specs.declared.fault.Wanted.{Wanted};
 ghost use Rattle.checker.specs.declared.fault.CheckFault.TheVariants as check_fault;
 ghost use Rattle.stretch_bench.specs.Answer.{IsCutShort};
-ghost use Rattle.stretch_bench.specs.Due.{IsAnswerOf, IsDue, IsOutcome, IsPlayOf, IsRejected, IsUnpackable, wanted_by};
-ghost use Rattle.stretch_bench.specs.Outcomes.{IsAnswered, IsFaultLine, IsOfPlayers};
+ghost use Rattle.stretch_bench.specs.Due.{IsCut, IsDue, IsOutcome, wanted_by};
+ghost use Rattle.stretch_bench.specs.Outcomes.{IsFaultLine, IsInRange};
 ghost use Rattle.stretch_bench.specs.Words.{SpellsNone, spelling_of};
 ghost use Rattle.stretch_bench.specs.declared.command.Command.TheVariants as command;
 ghost use Rattle.stretch_bench.specs.declared.due.Stop.TheVariants.{Read, Memory};
 ghost use Rattle.stretch_bench.specs.declared.status.Status.TheVariants.{Done};
 
 use crate::command::{Command, read_words};
-use crate::lines::{line_of_accepted, line_of_rejected, line_of_unpackable, line_of_usage};
+use crate::lines::{line_of_accepted, line_of_rejected, line_of_usage};
+use crate::made::{due_of_canonical, due_of_refuted, due_of_replies, due_of_summary};
+use crate::searched::{due_of_drill, due_of_search};
 use crate::status::Status;
-use adversary_graph::{AdvPool, refute};
-use algorithm_graph::{AlgPool, FileAlgorithm};
 use checker::{CheckFault, Wanted, check, load};
-use match_player::{AnswerFault, answer, answer_text, match_text};
 use online_play::{Online, Player};
 use port_io::Source;
 use std::alloc::{AllocError, Global};
-use strategy_text::{Side, Strategy, Text};
+use strategy_text::{Side, Text};
 
 /// A status, and the text that is due with it.
 #[derive(Drop)]
@@ -94,19 +93,26 @@ fn due_of_command<S: Source>(
     command: &Command,
     source: &mut S,
 ) -> Result<Due, Stop>
-    requires player { IsOfPlayers (length players.now.items) command.now }
+    requires in_range { IsInRange (length players.now.items) command.now }
     ensures count { S.faults source.old ≤ S.faults source.new }
     ensures due { IfOk result (λ due. IsOutcome (map (λ player. player.name) players.now.items)
         (map (λ player. (⟦<dyn Online as Online>⟧ player.player.vtable).answer player.player.value) players.now.items) (S.left source.old) (S.left source.new)
         command.now due.status due.text) }
     ensures read { result ≡ Err Read → Rose (S.faults source.old) (S.faults source.new) }
-    ensures interrupted { result ≡ Err Read → IsInterrupted (wanted_by command.now) [] (S.left source.old)
-        (S.left source.new) }
+    ensures interrupted { result ≡ Err Read → IsCut (wanted_by command.now) (S.left source.old) (S.left source.new) }
 {
     match command {
         Command::Check => due_of_check(alloc, source),
         Command::Play { player } => due_of_play(alloc, &players[*player], source),
         Command::Answer { items } => due_of_answer(alloc, items.as_slice(), source),
+        Command::Minimise => due_of_minimise(alloc, source),
+        Command::Report => due_of_report(alloc, source),
+        Command::Drill { number, copies } => due_of_drill(alloc, *number, *copies),
+        Command::Search {
+            game,
+            budget,
+            table,
+        } => due_of_search(alloc, game, *budget, *table),
     }
 }
 
@@ -116,7 +122,7 @@ fn due_of_check<S: Source>(alloc: Global, source: &mut S) -> Result<Due, Stop>
     ensures due { (names : List (List ℕ)) (answers : List (GameNumbers → List ℕ → ℕ)) → IfOk result (λ due.
         IsOutcome names answers (S.left source.old) (S.left source.new) command.Check due.status due.text) }
     ensures read { result ≡ Err Read → Rose (S.faults source.old) (S.faults source.new) }
-    ensures interrupted { result ≡ Err Read → IsInterrupted (wanted_by command.Check) [] (S.left source.old)
+    ensures interrupted { result ≡ Err Read → IsCut (wanted_by command.Check) (S.left source.old)
         (S.left source.new) }
 {
     match check(alloc, source) {
@@ -136,8 +142,8 @@ fn due_of_play<S: Source>(alloc: Global, player: &Player, source: &mut S) -> Res
         → IfOk result (λ due. IsOutcome names answers (S.left source.old) (S.left source.new) (command.Play place)
         due.status due.text) }
     ensures read { result ≡ Err Read → Rose (S.faults source.old) (S.faults source.new) }
-    ensures interrupted { (place : ℕ) → result ≡ Err Read → IsInterrupted (wanted_by (command.Play place)) []
-        (S.left source.old) (S.left source.new) }
+    ensures interrupted { (place : ℕ) → result ≡ Err Read → IsCut (wanted_by (command.Play place)) (S.left source.old)
+        (S.left source.new) }
 {
     match load(alloc, source, Wanted::Only(Side::Adversary)) {
         Ok(strategy) => due_of_refuted(alloc, player, strategy),
@@ -152,11 +158,39 @@ fn due_of_answer<S: Source>(alloc: Global, items: &[u16], source: &mut S) -> Res
         IsOutcome names answers (S.left source.old) (S.left source.new) (command.Answer items.now) due.status
         due.text) }
     ensures read { result ≡ Err Read → Rose (S.faults source.old) (S.faults source.new) }
-    ensures interrupted { result ≡ Err Read → IsInterrupted (wanted_by (command.Answer items.now)) []
-        (S.left source.old) (S.left source.new) }
+    ensures interrupted { result ≡ Err Read → IsCut (wanted_by (command.Answer items.now)) (S.left source.old)
+        (S.left source.new) }
 {
     match load(alloc, source, Wanted::Only(Side::Algorithm)) {
         Ok(strategy) => due_of_replies(alloc, items, strategy),
+        Err(fault) => due_of_fault(alloc, fault),
+    }
+}
+
+// What the canonical form of the strategy that is read comes to.
+fn due_of_minimise<S: Source>(alloc: Global, source: &mut S) -> Result<Due, Stop>
+    ensures count { S.faults source.old ≤ S.faults source.new }
+    ensures due { (names : List (List ℕ)) (answers : List (GameNumbers → List ℕ → ℕ)) → IfOk result (λ due.
+        IsOutcome names answers (S.left source.old) (S.left source.new) command.Minimise due.status due.text) }
+    ensures read { result ≡ Err Read → Rose (S.faults source.old) (S.faults source.new) }
+    ensures interrupted { result ≡ Err Read → IsCut (wanted_by command.Minimise) (S.left source.old) (S.left source.new) }
+{
+    match load(alloc, source, Wanted::Either) {
+        Ok(strategy) => due_of_canonical(alloc, strategy),
+        Err(fault) => due_of_fault(alloc, fault),
+    }
+}
+
+// What the report of the strategy that is read comes to.
+fn due_of_report<S: Source>(alloc: Global, source: &mut S) -> Result<Due, Stop>
+    ensures count { S.faults source.old ≤ S.faults source.new }
+    ensures due { (names : List (List ℕ)) (answers : List (GameNumbers → List ℕ → ℕ)) → IfOk result (λ due.
+        IsOutcome names answers (S.left source.old) (S.left source.new) command.Report due.status due.text) }
+    ensures read { result ≡ Err Read → Rose (S.faults source.old) (S.faults source.new) }
+    ensures interrupted { result ≡ Err Read → IsCut (wanted_by command.Report) (S.left source.old) (S.left source.new) }
+{
+    match load(alloc, source, Wanted::Either) {
+        Ok(strategy) => due_of_summary(alloc, strategy),
         Err(fault) => due_of_fault(alloc, fault),
     }
 }
@@ -174,43 +208,5 @@ fn due_of_fault(alloc: Global, fault: CheckFault) -> Result<Due, Stop>
         }),
         CheckFault::Read => Err(Stop::Read),
         CheckFault::Memory => Err(Stop::Memory),
-    }
-}
-
-// The lines of the play of a legal strategy against a player.
-fn due_of_refuted(alloc: Global, player: &Player, strategy: Strategy) -> Result<Due, Stop>
-    requires legal { IsLegalOfAdversary strategy }
-    ensures play { IfOk result (λ due. (due.status ≡ Done) × IsPlayOf player.now.name ((⟦<dyn Online as Online>⟧ player.now.player.vtable).answer player.now.player.value) due.text strategy) }
-    ensures read { result ≢ Err Read }
-{
-    let game = strategy.game;
-    let pool = AdvPool::from_strategy(alloc, strategy)?;
-    let transcript = refute(alloc, &pool, pool.len() - 1, &player.player)?;
-    Ok(Due {
-        status: Status::Done,
-        text: match_text(alloc, player.name.as_str(), &game, &transcript)?,
-    })
-}
-
-// The lines of the replies of a legal strategy to a list of items.
-fn due_of_replies(alloc: Global, items: &[u16], strategy: Strategy) -> Result<Due, Stop>
-    requires legal { IsLegalOfAlgorithm strategy }
-    ensures replies { IfOk result (λ due. IsAnswered items.now strategy due) }
-    ensures read { result ≢ Err Read }
-{
-    let game = strategy.game;
-    let pool = AlgPool::from_strategy(alloc, strategy)?;
-    let root = pool.len() - 1;
-    let algorithm = FileAlgorithm::new(pool, root);
-    match answer(alloc, &algorithm, items) {
-        Ok(answered) => Ok(Due {
-            status: Status::Done,
-            text: answer_text(alloc, &game, &answered)?,
-        }),
-        Err(AnswerFault::Unpackable { place }) => Ok(Due {
-            status: Status::Unpackable,
-            text: line_of_unpackable(alloc, place)?,
-        }),
-        Err(AnswerFault::Memory) => Err(Stop::Memory),
     }
 }

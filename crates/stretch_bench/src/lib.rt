@@ -5,11 +5,13 @@ mod bench;
 mod command;
 mod due;
 mod lines;
+mod made;
 mod number;
+mod searched;
 mod status;
 #[cfg(test)]
 mod tests;
 
 pub use bench::run_bench;
-pub use command::{Command, read_words};
+pub use command::{Command, MOST_ENTRIES, MOST_VISITS, read_words};
 pub use status::Status;

@@ -128,13 +128,11 @@ fn strategies_of_both_sides_and_formats_are_accepted(rt: HostRuntime) -> Result<
     for pack in [" pack 1 2 / 1 on", " pack 1 1 / - on", " pack 1 / - on"] {
         second = edited(alloc, second.as_str(), pack, " on")?;
     }
-    let finishing =
-        "stretch 1\ngame 2 3 5\nside algorithm\nnodes 1\n0 loads 0 0 items - finish\nend\n";
     let of_format_2 = edited(alloc, OF_ALGORITHM, "stretch 1", "stretch 2")?;
     let cases = [
         (OF_ALGORITHM, "accepted algorithm 2 2 3 nodes 5\n"),
         (of_format_2.as_str(), "accepted algorithm 2 2 3 nodes 5\n"),
-        (finishing, "accepted algorithm 2 3 5 nodes 1\n"),
+        (FINISHING, "accepted algorithm 2 3 5 nodes 1\n"),
         (WITH_BURSTS, "accepted adversary 2 3 4 nodes 4\n"),
         (second.as_str(), ACCEPTED),
     ];
@@ -235,6 +233,105 @@ fn plays_and_answers_are_written(rt: HostRuntime) -> Result<(), Fail> {
     for (words, text, due, lines) in cases {
         let (status, written) = ran(alloc, words, text.as_bytes())?;
         assert_eq!(rt; written.as_slice(), lines.as_bytes(), "for {words:?}");
+        assert_eq!(rt; status, due, "for {words:?}");
+    }
+    Ok(())
+}
+
+// File Z: the first strategy with nodes 0 and 2 twice.
+const WITH_COPIES: &str = "\
+stretch 1
+game 2 3 4
+side adversary
+nodes 7
+0 loads 2 2 items 1 1 2 send 2 pack 1 2 / 1 2 on 2 over
+1 loads 2 2 items 1 1 2 send 2 pack 1 2 / 1 2 on 2 over
+2 loads 2 0 items 1 1 send 2 pack 1 2 / 1 on 2 over on 0 to 1
+3 loads 1 1 items 1 1 send 3 pack 3 / 1 1 on 1 over
+4 loads 1 1 items 1 1 send 3 pack 3 / 1 1 on 1 over
+5 loads 1 0 items 1 send 1 pack 1 1 / - on 1 to 2 on 0 to 4
+6 loads 0 0 items - send 1 pack 1 / - on 0 to 5
+end
+";
+
+// A strategy of one node that finishes.
+const FINISHING: &str =
+    "stretch 1\ngame 2 3 5\nside algorithm\nnodes 1\n0 loads 0 0 items - finish\nend\n";
+
+#[test]
+fn strategies_are_made_shorter_and_reported(rt: HostRuntime) -> Result<(), Fail> {
+    let alloc = rt.alloc();
+    let cases = [
+        ("minimise", WITH_COPIES, LEGAL),
+        ("minimise", LEGAL, LEGAL),
+        ("minimise", OF_ALGORITHM, OF_ALGORITHM),
+        ("minimise", WITH_BURSTS, WITH_BURSTS),
+        (
+            "report",
+            LEGAL,
+            "report adversary 2 3 4 nodes 5 depth 4 target 4/3\n",
+        ),
+        (
+            "report",
+            OF_ALGORITHM,
+            "report algorithm 2 2 3 nodes 5 depth 2 target 3/2\n",
+        ),
+        (
+            "report",
+            FINISHING,
+            "report algorithm 2 3 5 nodes 1 depth 0 target 5/3\n",
+        ),
+        (
+            "report",
+            WITH_COPIES,
+            "report adversary 2 3 4 nodes 7 depth 4 target 4/3\n",
+        ),
+    ];
+    for (words, text, lines) in cases {
+        let (status, written) = ran(alloc, words, text.as_bytes())?;
+        assert_eq!(rt; written.as_slice(), lines.as_bytes(), "for {words:?}");
+        assert_eq!(rt; status, Status::Done, "for {words:?}");
+    }
+    Ok(())
+}
+
+#[test]
+fn games_are_searched_and_drills_made_without_input(rt: HostRuntime) -> Result<(), Fail> {
+    let alloc = rt.alloc();
+    let cases = [
+        (
+            "search 2 2 3 budget=1 table=1",
+            Status::Undecided,
+            "undecided 2 2 3 visits 1 pass 0 path 2@0\n",
+        ),
+        (
+            "search 2 2 3 budget=4 table=1",
+            Status::Undecided,
+            "undecided 2 2 3 visits 4 pass 0 path 1@0 1@1\n",
+        ),
+        ("search 2 2 3 budget=5 table=1", Status::Done, OF_ALGORITHM),
+        (
+            "search 2 3 4 budget=11 table=1",
+            Status::Undecided,
+            "undecided 2 3 4 visits 11 pass 0 path 1@0 1@0\n",
+        ),
+        ("search 2 3 5 budget=1 table=1", Status::Done, FINISHING),
+        (
+            "drill 7 1",
+            Status::Done,
+            "drill 7 1 nodes 5 bytes 326 accepted minimised 5\n",
+        ),
+        (
+            "drill 7 2",
+            Status::Done,
+            "drill 7 2 nodes 9 bytes 556 accepted minimised 5\n",
+        ),
+    ];
+    for (words, due, lines) in cases {
+        let mut source = MemSource::new(alloc, LEGAL.as_bytes(), 64, &[1])?;
+        let mut sink = MemSink::new(alloc, 1_000, 100, &[])?;
+        let status = run(alloc, words, &mut source, &mut sink)?;
+        assert_eq!(rt; sink.bytes(), lines.as_bytes(), "for {words:?}");
         assert_eq!(rt; status, due, "for {words:?}");
     }
     Ok(())
@@ -384,6 +481,14 @@ fn other_words_give_usage_and_read_nothing(rt: HostRuntime) -> Result<(), Fail> 
         "answer 1 65536",
         "answer +1",
         "answer 1 -",
+        "minimise now",
+        "drill 7 0",
+        "drill 7 200001",
+        "drill 18446744073709551616 1",
+        "search 2 3 4 budget=0 table=1",
+        "search 2 3 4 budget=1 table=4000001",
+        "search 2 3 4 table=1 budget=1",
+        "search 9 3 4 budget=1 table=1",
         "Check",
         "checks",
         "play nobody",

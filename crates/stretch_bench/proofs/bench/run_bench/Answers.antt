@@ -50,16 +50,16 @@ returns-clause-kept g c game nodes first =
     accepted_replies game nodes _ _ (after_prefix _ _ _ _ _ _ _ _ _ _ (algorithm_accepted game nodes) c.in-Ok.ensures.due c.as_slice.ensures.value c.in-Err.ensures.err first)
 
 pub returns-in-Err-Read-clause-exact : goal.returns-in-Err-Read-clause-exact
-returns-in-Err-Read-clause-exact g c command spelled = stopped_any _ ReadFault command tt
+returns-in-Err-Read-clause-exact g c command spelled = stopped_any _ _ ReadFault tt
 
 pub returns-in-Err-Memory-clause-exact : goal.returns-in-Err-Memory-clause-exact
-returns-in-Err-Memory-clause-exact g c command spelled = stopped_any _ OutOfMemory command tt
+returns-in-Err-Memory-clause-exact g c command spelled = stopped_any _ _ OutOfMemory tt
 
 pub returns-in-Ok-put_all-clause-exact : goal.returns-in-Ok-put_all-clause-exact
 returns-in-Ok-put_all-clause-exact g c command spelled = exact_due _ _ _ _ _ _ _ c.in-Ok.ensures.due command spelled
 
 pub returns-clause-exact : goal.returns-clause-exact
-returns-clause-exact g c command spelled = stopped_any _ WriteFault command tt
+returns-clause-exact g c command spelled = stopped_any _ _ WriteFault tt
 
 pub returns-in-Ok-put_all-clause-answer : goal.returns-in-Ok-put_all-clause-answer
 returns-in-Ok-put_all-clause-answer g c = answer_written _ _ _ _ c.in-Ok.ensures.due c.as_slice.ensures.value c.in-Ok-put_all.ensures.ok

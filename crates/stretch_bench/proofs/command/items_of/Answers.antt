@@ -1,7 +1,9 @@
-use Rattle.stretch_bench.proofs.WordLemmas.{no_item}
+use Rattle.std.proofs.Common.{codes}
+use Rattle.stretch_bench.proofs.WordLemmas.{answer_words, rest_spelled, was_same}
 use Rattle.stretch_bench.proofs.command.items_of.Goals as goal
 
-pub returns-in_default : goal.returns-in_default
-returns-in_default c =
-    no_item c.args.words.now c.loop-word.word-index c.from.result c.word-item.result c.as_str.result.now c.loop-word-test.true c.word-item.is
-    c.as_str.ensures.value c.from.ensures c.in_default.ensures.exact
+pub returns : goal.returns
+returns c = λ names.
+    answer_words names _ _ c.item_list.result
+    (rest_spelled c.args.words.now c.first-item.result _ (codes "answer") c.in-len1-up.len_at_least c.first-item.is c.as_str.ensures.value (was_same _ c.if-ne.ensures))
+    c.item_list.ensures

@@ -1,6 +1,6 @@
 use Rattle.std.proofs.Common.{ℕ, ◌-◌, ap}
 use Rattle.stretch_bench.proofs.OutcomeLemmas.{answer_of}
-use Rattle.stretch_bench.proofs.due.due_of_replies.Goals as goal
+use Rattle.stretch_bench.proofs.made.due_of_replies.Goals as goal
 
 pub returns-in-Ok-clause-replies : goal.returns-in-Ok-clause-replies
 returns-in-Ok-clause-replies c =
