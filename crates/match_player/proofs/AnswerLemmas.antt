@@ -1,5 +1,6 @@
 -- The multiset of a list, and the bins that a player answers for it.
-use Rattle.std.proofs.Common.{◌≡◌, ◌↔◌, Bool, Result, Ok, Err, IfOk, ◌<◌, ◌≤◌, ◌+◌, ◌*◌, ℕ, All, List, [], ◌∷◌, ◌++◌, length, take, get_or, sum, IsTrue, ⊎_elim, sym, ap, subst, ◌∙◌, arith}
+use Rattle.std.proofs.Common.{◌≡◌, ◌↔◌, Bool, Result, Ok, Err, IfOk, ◌<◌, ◌≤◌, ◌+◌, ◌*◌, ℕ, All, List}
+use Rattle.std.proofs.Common.{[], ◌∷◌, ◌++◌, length, take, get_or, sum, IsTrue, ⊎_elim, sym, ap, subst, ◌∙◌, arith}
 use Rattle.std.proofs.lemmas.List.{take_more}
 use Rattle.std.proofs.lemmas.Bool.{cases_lt}
 use Rattle.std.proofs.lemmas.Nat.{mul-le}

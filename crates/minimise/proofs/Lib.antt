@@ -10,3 +10,5 @@ pub mod AdversaryLemmas
 pub mod AlgorithmLemmas
 pub mod KeptLemmas
 pub mod StrategyLemmas
+pub mod PackLemmas
+pub mod UpgradeLemmas

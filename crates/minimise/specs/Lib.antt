@@ -6,3 +6,5 @@ pub mod Nodes
 pub mod Ordering
 pub mod Agree
 pub mod Laws
+pub mod Upgrade
+pub mod Upgrading

@@ -1,5 +1,6 @@
 -- What follows from a text that is due.
-use Rattle.std.proofs.Common.{◌≡◌, ◌==◌, ◌≤◌, ℕ, List, [], ◌∷◌, ◌++◌, length, get_or, take, drop, codes, Option, Some, None, inl, inr, refl, ap, sym, subst, ◌∙◌, arith, append_assoc, append-nil, take-append-drop}
+use Rattle.std.proofs.Common.{◌≡◌, ◌==◌, ◌≤◌, ℕ, List, [], ◌∷◌, ◌++◌, length, get_or, take, drop, codes}
+use Rattle.std.proofs.Common.{Option, Some, None, inl, inr, refl, ap, sym, subst, ◌∙◌, arith, append_assoc, append-nil, take-append-drop}
 use Rattle.std.proofs.lemmas.List.{append_cancel_left}
 use Rattle.std.specs.Prelude.{unwrap_or, IfSome, ◌↔◌, if◌then◌else◌}
 use Rattle.std.proofs.lemmas.List.{length-map}
@@ -33,7 +34,7 @@ use Rattle.minimise.specs.Strategies.{canonical_form}
 use Rattle.match_player.specs.declared.answered.Answered.{Answered}
 use Rattle.match_player.specs.Lines.{game_words, run_lines, pack_line, play_text, answer_text}
 use Rattle.stretch_bench.specs.declared.command.Command.{Command}
-use Rattle.stretch_bench.specs.declared.command.Command.TheVariants.{Check, Play, Answer, Minimise, Report, Drill, Search}
+use Rattle.stretch_bench.specs.declared.command.Command.TheVariants.{Check, Play, Answer, Minimise, Upgrade, Report, Drill, Search}
 use Rattle.stretch_bench.specs.declared.status.Status.{Status}
 use Rattle.stretch_bench.specs.declared.status.Status.TheVariants.{Done, Rejected, Usage, Undecided, ReadFault, WriteFault, OutOfMemory, Unpackable}
 use Rattle.stretch_bench.specs.Answer.{Run, IsAnswer, IsExact, IsServed, IsStopped}
@@ -116,6 +117,7 @@ not_spent left new_left Check text accepted more due e = due
 not_spent left new_left (Play place) text accepted more due e = due
 not_spent left new_left (Answer items) text accepted more due e = due
 not_spent left new_left Minimise text accepted more due e = due
+not_spent left new_left Upgrade text accepted more due e = due
 not_spent left new_left Report text accepted more due e = due
 not_spent left new_left (Drill number copies) text accepted more due e = due
 
@@ -126,6 +128,7 @@ not_packable left new_left (Answer items) text accepted more due e =
 not_packable left new_left Check text accepted more due e = due
 not_packable left new_left (Play place) text accepted more due e = due
 not_packable left new_left Minimise text accepted more due e = due
+not_packable left new_left Upgrade text accepted more due e = due
 not_packable left new_left Report text accepted more due e = due
 not_packable left new_left (Drill number copies) text accepted more due e = due
 not_packable left new_left (Search game budget table) text accepted more due e = due
@@ -141,6 +144,8 @@ outcome_stands names answers left new_left (Answer items) Done text accepted mor
     absurd (not_answered due.strategy.game _ accepted more (sym due.is.lines ∙ e))
 outcome_stands names answers left new_left Minimise Done text accepted more due e =
     absurd (not_spelled (canonical_form due.strategy) accepted more (sym due.is ∙ e))
+outcome_stands names answers left new_left Upgrade Done text accepted more due e =
+    absurd (not_spelled due.is.0 accepted more (sym due.is.2 ∙ e))
 outcome_stands names answers left new_left Report Done text accepted more due e =
     absurd (let other : 114 ≡ 97 = ap (λ (l : List ℕ). get_or l 0 0) (sym due.is.line ∙ e) in omega arith)
 outcome_stands names answers left new_left (Drill number copies) Done text accepted more due e =
@@ -221,6 +226,7 @@ letter Check = 99
 letter (Play place) = 112
 letter (Answer items) = 97
 letter Minimise = 109
+letter Upgrade = 117
 letter Report = 114
 letter (Drill number copies) = 100
 letter (Search game budget table) = 115
@@ -234,6 +240,7 @@ spelled_letter names words Check e = ap letter_of e
 spelled_letter names words (Play place) e = ap letter_of e.1
 spelled_letter names words (Answer items) e = ap letter_of e.0
 spelled_letter names words Minimise e = ap letter_of e
+spelled_letter names words Upgrade e = ap letter_of e
 spelled_letter names words Report e = ap letter_of e
 spelled_letter names words (Drill number copies) e = ap letter_of e.spelled
 spelled_letter names words (Search game budget table) e = ap letter_of e.spelled
@@ -241,7 +248,7 @@ spelled_letter names words (Search game budget table) e = ap letter_of e.spelled
 wanted_at : ℕ → Option Wanted
 wanted_at n =
     if n == 99 then Some Either else if n == 112 then Some (Only Adversary) else if n == 97 then Some (Only Algorithm)
-    else if n == 109 then Some Either else if n == 114 then Some Either else None
+    else if n == 109 then Some Either else if n == 117 then Some Either else if n == 114 then Some Either else None
 
 wanted_is : (command : Command) → wanted_by command ≡ wanted_at (letter command)
 unfolding letter wanted_at
@@ -249,6 +256,7 @@ wanted_is Check = refl
 wanted_is (Play place) = refl
 wanted_is (Answer items) = refl
 wanted_is Minimise = refl
+wanted_is Upgrade = refl
 wanted_is Report = refl
 wanted_is (Drill number copies) = refl
 wanted_is (Search game budget table) = refl
@@ -277,6 +285,7 @@ outcome_exact names answers bytes new_left Check Done text due = read_exact Eith
 outcome_exact names answers bytes new_left (Play place) Done text due = read_exact (Only Adversary) Done due.read.strategy bytes new_left tt due.read.loads
 outcome_exact names answers bytes new_left (Answer items) Done text due = read_exact (Only Algorithm) Done due.strategy bytes new_left tt due.loads
 outcome_exact names answers bytes new_left Minimise Done text due = read_exact Either Done due.strategy bytes new_left tt due.loads
+outcome_exact names answers bytes new_left Upgrade Done text due = read_exact Either Done due.strategy bytes new_left tt due.loads
 outcome_exact names answers bytes new_left Report Done text due = read_exact Either Done due.strategy bytes new_left tt due.loads
 outcome_exact names answers bytes new_left (Drill number copies) Done text due = tt
 outcome_exact names answers bytes new_left (Search game budget table) Done text due = tt
@@ -289,6 +298,7 @@ outcome_exact names answers bytes new_left Check Unpackable text due = absurd du
 outcome_exact names answers bytes new_left (Play place) Unpackable text due = absurd due
 outcome_exact names answers bytes new_left (Answer items) Unpackable text due = read_exact (Only Algorithm) Unpackable due.strategy bytes new_left tt due.loads
 outcome_exact names answers bytes new_left Minimise Unpackable text due = absurd due
+outcome_exact names answers bytes new_left Upgrade Unpackable text due = absurd due
 outcome_exact names answers bytes new_left Report Unpackable text due = absurd due
 outcome_exact names answers bytes new_left (Drill number copies) Unpackable text due = absurd due
 outcome_exact names answers bytes new_left (Search game budget table) Unpackable text due = absurd due
@@ -296,6 +306,7 @@ outcome_exact names answers bytes new_left Check Undecided text due = absurd due
 outcome_exact names answers bytes new_left (Play place) Undecided text due = absurd due
 outcome_exact names answers bytes new_left (Answer items) Undecided text due = absurd due
 outcome_exact names answers bytes new_left Minimise Undecided text due = absurd due
+outcome_exact names answers bytes new_left Upgrade Undecided text due = absurd due
 outcome_exact names answers bytes new_left Report Undecided text due = absurd due
 outcome_exact names answers bytes new_left (Drill number copies) Undecided text due = absurd due
 outcome_exact names answers bytes new_left (Search game budget table) Undecided text due = tt

@@ -1,5 +1,6 @@
 -- A line tells the numbers in it.
-use Rattle.std.proofs.Common.{◌≡◌, ◌≢◌, ◌==◌, ◌<◌, ◌≤◌, ◌+◌, ◌*◌, ◌/◌, ◌%◌, ◌^◌, inl, inr, false, ℕ, zero, suc, ⊎_elim, length, List, [], ◌∷◌, ◌++◌, get_or, drop, decimal, refl, ap, sym, subst, arith}
+use Rattle.std.proofs.Common.{◌≡◌, ◌≢◌, ◌==◌, ◌<◌, ◌≤◌, ◌+◌, ◌*◌, ◌/◌, ◌%◌, ◌^◌, inl, inr, false, ℕ, zero}
+use Rattle.std.proofs.Common.{suc, ⊎_elim, length, List, [], ◌∷◌, ◌++◌, get_or, drop, decimal, refl, ap, sym, subst, arith}
 use Rattle.std.proofs.lemmas.Fmt.{decimal_injective, length-decimal-le}
 use Rattle.std.proofs.lemmas.Bool.{cases_Bool, cases_lt, eqb-true}
 use Rattle.std.specs.Fmt.{digits, digits_onto, digit_glyph}

@@ -1,5 +1,6 @@
 -- What the work of a command comes to.
-use Rattle.std.proofs.Common.{◌≡◌, ◌⊎◌, ◌*◌, ◌≤◌, ◌<◌, ◌+◌, ◌-◌, ℕ, List, [], length, map, get_or, Option, Some, Result, Ok, Err, IfOk, inl, inr, sym, ap, subst, refl, ◌∙◌, arith}
+use Rattle.std.proofs.Common.{◌≡◌, ◌⊎◌, ◌*◌, ◌≤◌, ◌<◌, ◌+◌, ◌-◌, ℕ, List, [], length, map, get_or}
+use Rattle.std.proofs.Common.{Option, Some, Result, Ok, Err, IfOk, inl, inr, sym, ap, subst, refl, ◌∙◌, arith}
 use Rattle.std.specs.Prelude.{slice_get, All, MatchOption}
 use Rattle.std.proofs.lemmas.List.{length-map, take_all}
 use Rattle.std.proofs.lemmas.Option.{slice_get_within}
@@ -46,11 +47,12 @@ use Rattle.match_player.specs.Answers.{IsLeastUnpackable, answered_by}
 use Rattle.match_player.specs.declared.answered.Answered.{Answered}
 use Rattle.match_player.specs.Lines.{play_text, answer_text}
 use Rattle.stretch_bench.specs.declared.command.Command.{Command}
-use Rattle.stretch_bench.specs.declared.command.Command.TheVariants.{Check, Play, Answer, Minimise, Report, Drill, Search}
+use Rattle.stretch_bench.specs.declared.command.Command.TheVariants.{Check, Play, Answer, Minimise, Upgrade, Report, Drill, Search}
 use Rattle.stretch_bench.specs.declared.due.Due.{Due}
 use Rattle.stretch_bench.specs.declared.status.Status.{Status}
 use Rattle.stretch_bench.specs.declared.status.Status.TheVariants.{Done, Rejected, Usage, Undecided, ReadFault, WriteFault, OutOfMemory, Unpackable}
-use Rattle.stretch_bench.specs.Due.{IsAnswerOf, IsCanonicalText, IsDue, IsFaulty, IsFound, IsOutcome, IsPlayOf, IsRead, IsRejected, IsSummaryOf, IsUndecided, IsUnpackable, drilled, wanted_by}
+use Rattle.stretch_bench.specs.Due.{IsAnswerOf, IsCanonicalText, IsDue, IsFaulty, IsFound, IsOutcome, IsPlayOf}
+use Rattle.stretch_bench.specs.Due.{IsRead, IsRejected, IsSummaryOf, IsUndecided, IsUnpackable, drilled, wanted_by}
 use Rattle.stretch_bench.specs.Lines.{rejected_line, undecided_line, unpackable_line, usage_line}
 use Rattle.stretch_bench.specs.Outcomes.{IsAnswered, IsFaultLine, IsFoundBy, IsInRange, IsReply, IsSearched}
 use Rattle.stretch_bench.specs.Words.{Spells, SpellsNone}
@@ -62,6 +64,7 @@ in_range names words number Check n spelled = tt
 in_range names words number (Play place) n spelled = omega (arith, slice_get_within names place spelled.0 spelled.2.here, n)
 in_range names words number (Answer items) n spelled = tt
 in_range names words number Minimise n spelled = tt
+in_range names words number Upgrade n spelled = tt
 in_range names words number Report n spelled = tt
 in_range names words number (Drill seed copies) n spelled = (spelled.some, spelled.most)
 in_range names words number (Search game budget table) n spelled = (spelled.some_visits, spelled.most_visits, spelled.some_entries)

@@ -1,5 +1,6 @@
 -- Words and the commands that they spell.
-use Rattle.std.proofs.Common.{suc, ◌≡◌, ◌≢◌, ◌-◌, ◌^◌, true, false, Result, Ok, Err, IsTrue, ◌⊎◌, Bool, Option, Some, None, ⊎_elim, ◌<◌, ◌≤◌, ◌+◌, ℕ, All, List, [], ◌∷◌, ◌++◌, length, get_or, take, drop, map, codes, decimal, String, string_bytes, sym, ap, refl, ◌∙◌, subst, arith}
+use Rattle.std.proofs.Common.{suc, ◌≡◌, ◌≢◌, ◌-◌, ◌^◌, true, false, Result, Ok, Err, IsTrue, ◌⊎◌, Bool, Option, Some, None, ⊎_elim, ◌<◌, ◌≤◌, ◌+◌}
+use Rattle.std.proofs.Common.{ℕ, All, List, [], ◌∷◌, ◌++◌, length, get_or, take, drop, map, codes, decimal, String, string_bytes, sym, ap, refl, ◌∙◌, subst, arith}
 use Rattle.std.proofs.lemmas.List.{take_more, take_all, get_or-map, length-map}
 use Rattle.std.proofs.lemmas.List.Elements.{All-get_or}
 use Rattle.std.proofs.lemmas.Bool.{cases_lt}
@@ -15,7 +16,7 @@ use Rattle.std.specs.declared.alloc.Global.{Global}
 use Rattle.items.specs.Game.{GameNumbers, IsGame, numbers}
 use Rattle.items.specs.Multiset.{IsSize}
 use Rattle.stretch_bench.specs.declared.command.Command.{Command}
-use Rattle.stretch_bench.specs.declared.command.Command.TheVariants.{Check, Play, Answer, Minimise, Report, Drill, Search}
+use Rattle.stretch_bench.specs.declared.command.Command.TheVariants.{Check, Play, Answer, Minimise, Upgrade, Report, Drill, Search}
 use Rattle.stretch_bench.specs.Words.{spelling_of, Spells, SpellsNone, IsDrill, IsFirstNamed, IsGameOf, IsSearch, most_item}
 
 -- a text that differs from another in the test differs from it
@@ -159,16 +160,18 @@ untrue t = let wrong : false ≡ true = t in absurd cc
 
 -- words that spell none of the commands
 pub none_spelled : (names words : List (List ℕ)) → (words ≡ codes "check" ∷ [] → IsTrue false) → (words ≡ codes "minimise" ∷ [] → IsTrue false)
+    → (words ≡ codes "upgrade" ∷ [] → IsTrue false)
     → (words ≡ codes "report" ∷ [] → IsTrue false) → ((place : ℕ) → Spells names words (Play place) → ⊥)
     → ((number copies : ℕ) → IsDrill words number copies → ⊥) → ((game : GameNumbers) (budget table : ℕ) → IsSearch words game budget table → ⊥)
     → ((items : List ℕ) → Spells names words (Answer items) → ⊥) → SpellsNone names words
-none_spelled names words check minimise report play drill search answer Check spelled = untrue (check spelled)
-none_spelled names words check minimise report play drill search answer Minimise spelled = untrue (minimise spelled)
-none_spelled names words check minimise report play drill search answer Report spelled = untrue (report spelled)
-none_spelled names words check minimise report play drill search answer (Play place) spelled = play place spelled
-none_spelled names words check minimise report play drill search answer (Drill number copies) spelled = drill number copies spelled
-none_spelled names words check minimise report play drill search answer (Search game budget table) spelled = search game budget table spelled
-none_spelled names words check minimise report play drill search answer (Answer items) spelled = answer items spelled
+none_spelled names words check minimise upgrade report play drill search answer Check spelled = untrue (check spelled)
+none_spelled names words check minimise upgrade report play drill search answer Minimise spelled = untrue (minimise spelled)
+none_spelled names words check minimise upgrade report play drill search answer Upgrade spelled = untrue (upgrade spelled)
+none_spelled names words check minimise upgrade report play drill search answer Report spelled = untrue (report spelled)
+none_spelled names words check minimise upgrade report play drill search answer (Play place) spelled = play place spelled
+none_spelled names words check minimise upgrade report play drill search answer (Drill number copies) spelled = drill number copies spelled
+none_spelled names words check minimise upgrade report play drill search answer (Search game budget table) spelled = search game budget table spelled
+none_spelled names words check minimise upgrade report play drill search answer (Answer items) spelled = answer items spelled
 
 -- ---- names of players
 

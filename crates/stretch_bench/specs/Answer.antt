@@ -9,8 +9,8 @@ use Rattle.checker.specs.FirstFault.{IsLegalText}
 use Rattle.checker.specs.declared.fault.Wanted.{Wanted}
 use Rattle.stretch_bench.specs.Written.{WritesWhole, WritesFront}
 
--- a run: what it is about; the faults of the source before and after; what the sink had written and has written, and its
--- faults before and after
+-- a run: what it is about; the faults of the source before and after; what the sink had written and has written, and
+-- its faults before and after
 pub record Run : Type 0 where
   pub call : Call
   pub reads_failed : ℕ

@@ -1,6 +1,7 @@
 use Rattle.std.specs.Prelude.{ℕ}
 use Rattle.stretch_bench.specs.declared.status.Status.{Status}
-use Rattle.stretch_bench.specs.declared.status.Status.TheVariants.{Done, Rejected, Usage, Undecided, ReadFault, WriteFault, OutOfMemory, Unpackable}
+use Rattle.stretch_bench.specs.declared.status.Status.TheVariants.{Done, Rejected, Usage, Undecided, ReadFault}
+use Rattle.stretch_bench.specs.declared.status.Status.TheVariants.{WriteFault, OutOfMemory, Unpackable}
 
 -- the number that the program ends with
 abbrev pub code_of : Status → ℕ

@@ -28,6 +28,7 @@ use Rattle.loads.specs.Wins.{IsWon, empty_position}
 use Rattle.minimax.specs.Budgets.{AreNumbersOfEnds, HasRoom, ends_before}
 use Rattle.minimax.specs.Settled as settled
 use Rattle.minimise.specs.Strategies.{canonical_form}
+use Rattle.minimise.specs.Upgrade.{IsCanonicalUpgrade}
 use Rattle.monotone.specs.Passes.{allowed_in, whole_game}
 use Rattle.monotone.specs.Positions.{CountsAllEnds}
 use Rattle.monotone.specs.Visits.{most_visits, visit}
@@ -36,7 +37,8 @@ use Rattle.report.specs.Drill.{drill}
 use Rattle.report.specs.Report.{IsReportOf}
 use Rattle.report.specs.declared.summary.Report as reports
 use Rattle.stretch_bench.specs.declared.command.Command.{Command}
-use Rattle.stretch_bench.specs.declared.command.Command.TheVariants.{Check, Play, Answer, Minimise, Report, Drill, Search}
+use Rattle.stretch_bench.specs.declared.command.Command.TheVariants.{Check, Play, Answer, Minimise, Upgrade}
+use Rattle.stretch_bench.specs.declared.command.Command.TheVariants.{Report, Drill, Search}
 use Rattle.stretch_bench.specs.declared.status.Status.{Status}
 use Rattle.stretch_bench.specs.declared.status.Status.TheVariants.{Done, Rejected, Usage, Undecided, ReadFault}
 use Rattle.stretch_bench.specs.declared.status.Status.TheVariants.{WriteFault, OutOfMemory, Unpackable}
@@ -63,6 +65,7 @@ wanted_by Check = Some Either
 wanted_by (Play place) = Some (Only Adversary)
 wanted_by (Answer items) = Some (Only Algorithm)
 wanted_by Minimise = Some Either
+wanted_by Upgrade = Some Either
 wanted_by Report = Some Either
 wanted_by (Drill number copies) = None
 wanted_by (Search game budget table) = None
@@ -80,7 +83,8 @@ pub record IsRead (wanted : Wanted) (left new_left : Option (List ℕ)) (Is : St
   pub is : Is strategy
 
 -- the lines of the play of a strategy of the adversary, from its last node on, against a player, who loses
-pub record IsPlayOf (name : List ℕ) (answer : GameNumbers → List ℕ → ℕ) (text : List ℕ) (strategy : Strategy) : Type 0 where
+pub record IsPlayOf (name : List ℕ) (answer : GameNumbers → List ℕ → ℕ) (text : List ℕ)
+    (strategy : Strategy) : Type 0 where
   pub nodes : List AdvNode
   pub of_adversary : strategy.nodes ≡ nodes_of_side.Adversary nodes
   pub transcript : Transcript
@@ -107,6 +111,10 @@ pub record IsUnpackable (items text : List ℕ) (strategy : Strategy) : Type 0 w
 abbrev pub IsCanonicalText : List ℕ → Strategy → Type 0
 IsCanonicalText text strategy = text ≡ text_of (canonical_form strategy)
 
+-- the text of the canonical form of an upgrade of a strategy
+abbrev pub IsUpgradeText : List ℕ → Strategy → Type 0
+IsUpgradeText text strategy = (made : Strategy) × IsCanonicalUpgrade strategy made × (text ≡ text_of made)
+
 -- the line of what a strategy shows
 pub record IsSummaryOf (text : List ℕ) (strategy : Strategy) : Type 0 where
   pub report : reports.Report
@@ -129,9 +137,9 @@ pub record IsFound (game : GameNumbers) (budget : ℕ) (text : List ℕ) : Type 
   pub few : length (nodes_of strategy.nodes) ≤ budget
   pub spelled : text ≡ text_of strategy
 
--- the line of a visit that was due when a search of a game had spent its budget, which was less than the number of visits
--- that there can be. Where the table has room for all positions at which legal paths end, the budget was less than these
--- for each pass; where the adversary wins a pass, less than those of the passes up to it.
+-- the line of a visit that was due when a search of a game had spent its budget, which was less than the number of
+-- visits that there can be. Where the table has room for all positions at which legal paths end, the budget was less
+-- than these for each pass; where the adversary wins a pass, less than those of the passes up to it.
 pub record IsUndecided (game : GameNumbers) (budget table : ℕ) (text : List ℕ) : Type 0 where
   pub pass : ℕ
   pub path : List PathMove
@@ -171,6 +179,7 @@ IsDone names answers left new_left text Check = IsAccepted left new_left text
 IsDone names answers left new_left text (Play place) = IsPlayed names answers place left new_left text
 IsDone names answers left new_left text (Answer items) = IsRead (Only Algorithm) left new_left (IsAnswerOf items text)
 IsDone names answers left new_left text Minimise = IsRead Either left new_left (IsCanonicalText text)
+IsDone names answers left new_left text Upgrade = IsRead Either left new_left (IsUpgradeText text)
 IsDone names answers left new_left text Report = IsRead Either left new_left (IsSummaryOf text)
 IsDone names answers left new_left text (Drill number copies) = (new_left ≡ left) × (text ≡ drilled number copies)
 IsDone names answers left new_left text (Search game budget table) = (new_left ≡ left) × IsFound game budget text
@@ -181,6 +190,7 @@ HasNoPacking left new_left text Check = ⊥
 HasNoPacking left new_left text (Play place) = ⊥
 HasNoPacking left new_left text (Answer items) = IsRead (Only Algorithm) left new_left (IsUnpackable items text)
 HasNoPacking left new_left text Minimise = ⊥
+HasNoPacking left new_left text Upgrade = ⊥
 HasNoPacking left new_left text Report = ⊥
 HasNoPacking left new_left text (Drill number copies) = ⊥
 HasNoPacking left new_left text (Search game budget table) = ⊥
@@ -191,6 +201,7 @@ IsSpent left new_left text Check = ⊥
 IsSpent left new_left text (Play place) = ⊥
 IsSpent left new_left text (Answer items) = ⊥
 IsSpent left new_left text Minimise = ⊥
+IsSpent left new_left text Upgrade = ⊥
 IsSpent left new_left text Report = ⊥
 IsSpent left new_left text (Drill number copies) = ⊥
 IsSpent left new_left text (Search game budget table) = (new_left ≡ left) × IsUndecided game budget table text

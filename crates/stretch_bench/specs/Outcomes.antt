@@ -6,7 +6,8 @@ use Rattle.stretch_bench.specs.declared.command.TheConstants.{MOST_VISITS}
 use Rattle.strategy_text.specs.declared.node.Strategy.{Strategy}
 use Rattle.checker.specs.declared.fault.Wanted.{Wanted}
 use Rattle.stretch_bench.specs.declared.command.Command.{Command}
-use Rattle.stretch_bench.specs.declared.command.Command.TheVariants.{Check, Play, Answer, Minimise, Report, Drill, Search}
+use Rattle.stretch_bench.specs.declared.command.Command.TheVariants.{Check, Play, Answer, Minimise, Upgrade}
+use Rattle.stretch_bench.specs.declared.command.Command.TheVariants.{Report, Drill, Search}
 use Rattle.stretch_bench.specs.declared.due.Due.{Due}
 use Rattle.stretch_bench.specs.declared.status.Status.{Status}
 use Rattle.stretch_bench.specs.declared.status.Status.TheVariants.{Done, Rejected, Usage, Undecided, ReadFault}
@@ -19,6 +20,7 @@ IsInRange number Check = Unit {0}
 IsInRange number (Play place) = place < number
 IsInRange number (Answer items) = Unit {0}
 IsInRange number Minimise = Unit {0}
+IsInRange number Upgrade = Unit {0}
 IsInRange number Report = Unit {0}
 IsInRange number (Drill seed copies) = (1 ≤ copies) × (copies ≤ MOST_COPIES)
 IsInRange number (Search game budget table) = (1 ≤ budget) × (budget ≤ MOST_VISITS) × (1 ≤ table)

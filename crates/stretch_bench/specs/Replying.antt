@@ -9,8 +9,8 @@ use Rattle.algorithm_graph.specs.Replies.{replies}
 use Rattle.checker.specs.Accepted.{Loads}
 use Rattle.checker.specs.declared.fault.Wanted.TheVariants.{Either}
 
--- the bytes that were read spell a legal strategy of the algorithm for this game, with so many nodes; its replies are an
--- online algorithm, and they keep every load below the target on every packable list of items
+-- the bytes that were read spell a legal strategy of the algorithm for this game, with so many nodes; its replies are
+-- an online algorithm, and they keep every load below the target on every packable list of items
 pub record Replying (game : GameNumbers) (number : ℕ) (left new_left : Option (List ℕ)) : Type 0 where
   pub format : Format
   pub nodes : List AlgNode

@@ -6,7 +6,8 @@ use Rattle.items.specs.Game.{GameNumbers, IsGame}
 use Rattle.items.specs.Multiset.{IsSize}
 use Rattle.report.specs.declared.drill.TheConstants.{MOST_COPIES}
 use Rattle.stretch_bench.specs.declared.command.Command.{Command}
-use Rattle.stretch_bench.specs.declared.command.Command.TheVariants.{Check, Play, Answer, Minimise, Report, Drill, Search}
+use Rattle.stretch_bench.specs.declared.command.Command.TheVariants.{Check, Play, Answer, Minimise, Upgrade}
+use Rattle.stretch_bench.specs.declared.command.Command.TheVariants.{Report, Drill, Search}
 use Rattle.stretch_bench.specs.declared.command.TheConstants.{MOST_ENTRIES, MOST_VISITS}
 
 -- the words as bytes
@@ -54,6 +55,7 @@ Spells names words (Play place) =
     (name : List ℕ) × (words ≡ codes "play" ∷ name ∷ []) × IsFirstNamed names name place
 Spells names words (Answer items) = (words ≡ codes "answer" ∷ map decimal items) × All (IsSize most_item) items
 Spells names words Minimise = words ≡ codes "minimise" ∷ []
+Spells names words Upgrade = words ≡ codes "upgrade" ∷ []
 Spells names words Report = words ≡ codes "report" ∷ []
 Spells names words (Drill number copies) = IsDrill words number copies
 Spells names words (Search game budget table) = IsSearch words game budget table

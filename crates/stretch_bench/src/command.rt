@@ -1,7 +1,7 @@
 //! The commands, and the one that words spell.
 
-ghost use Rattle.std.specs.Prelude.{◌≡◌, ◌≢◌, ◌≤◌, ◌↔◌, ◌∷◌, ◌++◌, [], ℕ, List, All, IfOk, IsTrue, MatchOption, decimal};
-ghost use Rattle.std.specs.Prelude.{codes, map, string_bytes};
+ghost use Rattle.std.specs.Prelude.{◌≡◌, ◌≢◌, ◌≤◌, ◌↔◌, ◌∷◌, ◌++◌, [], ℕ, List, All, IfOk, IsTrue, MatchOption};
+ghost use Rattle.std.specs.Prelude.{codes, decimal, map, string_bytes};
 ghost use Rattle.items.specs.Game.{GameNumbers};
 ghost use Rattle.items.specs.Multiset.{IsSize};
 ghost use Rattle.stretch_bench.specs.Words.{IsDrill, IsFirstNamed, IsGameOf, IsSearch, Spells, SpellsNone, most_item};
@@ -37,6 +37,8 @@ pub enum Command {
     },
     /// Reads a strategy and writes its canonical form.
     Minimise,
+    /// Reads a strategy and writes its canonical form in format 2.
+    Upgrade,
     /// Reads a strategy and says what it shows.
     Report,
     /// Makes a large legal strategy of two numbers, and says what its check and its canonical form come to.
@@ -77,6 +79,9 @@ pub fn read_words(
     }
     if is_word(words, "minimise") {
         return Ok(Some(Command::Minimise));
+    }
+    if is_word(words, "upgrade") {
+        return Ok(Some(Command::Upgrade));
     }
     if is_word(words, "report") {
         return Ok(Some(Command::Report));

@@ -18,7 +18,9 @@ ghost use Rattle.stretch_bench.specs.declared.status.Status.TheVariants.{Done};
 
 use crate::command::{Command, read_words};
 use crate::lines::{line_of_accepted, line_of_rejected, line_of_usage};
-use crate::made::{due_of_canonical, due_of_refuted, due_of_replies, due_of_summary};
+use crate::made::{
+    due_of_canonical, due_of_refuted, due_of_replies, due_of_summary, due_of_upgraded,
+};
 use crate::searched::{due_of_drill, due_of_search};
 use crate::status::Status;
 use checker::{CheckFault, Wanted, check, load};
@@ -61,7 +63,8 @@ pub(crate) fn due_of<S: Source>(
     ensures count { S.faults source.old ≤ S.faults source.new }
     ensures due { IfOk result (λ due. IsDue (record {
       names = map (λ player. player.name) players.now.items;
-      answers = map (λ player. (⟦<dyn Online as Online>⟧ player.player.vtable).answer player.player.value) players.now.items;
+      answers = map (λ player. (⟦<dyn Online as Online>⟧ player.player.vtable).answer player.player.value)
+          players.now.items;
       words = spelling_of words.now;
       left = S.left source.old;
       new_left = S.left source.new;
@@ -71,7 +74,8 @@ pub(crate) fn due_of<S: Source>(
     ensures read { result ≡ Err Read → Rose (S.faults source.old) (S.faults source.new) }
     ensures interrupted { result ≡ Err Read → IsCutShort (record {
       names = map (λ player. player.name) players.now.items;
-      answers = map (λ player. (⟦<dyn Online as Online>⟧ player.player.vtable).answer player.player.value) players.now.items;
+      answers = map (λ player. (⟦<dyn Online as Online>⟧ player.player.vtable).answer player.player.value)
+          players.now.items;
       words = spelling_of words.now;
       left = S.left source.old;
       new_left = S.left source.new;
@@ -96,7 +100,8 @@ fn due_of_command<S: Source>(
     requires in_range { IsInRange (length players.now.items) command.now }
     ensures count { S.faults source.old ≤ S.faults source.new }
     ensures due { IfOk result (λ due. IsOutcome (map (λ player. player.name) players.now.items)
-        (map (λ player. (⟦<dyn Online as Online>⟧ player.player.vtable).answer player.player.value) players.now.items) (S.left source.old) (S.left source.new)
+        (map (λ player. (⟦<dyn Online as Online>⟧ player.player.vtable).answer player.player.value) players.now.items)
+        (S.left source.old) (S.left source.new)
         command.now due.status due.text) }
     ensures read { result ≡ Err Read → Rose (S.faults source.old) (S.faults source.new) }
     ensures interrupted { result ≡ Err Read → IsCut (wanted_by command.now) (S.left source.old) (S.left source.new) }
@@ -106,6 +111,7 @@ fn due_of_command<S: Source>(
         Command::Play { player } => due_of_play(alloc, &players[*player], source),
         Command::Answer { items } => due_of_answer(alloc, items.as_slice(), source),
         Command::Minimise => due_of_minimise(alloc, source),
+        Command::Upgrade => due_of_upgrade(alloc, source),
         Command::Report => due_of_report(alloc, source),
         Command::Drill { number, copies } => due_of_drill(alloc, *number, *copies),
         Command::Search {
@@ -138,7 +144,9 @@ fn due_of_check<S: Source>(alloc: Global, source: &mut S) -> Result<Due, Stop>
 fn due_of_play<S: Source>(alloc: Global, player: &Player, source: &mut S) -> Result<Due, Stop>
     ensures count { S.faults source.old ≤ S.faults source.new }
     ensures due { (names : List (List ℕ)) (answers : List (GameNumbers → List ℕ → ℕ)) (place : ℕ)
-        → slice_get names place ≡ Some player.now.name → slice_get answers place ≡ Some ((⟦<dyn Online as Online>⟧ player.now.player.vtable).answer player.now.player.value)
+        → slice_get names place ≡ Some player.now.name
+        → slice_get answers place
+        ≡ Some ((⟦<dyn Online as Online>⟧ player.now.player.vtable).answer player.now.player.value)
         → IfOk result (λ due. IsOutcome names answers (S.left source.old) (S.left source.new) (command.Play place)
         due.status due.text) }
     ensures read { result ≡ Err Read → Rose (S.faults source.old) (S.faults source.new) }
@@ -173,10 +181,26 @@ fn due_of_minimise<S: Source>(alloc: Global, source: &mut S) -> Result<Due, Stop
     ensures due { (names : List (List ℕ)) (answers : List (GameNumbers → List ℕ → ℕ)) → IfOk result (λ due.
         IsOutcome names answers (S.left source.old) (S.left source.new) command.Minimise due.status due.text) }
     ensures read { result ≡ Err Read → Rose (S.faults source.old) (S.faults source.new) }
-    ensures interrupted { result ≡ Err Read → IsCut (wanted_by command.Minimise) (S.left source.old) (S.left source.new) }
+    ensures interrupted { result ≡ Err Read → IsCut (wanted_by command.Minimise) (S.left source.old)
+        (S.left source.new) }
 {
     match load(alloc, source, Wanted::Either) {
         Ok(strategy) => due_of_canonical(alloc, strategy),
+        Err(fault) => due_of_fault(alloc, fault),
+    }
+}
+
+// What the upgrade of the strategy that is read comes to.
+fn due_of_upgrade<S: Source>(alloc: Global, source: &mut S) -> Result<Due, Stop>
+    ensures count { S.faults source.old ≤ S.faults source.new }
+    ensures due { (names : List (List ℕ)) (answers : List (GameNumbers → List ℕ → ℕ)) → IfOk result (λ due.
+        IsOutcome names answers (S.left source.old) (S.left source.new) command.Upgrade due.status due.text) }
+    ensures read { result ≡ Err Read → Rose (S.faults source.old) (S.faults source.new) }
+    ensures interrupted { result ≡ Err Read → IsCut (wanted_by command.Upgrade) (S.left source.old)
+        (S.left source.new) }
+{
+    match load(alloc, source, Wanted::Either) {
+        Ok(strategy) => due_of_upgraded(alloc, strategy),
         Err(fault) => due_of_fault(alloc, fault),
     }
 }
@@ -187,7 +211,8 @@ fn due_of_report<S: Source>(alloc: Global, source: &mut S) -> Result<Due, Stop>
     ensures due { (names : List (List ℕ)) (answers : List (GameNumbers → List ℕ → ℕ)) → IfOk result (λ due.
         IsOutcome names answers (S.left source.old) (S.left source.new) command.Report due.status due.text) }
     ensures read { result ≡ Err Read → Rose (S.faults source.old) (S.faults source.new) }
-    ensures interrupted { result ≡ Err Read → IsCut (wanted_by command.Report) (S.left source.old) (S.left source.new) }
+    ensures interrupted { result ≡ Err Read → IsCut (wanted_by command.Report) (S.left source.old)
+        (S.left source.new) }
 {
     match load(alloc, source, Wanted::Either) {
         Ok(strategy) => due_of_summary(alloc, strategy),

@@ -5,7 +5,7 @@ ghost use Rattle.adversary_graph.specs.Pools.{IsLegalOfAdversary};
 ghost use Rattle.algorithm_graph.specs.Pools.{IsLegalOfAlgorithm};
 ghost use Rattle.minimise.specs.Strategies.{IsLegal, canonical_form};
 ghost use Rattle.strategy_text.specs.Text.{text_of};
-ghost use Rattle.stretch_bench.specs.Due.{IsPlayOf, IsSummaryOf};
+ghost use Rattle.stretch_bench.specs.Due.{IsPlayOf, IsSummaryOf, IsUpgradeText};
 ghost use Rattle.stretch_bench.specs.Outcomes.{IsAnswered};
 ghost use Rattle.stretch_bench.specs.declared.due.Stop.TheVariants.{Read};
 ghost use Rattle.stretch_bench.specs.declared.status.Status.TheVariants.{Done};
@@ -16,7 +16,7 @@ use crate::status::Status;
 use adversary_graph::{AdvPool, refute};
 use algorithm_graph::{AlgPool, FileAlgorithm};
 use match_player::{AnswerFault, answer, answer_text, match_text};
-use minimise::minimise;
+use minimise::{minimise, upgrade};
 use online_play::{Online, Player};
 use report::summarise;
 use std::alloc::Global;
@@ -29,7 +29,8 @@ pub(crate) fn due_of_refuted(
     strategy: Strategy,
 ) -> Result<Due, Stop>
     requires legal { IsLegalOfAdversary strategy }
-    ensures play { IfOk result (λ due. (due.status ≡ Done) × IsPlayOf player.now.name ((⟦<dyn Online as Online>⟧ player.now.player.vtable).answer player.now.player.value) due.text strategy) }
+    ensures play { let answer = (⟦<dyn Online as Online>⟧ player.now.player.vtable).answer player.now.player.value in
+        IfOk result (λ due. (due.status ≡ Done) × IsPlayOf player.now.name answer due.text strategy) }
     ensures read { result ≢ Err Read }
 {
     let game = strategy.game;
@@ -71,6 +72,19 @@ pub(crate) fn due_of_canonical(alloc: Global, strategy: Strategy) -> Result<Due,
     ensures read { result ≢ Err Read }
 {
     let made = minimise(alloc, &strategy)?;
+    Ok(Due {
+        status: Status::Done,
+        text: text_of(alloc, &made)?,
+    })
+}
+
+// The text of the canonical form of an upgrade of a legal strategy.
+pub(crate) fn due_of_upgraded(alloc: Global, strategy: Strategy) -> Result<Due, Stop>
+    requires legal { IsLegal strategy }
+    ensures text { IfOk result (λ due. (due.status ≡ Done) × IsUpgradeText due.text strategy) }
+    ensures read { result ≢ Err Read }
+{
+    let made = upgrade(alloc, &strategy)?;
     Ok(Due {
         status: Status::Done,
         text: text_of(alloc, &made)?,

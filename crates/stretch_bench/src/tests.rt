@@ -266,6 +266,7 @@ fn strategies_are_made_shorter_and_reported(rt: HostRuntime) -> Result<(), Fail>
         ("minimise", LEGAL, LEGAL),
         ("minimise", OF_ALGORITHM, OF_ALGORITHM),
         ("minimise", WITH_BURSTS, WITH_BURSTS),
+        ("upgrade", WITH_BURSTS, WITH_BURSTS),
         (
             "report",
             LEGAL,

@@ -1,6 +1,7 @@
 use Rattle.std.proofs.Common.{inl}
 use Rattle.stretch_bench.specs.Lines.{adversary_accepted, algorithm_accepted}
-use Rattle.stretch_bench.proofs.DueLemmas.{usage_due, none_written, after_whole, after_prefix, exact_due, stopped_any, answer_written, same_some, accepted_forces, accepted_replies}
+use Rattle.stretch_bench.proofs.DueLemmas.{usage_due, none_written, after_whole, after_prefix, exact_due}
+use Rattle.stretch_bench.proofs.DueLemmas.{stopped_any, answer_written, same_some, accepted_forces, accepted_replies}
 use Rattle.stretch_bench.specs.declared.status.Status.TheVariants.{ReadFault, WriteFault, OutOfMemory}
 use Rattle.stretch_bench.proofs.bench.run_bench.Goals as goal
 

@@ -10,7 +10,7 @@ returns-in-Some-2 g c = record {
 
 pub returns-in-None : goal.returns-in-None
 returns-in-None g c = record {
-  exact = none_spelled _ (spelling_of c.args.words.now) c.if-is_word.ensures.exact.1 c.if-is_word-2.ensures.exact.1 c.if-is_word-3.ensures.exact.1
+  exact = none_spelled _ (spelling_of c.args.words.now) c.if-is_word.ensures.exact.1 c.if-is_word-2.ensures.exact.1 c.if-is_word-3.ensures.exact.1 c.if-is_word-4.ensures.exact.1
       c.in_default.ensures c.in_default-drill_of.ensures c.in_default-search_of.ensures
       (no_answers [] (spelling_of c.args.words.now) c.in_ok-items.field-0 (c.in_ok-items.ensures []) c.in-None.is);
 }
