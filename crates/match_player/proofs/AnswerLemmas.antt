@@ -31,9 +31,10 @@ pub may_come_packable : (game : GameNumbers) (xs : List ℕ) (i size : ℕ) (ite
     → Packable game xs → IsSize game.capacity size × (sum items + size ≤ game.bins * game.capacity)
 may_come_packable game xs i size items l e same packable =
     let more = Same_more xs i size items l e same in
-    let total = sum-Packable-le game (take (i + 1) xs) (Packable-take game (i + 1) xs packable) in
-    (subst (IsSize game.capacity) (sym e) (All-get_or (IsSize game.capacity) xs i 0 l packable.1.item_list),
-    omega (arith, total, sum-Same (take (i + 1) xs) (put_ascending size items) more, sum-put_ascending size items))
+    let total = sum-Packable-le game (take (i + 1) xs) (Packable-take game (i + 1) xs packable) in (
+      subst (IsSize game.capacity) (sym e) (All-get_or (IsSize game.capacity) xs i 0 l packable.1.item_list),
+      omega (arith, total, sum-Same (take (i + 1) xs) (put_ascending size items) more, sum-put_ascending size items),
+    )
 
 -- the totals of a game's bins are small
 pub total_small : (game : GameNumbers) (n : ℕ) → IsGame game → n ≤ game.bins * game.capacity → n ≤ 1912

@@ -7,8 +7,8 @@ pub mod laws;
 mod lines;
 mod words;
 
-pub use answers::answer;
 pub use answered::{AnswerFault, Answered};
+pub use answers::answer;
 pub use lines::{answer_text, match_text};
 
 #[cfg(test)]
