@@ -6,7 +6,8 @@
 PROGRAM is the built program, FILE the strategy, LINE the answer that is due, without its line feed, and TIMES how often
 each command is run, in turns. The seconds are those of the processor, which other work on the machine disturbs least.
 YARDSTICK is another checker, which reads a strategy from standard input: it is run beside the program where it is
-given, and the ratios are told. It ends with status 1 where a check gives another answer.
+given, and the ratios are told. The other commands that read a strategy of either side are timed once. It ends with status 1 where a check gives
+another answer.
 """
 
 import os
@@ -63,6 +64,9 @@ def main():
     print(f"time {taken / max(min(least['wc -l']), 1e-6):.1f} times that of wc -l")
     held = {name: peak(command, path) for name, command in checks.items()}
     print("peak memory " + ", ".join(f"{name} {most:.1f} MiB" for name, most in held.items()))
+    for word in ("minimise", "report", "upgrade"):
+        status, _, seconds = run([program, word], path)
+        print(f"stretch {word:<9} {seconds:.3f} seconds of the processor, {peak([program, word], path):.1f} MiB, status {status}")
     if others:
         time_ratio = taken / max(min(least["yardstick"]), 1e-6)
         print(f"beside the yardstick: {time_ratio:.2f} times its time, "
