@@ -20,6 +20,9 @@ use Rattle.loads.specs.Position.{position as position_with}
 use Rattle.loads.specs.Wins.{empty_position}
 use Rattle.loads.specs.declared.position.Position.{Position}
 use Rattle.packing_witness.proofs.PackingLemmas.{size_of_last}
+use Rattle.good_situations.specs.Finish.{Finishes}
+use Rattle.strategy_text.specs.declared.node.AdvNode.{AdvNode}
+use Rattle.strategy_text.specs.declared.node.AlgNode.{AlgNode}
 use Rattle.monotone.specs.Paths.{IsLegalFrom}
 use Rattle.monotone.specs.Positions.{CountsAllEnds, CountsEndsOfPass, IsEnd}
 use Rattle.monotone.specs.Visits.{Metered, counted, unused, visit}
@@ -40,11 +43,11 @@ use Rattle.minimax.specs.declared.answer.Answer.TheVariants as Answers
 use Rattle.minimax.specs.Budgets.{AreNumbersOfEnds, HasRoom, IsOfAdversary, ends_before}
 use Rattle.minimax.specs.Fresh.{AreOfEnds, CountsFresh, IsLessThanEnds, IsShort, IsWithin, IsWithinEnds, Looks, Progress, but, counted_and_fresh}
 use Rattle.minimax.specs.Fresh.{is_fresh, number_fresh, progress}
-use Rattle.minimax.specs.State.{IsOfPass, IsWonIn, StandsAtPath, allowed_by}
+use Rattle.minimax.specs.State.{AreKnown, IsOfPass, IsWonIn, StandsAtPath, allowed_by}
 
 -- ---- equal positions
 
-equal_positions : IsEquivalence are_equal
+pub equal_positions : IsEquivalence are_equal
 equal_positions = search (comparing, rules)
 
 pub are_equal-told : (p q : Position) → are_equal p q ≡ true → p ≡ q
@@ -147,6 +150,17 @@ pub is_fresh-other : (pass : ℕ) (verdict : Verdict) → (IsOfPass pass verdict
 is_fresh-other pass (Adversary number) h = absurd (h tt)
 is_fresh-other pass (Algorithm number) h = absurd (h tt)
 is_fresh-other pass (Held held) h = not_from_false (eqb held pass) (false_from_ne_true (eqb held pass) (λ e. h (eqb-true held pass e)))
+
+-- a position that finishes and is to be visited has no entry
+pub none_for_finish : (game : GameNumbers) (pass : ℕ) (wins : List AdvNode) (replies : List AlgNode) (entries : List (Position × Verdict)) (position : Position)
+    → AreKnown game wins replies entries → Finishes game position.loads → is_fresh pass (verdict_of entries position) ≡ true → verdict_of entries position ≡ None
+none_for_finish game pass wins replies entries position known finishes fresh = by_entry (verdict_of entries position) refl fresh
+  where
+    by_entry : (o : Option Verdict) → verdict_of entries position ≡ o → is_fresh pass o ≡ true → verdict_of entries position ≡ None
+    by_entry None e h = e
+    by_entry (Some (Adversary number)) e h = let no : false ≡ true = h in cc
+    by_entry (Some (Algorithm number)) e h = let no : false ≡ true = h in cc
+    by_entry (Some (Held held)) e h = absurd ((known position (Held held) e).unfinished finishes)
 
 -- ---- a table with room for all ends drops nothing
 

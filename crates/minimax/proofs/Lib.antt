@@ -8,3 +8,7 @@ pub mod StepLemmas
 pub mod SizeLemmas
 pub mod RootLemmas
 pub mod FreshLemmas
+pub mod RoomLemmas
+pub mod ServingLemmas
+pub mod ExpansionLemmas
+pub mod NamingLemmas

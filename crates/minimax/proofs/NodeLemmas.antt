@@ -108,7 +108,7 @@ MayAct-reply pool position room entries made p format few replies e =
             (
               tt,
               (
-                replies_to_each pool.game position.items room entries replies.is_room replies.sizes,
+                replies_to_each pool.game position.items room entries replies.of_all.is_room replies.of_all.sizes,
                 (
                   names,
                   (

@@ -1,8 +1,9 @@
 -- The root of a search, and what its end answers.
 use Rattle.std.proofs.Common.{◌≡◌, ℕ, zero, suc, ◌+◌, ◌<◌, ◌≤◌, List, [], ◌∷◌, length, map, take, sum}
-use Rattle.std.proofs.Common.{replicate, refl, sym, subst, ⊎_elim, arith}
+use Rattle.std.proofs.Common.{replicate, Some, true, false, refl, sym, ap, subst, inl, inr, ⊎_elim, arith}
 use Rattle.std.proofs.lemmas.Bool.{cases_lt}
-use Rattle.std.specs.Prelude.{Contains, IfOk, Result, Ok, Err}
+use Rattle.std.specs.Prelude.{Contains, IfOk, IsSome, Result, Ok, Err}
+use Rattle.std.proofs.lemmas.Option.{none-some}
 use Rattle.std.specs.declared.alloc.AllocError.{AllocError}
 use Rattle.std.proofs.lemmas.List.{length-map}
 use Rattle.std.proofs.lemmas.List.Elements.{All-nil, All-replicate}
@@ -31,13 +32,20 @@ use Rattle.monotone.specs.Visits.{HasVisitsBefore, IsLater, Metered, most_visits
 use Rattle.monotone.specs.declared.path.PathMove.{PathMove}
 use Rattle.packing_witness.proofs.PackableLemmas.{Packable-nil}
 use Rattle.monotone.proofs.VisitLemmas.{CountsVisits-unused, count_below_bound, visits_before}
+use Rattle.transposition.specs.Memo.{verdict_of}
 use Rattle.transposition.specs.declared.verdict.Verdict.{Verdict}
+use Rattle.transposition.specs.declared.verdict.Verdict.TheVariants.{Algorithm}
 use Rattle.minimax.specs.Answers.{IsAnswer, IsDecided, IsFor}
 use Rattle.minimax.specs.declared.answer.Answer.{Answer}
 use Rattle.minimax.specs.declared.answer.Answer.TheVariants as Answers
 use Rattle.minimax.specs.Settled.{IsDue, NoneWonBefore}
-use Rattle.minimax.specs.State.{AreSound, IsPlayable, IsSound, IsSpent, MayVisit, StandsAtPath}
+use Rattle.minimax.specs.State.{AreSound, IsLed, IsNeverWon, IsPlayable, IsSound, IsSpent, MayVisit, StandsAtPath}
+use Rattle.minimax.specs.Naming.{MayNumber, Numbers}
+use Rattle.minimax.specs.Serving.{HasSpare, IsServedBy, number_of}
 use Rattle.minimax.specs.declared.expanding.Search.{Search}
+use Rattle.minimax.specs.declared.finish_nodes.TheConstants.{FINISHES}
+use Rattle.minimax.proofs.NamingLemmas.{sound_names}
+use Rattle.minimax.proofs.ServingLemmas.{serves_number}
 
 length-take-le : {X : Type 0} (n : ℕ) (xs : List X) → length (take n xs) ≤ length xs
 length-take-le zero xs = omega arith
@@ -59,6 +67,20 @@ IsPlayable-empty game loads = record {
   packable = Packable-nil game;
 }
 
+-- a new search has no nodes
+pub HasSpare-new : (s : Search) (game : GameNumbers) (entries : List (Position × Verdict)) → s.wins ≡ adversary_pools.pool_of One game []
+    → s.replies ≡ algorithm_pools.pool_of One game [] → s.finishes ≡ [] → entries ≡ [] → HasSpare 0 s entries
+HasSpare-new s game entries w r f e = (
+  [],
+  (
+    record {
+      few = omega (arith, ap (λ (p : adversary_pools.Pool). length p.nodes) w, ap (λ (p : algorithm_pools.Pool). length p.nodes) r);
+      named = λ p k told. absurd (none-some k (subst (λ fs. number_of fs p ≡ Some k) f told));
+    },
+    λ p told. absurd (none-some (Algorithm FINISHES) (subst (λ es. verdict_of es p ≡ Some (Algorithm FINISHES)) e told)),
+  ),
+)
+
 -- a new search is sound
 pub AreSound-new : (game : GameNumbers) (pass budget : ℕ) (meter : Metered) (wins : adversary_pools.Pool) (replies : algorithm_pools.Pool)
     (entries : List (Position × Verdict)) → meter ≡ unused game budget → wins ≡ adversary_pools.pool_of One game [] → replies ≡ algorithm_pools.pool_of One game []
@@ -73,7 +95,6 @@ AreSound-new game pass budget meter wins replies entries m w r e few =
       replies_game = refl;
       replies_format = refl;
       counts = CountsVisits-unused (whole_game game) budget;
-      few = omega arith;
       within = omega arith;
       budget = few;
       won = All-nil _;
@@ -114,22 +135,47 @@ module _ (game : GameNumbers) (pass : ℕ) where
       algorithm_lemmas.root_from_position nodes number root stands (subst IsEmptyPosition (sym is) empty_is)
 
   -- the strategy up to the root has no more nodes than visits were made
-  pub IsFor-win : (budget : ℕ) (s : Search) (entries : List (Position × Verdict)) (root : ℕ) (strategy : Strategy) → IsSound game pass s entries → s.meter.budget ≡ budget
+  pub IsFor-win : (budget : ℕ) (s : Search) (entries : List (Position × Verdict)) (root : ℕ) (strategy : Strategy) → IsSound game pass s entries → HasSpare 0 s entries → s.meter.budget ≡ budget
       → strategy ≡ adversary_pools.strategy_of (adversary_pools.pool_of s.wins.format s.wins.game (adversary_pools.nodes_up_to root s.wins.nodes)) → IsFor game budget strategy
-  IsFor-win budget s entries root strategy sound b is = subst (IsFor game budget) (sym is) (record {
+  IsFor-win budget s entries root strategy sound behind b is = subst (IsFor game budget) (sym is) (record {
     of_game = sound.wins_game;
     of_format = sound.wins_format;
-    few = omega (arith, sound.few, sound.within, b, length-map (take (root + 1) s.wins.nodes) of_adversary, length-take-le (root + 1) s.wins.nodes);
+    few = omega (arith, behind.1.0.few, sound.within, b, length-map (take (root + 1) s.wins.nodes) of_adversary, length-take-le (root + 1) s.wins.nodes);
   })
 
-  pub IsFor-reply : (budget : ℕ) (s : Search) (entries : List (Position × Verdict)) (root : ℕ) (strategy : Strategy) → IsSound game pass s entries → s.meter.budget ≡ budget
+  pub IsFor-reply : (budget : ℕ) (s : Search) (entries : List (Position × Verdict)) (root : ℕ) (strategy : Strategy) → IsSound game pass s entries → HasSpare 0 s entries → s.meter.budget ≡ budget
       → strategy ≡ algorithm_pools.strategy_of (algorithm_pools.pool_of s.replies.format s.replies.game (algorithm_pools.nodes_up_to root s.replies.nodes)) →
       IsFor game budget strategy
-  IsFor-reply budget s entries root strategy sound b is = subst (IsFor game budget) (sym is) (record {
+  IsFor-reply budget s entries root strategy sound behind b is = subst (IsFor game budget) (sym is) (record {
     of_game = sound.replies_game;
     of_format = sound.replies_format;
-    few = omega (arith, sound.few, sound.within, b, length-map (take (root + 1) s.replies.nodes) of_algorithm, length-take-le (root + 1) s.replies.nodes);
+    few = omega (arith, behind.1.0.few, sound.within, b, length-map (take (root + 1) s.replies.nodes) of_algorithm, length-take-le (root + 1) s.replies.nodes);
   })
+
+  -- the number of the root's node may be asked for
+  pub may_number_root : (s : Search) (entries : List (Position × Verdict)) (root : Position) (number : ℕ) → IsSound game pass s entries
+      → (behind : HasSpare 0 s entries) → IsServedBy behind.0 s root (Algorithm number) → IsPlayable game root → IsLed game s.replies.nodes root number
+      → MayNumber game s root number
+  may_number_root s entries root number sound behind served playable led = record {
+    replies = record { of_game = sound.replies_game; of_format = sound.replies_format };
+    playable = playable;
+    led = led;
+    limit = omega (arith, behind.1.0.few, sound.within, sound.budget);
+    room = λ e none. elim (served (ap Algorithm e)) [
+      | inl c ↦ omega (arith, behind.1.0.few, sound.within, sound.budget, c.1)
+      | inr some ↦ let no : false ≡ true = subst IsSome none some in cc
+    ];
+  }
+
+  -- the search after the root got its number
+  pub after_root : (s after : Search) (entries : List (Position × Verdict)) (root : Position) (told number : ℕ) → IsSound game pass s entries
+      → (behind : HasSpare 0 s entries) → IsServedBy behind.0 s root (Algorithm told) → IsNeverWon game root → Numbers s after root told number
+      → IsSound game pass after entries × HasSpare 0 after entries
+  after_root s after entries root told number sound behind served never (inl (e, n, h)) =
+      (subst (λ t. IsSound game pass t entries) (sym e) sound, subst (λ t. HasSpare 0 t entries) (sym e) behind)
+  after_root s after entries root told number sound behind served never (inr (e, names)) =
+      let h = serves_number s after root number 0 behind.0 entries names behind.1 (served (ap Algorithm e)) in
+      (sound_names game pass s after entries root number sound never names, (h.later, h.behind))
 
   -- the visit that was due
   pub IsDue-spent : (budget : ℕ) (s : Search) → NoneWonBefore (whole_game game) pass → IsSpent game pass budget s → IsDue (whole_game game) budget (visit pass s.path)

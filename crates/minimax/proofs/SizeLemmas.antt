@@ -30,14 +30,14 @@ use Rattle.monotone.proofs.PassLemmas.{allowed_in-exact}
 use Rattle.transposition.specs.declared.verdict.Verdict.{Verdict}
 use Rattle.transposition.specs.declared.verdict.Verdict.TheVariants.{Adversary, Algorithm, Held}
 use Rattle.minimax.specs.State.{IsBound, FindsVerdict, FollowsUp, HasAnswered, HasPassed, HasWeighed, IsNeverWon, IsNoWin, IsOpenAt}
-use Rattle.minimax.specs.State.{IsOpenFrom, IsReply}
-use Rattle.minimax.specs.State.{IsSound, IsWonIn, MayCome, PlacesAll, ReplyToAll, Tells, WentOn, WinsBy, allowed_by, kept_of}
+use Rattle.minimax.specs.State.{AreOfAll, IsOpenFrom, IsPending}
+use Rattle.minimax.specs.State.{IsSound, IsWonIn, MayCome, PlacesAll, Tells, WentOn, WinsBy, allowed_by, kept_of}
 use Rattle.minimax.specs.State.{numbers_down, with_move}
 use Rattle.minimax.specs.declared.expanding.Search.{Search}
 use Rattle.minimax.specs.declared.expanding.Weighed.{Weighed}
 use Rattle.minimax.specs.declared.expanding.Weighed.TheVariants.{NoReply}
 use Rattle.minimax.proofs.PastLemmas.{IsLater-move}
-use Rattle.minimax.proofs.StateLemmas.{FollowsUp-goes, IsReply-goes, never_by_node, not_won_by_verdict}
+use Rattle.minimax.proofs.StateLemmas.{FollowsUp-goes, IsPending-goes, never_by_led, not_won_by_verdict}
 use Rattle.minimax.proofs.StepLemmas.{Goes-trans, WentOn-later, WentOn-refl, WentOn-then, stands_still}
 use Rattle.minimax.proofs.WinLemmas.{IsNeverWon-answered, no_winning_size}
 
@@ -76,7 +76,7 @@ next_bound target xs i = rw add-one refl
 module _ (game : GameNumbers) (pass : ℕ) where
   -- at the next load
   pub opens_load : (s0 s1 : Search) (position : Position) (size i load : ℕ) (entries : List (Position × Verdict)) → IsOpenFrom game pass size s0 position
-      → WentOn game pass 0 (with_move s0 size (get_or (game.target ∷ distinct position.loads) i 0)) s0 s1 entries
+      → WentOn game pass (with_move s0 size (get_or (game.target ∷ distinct position.loads) i 0)) s0 s1 entries
       → ((k : ℕ) → k < i → (game.target ≤ get_or (distinct position.loads) k 0 + size) ⊎ IsWonIn game pass (after position (get_or (distinct position.loads) k 0) size))
       → i < length (distinct position.loads) → load ≡ get_or (distinct position.loads) i 0 → Contains position.loads load
       → IsOpenAt game pass size load s1 position
@@ -111,9 +111,9 @@ module _ (game : GameNumbers) (pass : ℕ) where
   next_size size load low = inl (omega (arith, low))
 
   pub past_size : (s0 s1 : Search) (position : Position) (size load : ℕ) (entries : List (Position × Verdict)) → Packable game (position.items ++ size ∷ [])
-      → WentOn game pass 0 (with_move s0 size load) s0 s1 entries → WentOn game pass 0 (with_move s0 (size - 1) game.target) s0 s1 entries
+      → WentOn game pass (with_move s0 size load) s0 s1 entries → WentOn game pass (with_move s0 (size - 1) game.target) s0 s1 entries
   past_size s0 s1 position size load entries packable g =
-      WentOn-later game pass 0 (moved size load) (moved (size - 1) game.target) s0 s1 entries
+      WentOn-later game pass (moved size load) (moved (size - 1) game.target) s0 s1 entries
       (next_size size load (size_of_last game position.items size packable).low) g
 
   -- one more placement
@@ -130,7 +130,7 @@ module _ (game : GameNumbers) (pass : ℕ) where
 
   pub follows_more : (s1 s2 : Search) (position : Position) (size load : ℕ) (next : Then) (placements more : List Placement) (entries : List (Position ×
       Verdict)) (past : List PathMove)
-      → WentOn game pass 0 past s1 s2 entries → All (FollowsUp game pass s1 position size) placements
+      → WentOn game pass past s1 s2 entries → All (FollowsUp game pass s1 position size) placements
       → FollowsUp game pass s2 position size (record { load = load; next = next }) → more ≡ placements ++ record { load = load; next = next } ∷ []
       → All (FollowsUp game pass s2 position size) more
   follows_more s1 s2 position size load next placements more entries past g all f is =
@@ -198,27 +198,28 @@ module _ (game : GameNumbers) (pass : ℕ) where
 
   -- a size with an answer
   pub weighs : (s0 s1 : Search) (position : Position) (size load : ℕ) (entries : List (Position × Verdict)) (verdict : Verdict)
-      → WentOn game pass 0 (with_move s0 (size - 1) game.target) s0 s1 entries → Contains position.loads load → load + size < game.target → IsNoWin verdict
+      → WentOn game pass (with_move s0 (size - 1) game.target) s0 s1 entries → Packable game (position.items ++ size ∷ []) → Contains position.loads load
+      → load + size < game.target → IsNoWin verdict
       → Tells game pass s1 (after position load size) verdict → HasWeighed game pass size position s0 s1 entries (kept_of size load verdict)
-  weighs s0 s1 position size load entries (Adversary number) g c below nothing t = absurd nothing
-  weighs s0 s1 position size load entries (Algorithm number) g c below nothing t = record {
+  weighs s0 s1 position size load entries (Adversary number) g may c below nothing t = absurd nothing
+  weighs s0 s1 position size load entries (Algorithm number) g may c below nothing t = record {
     went = g;
     none = no_winning_size game (allowed_by game pass) position size load c below
         (not_won_by_verdict game pass s1 entries (after position load size) (Algorithm number) g.sound nothing t);
-    answered = (refl, record { names = record { load = c; below = below }; leads = t.says });
+    answered = (refl, record { names = record { load = c; below = below }; may_come = may; leads = t.says });
   }
-  weighs s0 s1 position size load entries (Held held) g c below nothing t = record {
+  weighs s0 s1 position size load entries (Held held) g may c below nothing t = record {
     went = g;
     none = no_winning_size game (allowed_by game pass) position size load c below
         (not_won_by_verdict game pass s1 entries (after position load size) (Held held) g.sound nothing t);
-    answered = omega (arith, t.says.0, t.of_pass);
+    answered = omega (arith, t.says.before_last, t.of_pass);
   }
 
   -- ---- all sizes
 
   -- at the next size
   pub opens_size : (s0 s1 : Search) (position : Position) (room size : ℕ) (entries : List (Position × Verdict)) → IsOpenFrom game pass room s0 position
-      → WentOn game pass 0 (with_move s0 size game.target) s0 s1 entries → ((other : ℕ) → size < other → WinsBy game pass position other → ⊥)
+      → WentOn game pass (with_move s0 size game.target) s0 s1 entries → ((other : ℕ) → size < other → WinsBy game pass position other → ⊥)
       → IsOpenFrom game pass size s1 position
   opens_size s0 s1 position room size entries o g none = record {
     stands = stands_still game pass s0.path s1.path position g.goes.path o.stands;
@@ -230,10 +231,10 @@ module _ (game : GameNumbers) (pass : ℕ) where
 
   -- the verdict is also that of the search before
   pub finds_after : (s0 s1 s2 : Search) (past : List PathMove) (position : Position) (e1 e2 : List (Position × Verdict)) (verdict : Verdict)
-      → WentOn game pass 0 past s0 s1 e1 → FindsVerdict game pass 1 position s1 s2 e2 verdict → FindsVerdict game pass 1 position s0 s2 e2 verdict
+      → WentOn game pass past s0 s1 e1 → FindsVerdict game pass position s1 s2 e2 verdict → FindsVerdict game pass position s0 s2 e2 verdict
   finds_after s0 s1 s2 past position e1 e2 verdict g f = record {
     went = record {
-      goes = Goes-trans 0 1 s0 s1 s2 g.goes f.went.goes;
+      goes = Goes-trans s0 s1 s2 g.goes f.went.goes;
       sound = f.went.sound;
       passed = subst (HasPassed s2.meter pass) g.goes.path f.went.passed;
     };
@@ -242,12 +243,12 @@ module _ (game : GameNumbers) (pass : ℕ) where
 
   -- past one more size
   pub past_more : (s0 s1 s2 : Search) (position : Position) (room tried : ℕ) (e1 e2 : List (Position × Verdict)) (weighed : Weighed)
-      → WentOn game pass 0 (with_move s0 (room - tried) game.target) s0 s1 e1 → HasAnswered game pass (room - tried) position s1 s2 e2 weighed
-      → WentOn game pass 0 (with_move s0 (room - (tried + 1)) game.target) s0 s2 e2
+      → WentOn game pass (with_move s0 (room - tried) game.target) s0 s1 e1 → HasAnswered game pass (room - tried) position s1 s2 e2 weighed
+      → WentOn game pass (with_move s0 (room - (tried + 1)) game.target) s0 s2 e2
   past_more s0 s1 s2 position room tried e1 e2 weighed g a =
       let next : room - tried - 1 ≡ room - (tried + 1) = omega arith in
-      subst (λ size. WentOn game pass 0 (with_move s0 size game.target) s0 s2 e2) next
-      (WentOn-then game pass 0 0 (room - tried - 1) game.target (with_move s0 (room - tried) game.target) s0 s1 s2 e1 e2 g a.went)
+      subst (λ size. WentOn game pass (with_move s0 size game.target) s0 s2 e2) next
+      (WentOn-then game pass (room - tried - 1) game.target (with_move s0 (room - tried) game.target) s0 s1 s2 e1 e2 g a.went)
 
   pub none_more : (position : Position) (room tried : ℕ) → tried < room → ((size : ℕ) → room - tried < size → WinsBy game pass position size → ⊥)
       → (WinsBy game pass position (room - tried) → ⊥) → (size : ℕ) → room - (tried + 1) < size → WinsBy game pass position size → ⊥
@@ -267,22 +268,22 @@ module _ (game : GameNumbers) (pass : ℕ) where
       ∙ ap (λ x. numbers_down room tried ++ x ∷ []) e ∙ sym (map-range_with_len_more (λ k. room - k) 0 tried tried (omega arith))
 
   pub replies_still : (s1 s2 : Search) (position : Position) (past : List PathMove) (entries : List Entry) (e2 : List (Position × Verdict))
-      → WentOn game pass 0 past s1 s2 e2 → All (IsReply game s1.replies.nodes position) entries → All (IsReply game s2.replies.nodes position) entries
+      → WentOn game pass past s1 s2 e2 → All (IsPending game s1.replies.nodes position) entries → All (IsPending game s2.replies.nodes position) entries
   replies_still s1 s2 position past entries e2 g all =
-      All-weaker (IsReply game s1.replies.nodes position) (IsReply game s2.replies.nodes position)
-      (λ entry r. IsReply-goes game s1.replies.nodes s2.replies.nodes position entry g.goes.replies r) entries all
+      All-weaker (IsPending game s1.replies.nodes position) (IsPending game s2.replies.nodes position)
+      (λ entry r. IsPending-goes game s1.replies.nodes s2.replies.nodes position entry g.goes.replies r) entries all
 
   pub replies_more : (s1 s2 : Search) (position : Position) (past : List PathMove) (entry : Entry) (entries more : List Entry) (e2 : List (Position × Verdict))
-      → WentOn game pass 0 past s1 s2 e2 → All (IsReply game s1.replies.nodes position) entries → IsReply game s2.replies.nodes position entry
-      → more ≡ entries ++ entry ∷ [] → All (IsReply game s2.replies.nodes position) more
+      → WentOn game pass past s1 s2 e2 → All (IsPending game s1.replies.nodes position) entries → IsPending game s2.replies.nodes position entry
+      → more ≡ entries ++ entry ∷ [] → All (IsPending game s2.replies.nodes position) more
   replies_more s1 s2 position past entry entries more e2 g all r is =
-      subst (All (IsReply game s2.replies.nodes position)) (sym is)
-      (All-push (IsReply game s2.replies.nodes position) entries entry (replies_still s1 s2 position past entries e2 g all) r)
+      subst (All (IsPending game s2.replies.nodes position)) (sym is)
+      (All-push (IsPending game s2.replies.nodes position) entries entry (replies_still s1 s2 position past entries e2 g all) r)
 
   -- a position with a reply to each size is never won
   pub never_by_replies : (s : Search) (position : Position) (room : ℕ) (replies : List Entry) (entries : List (Position × Verdict)) → IsSound game pass s entries
-      → ReplyToAll game s.replies.nodes position room replies → IsNeverWon game position
-  never_by_replies s position room replies entries sound r = IsNeverWon-answered game position (λ size packable.
+      → AreOfAll game position room replies → All (IsPending game s.replies.nodes position) replies → IsNeverWon game position
+  never_by_replies s position room replies entries sound r each = IsNeverWon-answered game position (λ size packable.
       let size_of : Entry → ℕ = λ entry. entry.size in
       let none : Entry = record { size = 0; load = 0; to = 0 } in
       let low = (size_of_last game position.items size packable).low in
@@ -290,7 +291,7 @@ module _ (game : GameNumbers) (pass : ℕ) where
       let len : length replies ≡ room = sym (length-map replies size_of) ∙ ap length r.sizes ∙ length-map-range_with_len (λ k. room - k) 0 room in
       let within : room - size < length replies = omega (arith, len, low, high) in
       let entry : Entry = get_or replies (room - size) none in
-      let reply = r.each (room - size) none within in
+      let reply = each (room - size) none within in
       let down_to = get_or-map-range_with_len (λ k. room - k) 0 room (room - size) (room - size) 0 (omega (arith, low, high)) (omega arith) in
       let is : entry.size ≡ size = sym (get_or-map size_of replies (room - size) none 0 within) ∙ ap (λ xs. get_or xs (room - size) 0) r.sizes ∙ down_to ∙
       omega (arith, low, high) in
@@ -299,5 +300,5 @@ module _ (game : GameNumbers) (pass : ℕ) where
         member = reply.names.load;
         below = subst (λ x. entry.load + x < game.target) is reply.names.below;
         never = subst (λ x. IsNeverWon game (after position entry.load x)) is
-            (never_by_node game pass s.meter s.wins s.replies entries (after position entry.load entry.size) entry.to sound reply.leads);
+            (never_by_led game pass s.meter s.wins s.replies entries (after position entry.load entry.size) entry.to sound reply.leads);
       })

@@ -1,8 +1,8 @@
 -- How a search keeps what it keeps: pools that go on, verdicts that stay true, and states that stay sound.
-use Rattle.std.proofs.Common.{◌≡◌, ℕ, zero, suc, ◌+◌, ◌<◌, ◌≤◌, Some, List, [], ◌∷◌, ◌++◌, map, length}
+use Rattle.std.proofs.Common.{◌≡◌, ℕ, zero, suc, ◌≤◌, Some, List, [], ◌∷◌, ◌++◌, map, length}
 use Rattle.std.proofs.Common.{refl, sym, ap, ◌∙◌, subst, append_assoc, inl, inr, arith}
 use Rattle.std.specs.Prelude.{All, slice_get}
-use Rattle.std.proofs.lemmas.List.{append-nil, map-append, length_push}
+use Rattle.std.proofs.lemmas.List.{append-nil, map-append}
 use Rattle.std.proofs.lemmas.List.Elements.{All-push, All-weaker}
 use Rattle.std.proofs.lemmas.Option.{slice_get-map, get_or_from_slice_get, slice_get_within, none-some}
 use Rattle.items.specs.Game.{GameNumbers}
@@ -26,7 +26,7 @@ use Rattle.monotone.specs.Visits.{Visit, Metered, IsLater, IsVisit, counted}
 use Rattle.monotone.proofs.VisitLemmas.{CountsVisits-counted}
 use Rattle.transposition.specs.declared.verdict.Verdict.{Verdict}
 use Rattle.transposition.specs.declared.verdict.Verdict.TheVariants.{Adversary, Algorithm, Held}
-use Rattle.minimax.specs.State.{AreKnown, AreSound, FollowsUp, GoesOn, IsNeverWon, IsNoWin, IsReply, IsSound, IsWonIn}
+use Rattle.minimax.specs.State.{AreKnown, AreSound, FollowsUp, GoesOn, IsLed, IsNeverWon, IsNoWin, IsPending, IsReply, IsSound, IsWonIn}
 use Rattle.minimax.specs.State.{PutsOnly, PutsReply, PutsWin, Says, Tells, allowed_by}
 use Rattle.minimax.specs.declared.expanding.Search.{Search}
 use Rattle.minimax.proofs.WinLemmas.{IsWonIn-later}
@@ -72,10 +72,15 @@ all_stand f P xs n p all h =
 
 -- ---- verdicts
 
+pub IsLed-goes : (game : GameNumbers) (replies more : List AlgNode) (position : Position) (number : ℕ) → GoesOn replies more
+    → IsLed game replies position number → IsLed game more position number
+IsLed-goes game replies more position number g (inl h) = inl (StandsAt-goes algorithm.position_of replies more number position g h)
+IsLed-goes game replies more position number g (inr h) = inr h
+
 pub Says-goes : (game : GameNumbers) (wins more_wins : List AdvNode) (replies more_replies : List AlgNode) (position : Position) (verdict : Verdict)
     → GoesOn wins more_wins → GoesOn replies more_replies → Says game wins replies position verdict → Says game more_wins more_replies position verdict
 Says-goes game wins more_wins replies more_replies position (Adversary number) g h s = StandsAt-goes adversary.position_of wins more_wins number position g s
-Says-goes game wins more_wins replies more_replies position (Algorithm number) g h s = StandsAt-goes algorithm.position_of replies more_replies number position h s
+Says-goes game wins more_wins replies more_replies position (Algorithm number) g h s = IsLed-goes game replies more_replies position number h s
 Says-goes game wins more_wins replies more_replies position (Held held) g h s = s
 
 -- where a verdict is a win of the adversary, it wins this pass
@@ -90,13 +95,19 @@ pub never_by_node : (game : GameNumbers) (pass : ℕ) (meter : Metered) (wins : 
     → IsNeverWon game position
 never_by_node game pass meter wins replies entries position number s h = all_stand algorithm.position_of (IsNeverWon game) replies.nodes number position s.lost h
 
+-- so where it finishes
+pub never_by_led : (game : GameNumbers) (pass : ℕ) (meter : Metered) (wins : adversary_pools.Pool) (replies : algorithm_pools.Pool) (entries : List (Position × Verdict))
+    (position : Position) (number : ℕ) → AreSound game pass meter wins replies entries → IsLed game replies.nodes position number → IsNeverWon game position
+never_by_led game pass meter wins replies entries position number s (inl h) = never_by_node game pass meter wins replies entries position number s h
+never_by_led game pass meter wins replies entries position number s (inr h) = h.never
+
 -- a verdict that is no win of the adversary says that it does not win this pass
 pub not_won_by_verdict : (game : GameNumbers) (pass : ℕ) (search : Search) (entries : List (Position × Verdict)) (position : Position) (verdict : Verdict)
     → IsSound game pass search entries → IsNoWin verdict → Tells game pass search position verdict → IsWonIn game pass position → ⊥
 not_won_by_verdict game pass state entries position (Adversary number) s nothing t won = nothing
 not_won_by_verdict game pass state entries position (Algorithm number) s nothing t won =
-    never_by_node game pass state.meter state.wins state.replies entries position number s t.says (allowed_by game pass) won
-not_won_by_verdict game pass state entries position (Held held) s nothing t won = t.says.1 (subst (λ k. IsWonIn game k position) (sym t.of_pass) won)
+    never_by_led game pass state.meter state.wins state.replies entries position number s t.says (allowed_by game pass) won
+not_won_by_verdict game pass state entries position (Held held) s nothing t won = t.says.not_won (subst (λ k. IsWonIn game k position) (sym t.of_pass) won)
 
 -- ---- what follows an item
 
@@ -114,6 +125,11 @@ pub IsReply-goes : (game : GameNumbers) (replies more : List AlgNode) (position 
     → IsReply game replies position entry → IsReply game more position entry
 IsReply-goes game replies more position entry g r = record { names = r.names; leads = StandsAt-goes algorithm.position_of replies more entry.to _ g r.leads }
 
+pub IsPending-goes : (game : GameNumbers) (replies more : List AlgNode) (position : Position) (entry : Entry) → GoesOn replies more
+    → IsPending game replies position entry → IsPending game more position entry
+IsPending-goes game replies more position entry g p =
+    record { names = p.names; may_come = p.may_come; leads = IsLed-goes game replies more (after position entry.load entry.size) entry.to g p.leads }
+
 -- ---- states that stay sound
 
 module _ (game : GameNumbers) (pass : ℕ) (meter : Metered) (wins : adversary_pools.Pool) (replies : algorithm_pools.Pool) (entries : List (Position × Verdict)) where
@@ -126,7 +142,6 @@ module _ (game : GameNumbers) (pass : ℕ) (meter : Metered) (wins : adversary_p
     replies_game = s.replies_game;
     replies_format = s.replies_format;
     counts = s.counts;
-    few = s.few;
     within = s.within;
     budget = s.budget;
     won = s.won;
@@ -152,7 +167,6 @@ module _ (game : GameNumbers) (pass : ℕ) (meter : Metered) (wins : adversary_p
     replies_game = s.replies_game;
     replies_format = s.replies_format;
     counts = CountsVisits-counted (whole_game game) meter next s.counts is later;
-    few = omega (arith, s.few);
     within = omega (arith, s.within, left);
     budget = s.budget;
     won = s.won;
@@ -162,15 +176,14 @@ module _ (game : GameNumbers) (pass : ℕ) (meter : Metered) (wins : adversary_p
 
   -- after a node of the adversary at a won position
   pub AreSound-win : (after : adversary_pools.Pool) (position : Position) (number : ℕ) → AreSound game pass meter wins replies entries
-      → PutsWin wins after position number → IsWonIn game pass position → length wins.nodes + length replies.nodes < meter.count
+      → PutsWin wins after position number → IsWonIn game pass position
       → AreSound game pass meter after replies entries
-  AreSound-win after position number s p won spare = subst (λ w. AreSound game pass meter w replies entries) (sym p.pool) (record {
+  AreSound-win after position number s p won = subst (λ w. AreSound game pass meter w replies entries) (sym p.pool) (record {
     wins_game = s.wins_game;
     wins_format = s.wins_format;
     replies_game = s.replies_game;
     replies_format = s.replies_format;
     counts = s.counts;
-    few = omega (arith, spare, length_push wins.nodes p.node);
     within = s.within;
     budget = s.budget;
     won = All-push (λ node. IsWonIn game pass (adversary.position_of node)) wins.nodes p.node s.won (subst (IsWonIn game pass) (sym p.stands) won);
@@ -181,15 +194,14 @@ module _ (game : GameNumbers) (pass : ℕ) (meter : Metered) (wins : adversary_p
 
   -- after a node of the algorithm at a position that is never won
   pub AreSound-reply : (after : algorithm_pools.Pool) (position : Position) (number : ℕ) → AreSound game pass meter wins replies entries
-      → PutsReply replies after position number → IsNeverWon game position → length wins.nodes + length replies.nodes < meter.count
+      → PutsReply replies after position number → IsNeverWon game position
       → AreSound game pass meter wins after entries
-  AreSound-reply after position number s p never spare = subst (λ r. AreSound game pass meter wins r entries) (sym p.pool) (record {
+  AreSound-reply after position number s p never = subst (λ r. AreSound game pass meter wins r entries) (sym p.pool) (record {
     wins_game = s.wins_game;
     wins_format = s.wins_format;
     replies_game = s.replies_game;
     replies_format = s.replies_format;
     counts = s.counts;
-    few = omega (arith, spare, length_push replies.nodes p.node);
     within = s.within;
     budget = s.budget;
     won = s.won;
@@ -206,7 +218,6 @@ module _ (game : GameNumbers) (pass : ℕ) (meter : Metered) (wins : adversary_p
     replies_game = s.replies_game;
     replies_format = s.replies_format;
     counts = s.counts;
-    few = s.few;
     within = s.within;
     budget = s.budget;
     won = All-weaker (λ node. IsWonIn game pass (adversary.position_of node)) (λ node. IsWonIn game later (adversary.position_of node))

@@ -30,10 +30,11 @@ use Rattle.transposition.specs.Memo.{verdict_of}
 use Rattle.transposition.specs.declared.verdict.Verdict.{Verdict}
 use Rattle.transposition.specs.declared.verdict.Verdict.TheVariants.{Adversary, Algorithm, Held}
 use Rattle.minimax.specs.Settled.{AreSettledFrom, IsSettledMove}
-use Rattle.minimax.specs.State.{IsBound, AreSound, FindsVerdict, FollowsUp, Goes, HasPassed, HasReached, IsNeverWon, IsOfPass, IsOpenAt, IsOpenFrom}
+use Rattle.minimax.specs.State.{IsBound, IsFinish, AreSound, FindsVerdict, FollowsUp, Goes, HasPassed, HasReached, IsHeld, IsNeverWon, IsOfPass, IsOpenAt, IsOpenFrom}
 use Rattle.minimax.specs.State.{IsSound, IsWonIn, MayCome, MayVisit, PutsOnly, PutsReply, PutsWin, Says, StandsAtPath, Tells, WentOn}
-use Rattle.minimax.specs.State.{allowed_by, nodes_in, reached_by, with_move}
+use Rattle.minimax.specs.State.{allowed_by, reached_by, with_move}
 use Rattle.minimax.specs.declared.expanding.Search.{Search}
+use Rattle.minimax.specs.declared.finish_nodes.TheConstants.{FINISHES}
 use Rattle.minimax.proofs.PastLemmas.{HasPassed-later, HasPassed-moves, HasPassed-path, HasPassed-visited}
 use Rattle.minimax.proofs.PlayableLemmas.{IsPlayable-after}
 use Rattle.minimax.proofs.StateLemmas.{AreSound-counted, AreSound-known, AreSound-put, AreSound-reply, AreSound-win}
@@ -50,50 +51,43 @@ passed_on P Q fault (Err other) h q = subst Q (sym h) q
 
 -- ---- going on
 
-pub Goes-refl : (search : Search) → Goes 0 search search
+pub Goes-refl : (search : Search) → Goes search search
 Goes-refl s = record {
   wins = GoesOn-refl s.wins.nodes;
   replies = GoesOn-refl s.replies.nodes;
   path = refl;
   most = refl;
   budget = refl;
-  counted = omega arith;
 }
 
-pub Goes-trans : (a b : ℕ) (s0 s1 s2 : Search) → Goes a s0 s1 → Goes b s1 s2 → Goes (a + b) s0 s2
-Goes-trans a b s0 s1 s2 g h = record {
+pub Goes-trans : (s0 s1 s2 : Search) → Goes s0 s1 → Goes s1 s2 → Goes s0 s2
+Goes-trans s0 s1 s2 g h = record {
   wins = GoesOn-trans s0.wins.nodes s1.wins.nodes s2.wins.nodes g.wins h.wins;
   replies = GoesOn-trans s0.replies.nodes s1.replies.nodes s2.replies.nodes g.replies h.replies;
   path = h.path ∙ g.path;
   most = h.most ∙ g.most;
   budget = h.budget ∙ g.budget;
-  counted = omega (arith, g.counted, h.counted);
 }
 
 module _ (game : GameNumbers) (pass : ℕ) where
   pub WentOn-refl : (past : List PathMove) (s : Search) (entries : List (Position × Verdict)) → IsSound game pass s entries → HasPassed s.meter pass past
-      → WentOn game pass 0 past s s entries
+      → WentOn game pass past s s entries
   WentOn-refl past s entries sound passed = record { goes = Goes-refl s; sound = sound; passed = passed }
 
   -- one step after another; what is past a move of the path is so from either state
-  pub WentOn-then : (a b size load : ℕ) (past : List PathMove) (s0 s1 s2 : Search) (e1 e2 : List (Position × Verdict)) → WentOn game pass a past s0 s1 e1
-      → WentOn game pass b (with_move s1 size load) s1 s2 e2 → WentOn game pass (a + b) (with_move s0 size load) s0 s2 e2
-  WentOn-then a b size load past s0 s1 s2 e1 e2 g h = record {
-    goes = Goes-trans a b s0 s1 s2 g.goes h.goes;
+  pub WentOn-then : (size load : ℕ) (past : List PathMove) (s0 s1 s2 : Search) (e1 e2 : List (Position × Verdict)) → WentOn game pass past s0 s1 e1
+      → WentOn game pass (with_move s1 size load) s1 s2 e2 → WentOn game pass (with_move s0 size load) s0 s2 e2
+  WentOn-then size load past s0 s1 s2 e1 e2 g h = record {
+    goes = Goes-trans s0 s1 s2 g.goes h.goes;
     sound = h.sound;
     passed = subst (λ p. HasPassed s2.meter pass (p ++ moved size load ∷ [])) g.goes.path h.passed;
   }
 
   -- past a later move
-  pub WentOn-later : (spare : ℕ) (a b : PathMove) (s0 s1 : Search) (entries : List (Position × Verdict)) → IsEarlierMove a b
-      → WentOn game pass spare (s0.path ++ a ∷ []) s0 s1 entries → WentOn game pass spare (s0.path ++ b ∷ []) s0 s1 entries
-  WentOn-later spare a b s0 s1 entries l g =
+  pub WentOn-later : (a b : PathMove) (s0 s1 : Search) (entries : List (Position × Verdict)) → IsEarlierMove a b
+      → WentOn game pass (s0.path ++ a ∷ []) s0 s1 entries → WentOn game pass (s0.path ++ b ∷ []) s0 s1 entries
+  WentOn-later a b s0 s1 entries l g =
       record { goes = g.goes; sound = g.sound; passed = HasPassed-moves s1.meter pass s0.path a b l g.passed }
-
-  -- there are fewer nodes than visits still
-  pub spare_still : (past : List PathMove) (s0 s1 : Search) (entries : List (Position × Verdict)) → WentOn game pass 0 past s0 s1 entries
-      → nodes_in s0 < s0.meter.count → nodes_in s1 < s1.meter.count
-  spare_still past s0 s1 entries g spare = omega (arith, g.goes.counted, spare)
 
   -- the path leads where it led
   pub stands_still : (path more : List PathMove) (position : Position) → more ≡ path → StandsAtPath game pass path position → StandsAtPath game pass more position
@@ -103,7 +97,7 @@ module _ (game : GameNumbers) (pass : ℕ) where
 
   pub finds_known : (s : Search) (position : Position) (entries more : List (Position × Verdict)) (verdict : Verdict) → IsSound game pass s entries
       → MayVisit game pass s position → verdict_of entries position ≡ Some verdict → IsOfPass pass verdict → SameEntries are_equal entries more
-      → FindsVerdict game pass 0 position s s more verdict
+      → FindsVerdict game pass position s s more verdict
   finds_known s position entries more verdict sound may told of same = record {
     went = WentOn-refl s.path s more
         (AreSound-known game pass s.meter s.wins s.replies entries more sound (λ p v e. sound.known p v (sym (same.values p) ∙ e)))
@@ -120,8 +114,8 @@ module _ (game : GameNumbers) (pass : ℕ) where
       (record { from_first = omega arith; to_last = may.stands.of_game; legal = may.stands.legal }) may.later left
 
   pub finds_expanded : (s0 s2 : Search) (meter : Metered) (position : Position) (entries more : List (Position × Verdict)) (verdict : Verdict)
-      → meter ≡ counted s0.meter (visit pass s0.path) → FindsVerdict game pass 1 position (record s0 { meter = meter }) s2 entries verdict
-      → PutsOnly entries more position verdict → FindsVerdict game pass 0 position s0 s2 more verdict
+      → meter ≡ counted s0.meter (visit pass s0.path) → FindsVerdict game pass position (record s0 { meter = meter }) s2 entries verdict
+      → PutsOnly entries more position verdict → FindsVerdict game pass position s0 s2 more verdict
   finds_expanded s0 s2 meter position entries more verdict e f puts =
       let g = f.went.goes in
       record {
@@ -132,7 +126,6 @@ module _ (game : GameNumbers) (pass : ℕ) where
             path = g.path;
             most = g.most;
             budget = g.budget ∙ ap (λ m. m.budget) e;
-            counted = omega (arith, g.counted, ap (λ m. m.count) e);
           };
           sound = AreSound-put game pass s2.meter s2.wins s2.replies entries more position verdict f.went.sound puts f.tells.says;
           passed = f.went.passed;
@@ -140,13 +133,25 @@ module _ (game : GameNumbers) (pass : ℕ) where
         tells = f.tells;
       }
 
+  -- the position finishes
+  pub finds_finish : (s0 : Search) (meter : Metered) (position : Position) (entries more : List (Position × Verdict))
+      → meter ≡ counted s0.meter (visit pass s0.path) → AreSound game pass meter s0.wins s0.replies entries → meter.last ≡ Some (visit pass s0.path)
+      → IsFinish game position FINISHES → PutsOnly entries more position (Algorithm FINISHES)
+      → FindsVerdict game pass position s0 (record s0 { meter = meter }) more (Algorithm FINISHES)
+  finds_finish s0 meter position entries more e sound last finish puts =
+      finds_expanded s0 (record s0 { meter = meter }) meter position entries more (Algorithm FINISHES) e (record {
+        went = WentOn-refl s0.path (record s0 { meter = meter }) entries sound
+            (HasPassed-path meter pass s0.path (moved 0 0) (HasPassed-visited meter pass s0.path (moved 0 0) last));
+        tells = record { says = inr finish; of_pass = tt };
+      }) puts
+
   -- ---- a decision
 
   -- a node of the algorithm gives the verdict
   pub finds_reply : (s0 s1 : Search) (replies : algorithm_pools.Pool) (a : PathMove) (position : Position) (entries : List (Position × Verdict)) (number : ℕ)
-      → WentOn game pass 0 (s0.path ++ a ∷ []) s0 s1 entries → nodes_in s0 < s0.meter.count → PutsReply s1.replies replies position number
-      → IsNeverWon game position → FindsVerdict game pass 1 position s0 (record s1 { replies = replies }) entries (Algorithm number)
-  finds_reply s0 s1 replies a position entries number g spare p never =
+      → WentOn game pass (s0.path ++ a ∷ []) s0 s1 entries → PutsReply s1.replies replies position number
+      → IsNeverWon game position → FindsVerdict game pass position s0 (record s1 { replies = replies }) entries (Algorithm number)
+  finds_reply s0 s1 replies a position entries number g p never =
       let nodes : replies.nodes ≡ s1.replies.nodes ++ p.node ∷ [] = ap (λ r. r.nodes) p.pool in
       record {
         went = record {
@@ -156,23 +161,21 @@ module _ (game : GameNumbers) (pass : ℕ) where
             path = g.goes.path;
             most = g.goes.most;
             budget = g.goes.budget;
-            counted = omega (arith, g.goes.counted, ap length nodes, length_push s1.replies.nodes p.node);
           };
-          sound = AreSound-reply game pass s1.meter s1.wins s1.replies entries replies position number g.sound p never
-              (spare_still (s0.path ++ a ∷ []) s0 s1 entries g spare);
+          sound = AreSound-reply game pass s1.meter s1.wins s1.replies entries replies position number g.sound p never;
           passed = HasPassed-path s1.meter pass s0.path a g.passed;
         };
         tells = record {
-          says = StandsAt-last algorithm.position_of s1.replies.nodes replies.nodes p.node number position nodes p.is_last p.stands;
+          says = inl (StandsAt-last algorithm.position_of s1.replies.nodes replies.nodes p.node number position nodes p.is_last p.stands);
           of_pass = tt;
         };
       }
 
   -- a node of the adversary gives the verdict
   pub finds_win : (s0 s1 : Search) (wins : adversary_pools.Pool) (a : PathMove) (position : Position) (entries : List (Position × Verdict)) (number : ℕ)
-      → WentOn game pass 0 (s0.path ++ a ∷ []) s0 s1 entries → nodes_in s0 < s0.meter.count → PutsWin s1.wins wins position number
-      → IsWonIn game pass position → FindsVerdict game pass 1 position s0 (record s1 { wins = wins }) entries (Adversary number)
-  finds_win s0 s1 wins a position entries number g spare p won =
+      → WentOn game pass (s0.path ++ a ∷ []) s0 s1 entries → PutsWin s1.wins wins position number
+      → IsWonIn game pass position → FindsVerdict game pass position s0 (record s1 { wins = wins }) entries (Adversary number)
+  finds_win s0 s1 wins a position entries number g p won =
       let nodes : wins.nodes ≡ s1.wins.nodes ++ p.node ∷ [] = ap (λ w. w.nodes) p.pool in
       record {
         went = record {
@@ -182,10 +185,8 @@ module _ (game : GameNumbers) (pass : ℕ) where
             path = g.goes.path;
             most = g.goes.most;
             budget = g.goes.budget;
-            counted = omega (arith, g.goes.counted, ap length nodes, length_push s1.wins.nodes p.node);
           };
-          sound = AreSound-win game pass s1.meter s1.wins s1.replies entries wins position number g.sound p won
-              (spare_still (s0.path ++ a ∷ []) s0 s1 entries g spare);
+          sound = AreSound-win game pass s1.meter s1.wins s1.replies entries wins position number g.sound p won;
           passed = HasPassed-path s1.meter pass s0.path a g.passed;
         };
         tells = record {
@@ -196,9 +197,9 @@ module _ (game : GameNumbers) (pass : ℕ) where
 
   -- that no size wins gives the verdict
   pub finds_held : (s0 s1 : Search) (a : PathMove) (position : Position) (entries : List (Position × Verdict))
-      → WentOn game pass 0 (s0.path ++ a ∷ []) s0 s1 entries → pass + 1 < game.capacity → (IsWonIn game pass position → ⊥)
-      → FindsVerdict game pass 1 position s0 s1 entries (Held pass)
-  finds_held s0 s1 a position entries g before none = record {
+      → WentOn game pass (s0.path ++ a ∷ []) s0 s1 entries → IsHeld game pass position
+      → FindsVerdict game pass position s0 s1 entries (Held pass)
+  finds_held s0 s1 a position entries g held = record {
     went = record {
       goes = record {
         wins = g.goes.wins;
@@ -206,23 +207,22 @@ module _ (game : GameNumbers) (pass : ℕ) where
         path = g.goes.path;
         most = g.goes.most;
         budget = g.goes.budget;
-        counted = omega (arith, g.goes.counted);
       };
       sound = g.sound;
       passed = HasPassed-path s1.meter pass s0.path a g.passed;
     };
-    tells = record { says = (before, none); of_pass = refl };
+    tells = record { says = held; of_pass = refl };
   }
 
   -- the bound on the room is put back
-  pub finds_decided : (s0 s1 : Search) (room : ℕ) (position : Position) (entries : List (Position × Verdict)) (verdict : Verdict)
-      → FindsVerdict game pass 1 position (record s0 { most = room }) s1 entries verdict
-      → FindsVerdict game pass 1 position s0 (record s1 { most = s0.most }) entries verdict
-  finds_decided s0 s1 room position entries verdict f =
+  pub finds_decided : (s0 s1 : Search) (rooms : GameNumbers) (room : ℕ) (position : Position) (entries : List (Position × Verdict)) (verdict : Verdict)
+      → FindsVerdict game pass position (record s0 { rooms = rooms; most = room }) s1 entries verdict
+      → FindsVerdict game pass position s0 (record s1 { most = s0.most }) entries verdict
+  finds_decided s0 s1 rooms room position entries verdict f =
       let g = f.went.goes in
       record {
         went = record {
-          goes = record { wins = g.wins; replies = g.replies; path = g.path; most = refl; budget = g.budget; counted = g.counted };
+          goes = record { wins = g.wins; replies = g.replies; path = g.path; most = refl; budget = g.budget };
           sound = f.went.sound;
           passed = f.went.passed;
         };
@@ -230,10 +230,10 @@ module _ (game : GameNumbers) (pass : ℕ) where
       }
 
   -- after a visit the sizes from the room on are to be weighed
-  pub opens : (s : Search) (position : Position) (room : ℕ) → StandsAtPath game pass s.path position → s.meter.last ≡ Some (visit pass s.path)
+  pub opens : (s : Search) (rooms : GameNumbers) (position : Position) (room : ℕ) → StandsAtPath game pass s.path position → s.meter.last ≡ Some (visit pass s.path)
       → (Finishes game position.loads → ⊥) → IsRoom game position.items room
-      → IsOpenFrom game pass room (record s { most = room }) position
-  opens s position room stands last unfinished is_room = record {
+      → IsOpenFrom game pass room (record s { rooms = rooms; most = room }) position
+  opens s rooms position room stands last unfinished is_room = record {
     stands = stands;
     bound = λ size p. le_room game position.items room size is_room p;
     unfinished = unfinished;
@@ -312,15 +312,15 @@ module _ (game : GameNumbers) (pass : ℕ) where
   -- what the position after the item comes to
   pub reached_child : (s0 s2 : Search) (path back : List PathMove) (o : Option PathMove) (position child : Position) (size load : ℕ)
       (entries : List (Position × Verdict)) (verdict : Verdict) → load + size < game.target → path ≡ with_move s0 size load → child ≡ after position load size
-      → FindsVerdict game pass 0 child (record s0 { path = path }) s2 entries verdict
+      → FindsVerdict game pass child (record s0 { path = path }) s2 entries verdict
       → MatchOption o ((s2.path ≡ []) × (back ≡ [])) (λ last. s2.path ≡ back ++ last ∷ [])
-      → WentOn game pass 0 (with_move s0 size load) s0 (record s2 { path = back }) entries
+      → WentOn game pass (with_move s0 size load) s0 (record s2 { path = back }) entries
       × HasReached game pass (record s2 { path = back }) position size load (reached_by verdict)
   reached_child s0 s2 path back o position child size load entries verdict below e f finds h =
       let g = finds.went.goes in
       let base : back ≡ s0.path = popped s2.path back s0.path (moved size load) o (g.path ∙ e) h in (
         record {
-          goes = record { wins = g.wins; replies = g.replies; path = base; most = g.most; budget = g.budget; counted = g.counted };
+          goes = record { wins = g.wins; replies = g.replies; path = base; most = g.most; budget = g.budget };
           sound = finds.went.sound;
           passed = subst (HasPassed s2.meter pass) e finds.went.passed;
         },
@@ -334,7 +334,7 @@ module _ (game : GameNumbers) (pass : ℕ) where
   -- a load at which the item reaches the target
   pub reached_over : (s : Search) (position : Position) (size load : ℕ) (entries : List (Position × Verdict)) → IsSound game pass s entries
       → IsOpenAt game pass size load s position → game.target ≤ load + size
-      → WentOn game pass 0 (with_move s size load) s s entries × FollowsUp game pass s position size (record { load = load; next = Over })
+      → WentOn game pass (with_move s size load) s s entries × FollowsUp game pass s position size (record { load = load; next = Over })
   reached_over s position size load entries sound o over = (
     WentOn-refl (with_move s size load) s entries sound (HasPassed-later s.meter pass (with_move s size load) o.later),
     record { over = (λ h. over, λ h. tt); leads = tt; won = inl over },

@@ -3,3 +3,6 @@ pub mod Answers
 pub mod State
 pub mod Budgets
 pub mod Fresh
+pub mod Serving
+pub mod Rooms
+pub mod Naming

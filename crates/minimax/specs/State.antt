@@ -38,6 +38,7 @@ use Rattle.transposition.specs.Memo.{verdict_of}
 use Rattle.transposition.specs.declared.verdict.Verdict.{Verdict}
 use Rattle.transposition.specs.declared.verdict.Verdict.TheVariants.{Adversary, Algorithm, Held}
 use Rattle.minimax.specs.Settled.{AreSettledFrom}
+use Rattle.minimax.specs.declared.finish_nodes.TheConstants.{FINISHES}
 use Rattle.minimax.specs.declared.expanding.Reached.{Reached}
 use Rattle.minimax.specs.declared.expanding.Reached.TheVariants.{Answers, ByNext}
 use Rattle.minimax.specs.declared.expanding.Search.{Search}
@@ -72,12 +73,27 @@ pub record IsPlayable (game : GameNumbers) (position : Position) : Type 0 where
 
 -- ---- what the table and the pools say
 
--- what a verdict says of a position: the node of its number stands there, or the adversary has no win in its pass,
--- which is not the last one
+-- the position finishes, which the greatest number of 32 bits tells in place of a node's number
+pub record IsFinish (game : GameNumbers) (position : Position) (number : ℕ) : Type 0 where
+  pub told : number ≡ FINISHES
+  pub finishes : Finishes game position.loads
+  pub never : IsNeverWon game position
+
+-- the algorithm's node of this number stands at the position, or the position finishes
+abbrev pub IsLed : GameNumbers → List AlgNode → Position → ℕ → Type 0
+IsLed game replies position number = StandsAt (map algorithm.position_of replies) number position ⊎ IsFinish game position number
+
+-- that the adversary has no win in a pass, which is not the last one
+pub record IsHeld (game : GameNumbers) (pass : ℕ) (position : Position) : Type 0 where
+  pub before_last : pass + 1 < game.capacity
+  pub not_won : IsWonIn game pass position → ⊥
+  pub unfinished : Finishes game position.loads → ⊥
+
+-- what a verdict says of a position: the node of its number stands there, or it finishes, or the adversary has no win
 abbrev pub Says : GameNumbers → List AdvNode → List AlgNode → Position → Verdict → Type 0
 Says game wins replies position (Adversary number) = StandsAt (map adversary.position_of wins) number position
-Says game wins replies position (Algorithm number) = StandsAt (map algorithm.position_of replies) number position
-Says game wins replies position (Held pass) = (pass + 1 < game.capacity) × (IsWonIn game pass position → ⊥)
+Says game wins replies position (Algorithm number) = IsLed game replies position number
+Says game wins replies position (Held pass) = IsHeld game pass position
 
 -- a verdict of this pass: that the adversary has no win is said of a pass
 abbrev pub IsOfPass : ℕ → Verdict → Type 0
@@ -91,12 +107,8 @@ AreKnown game wins replies entries =
     (position : Position) (verdict : Verdict) → verdict_of entries position ≡ Some verdict
     → Says game wins replies position verdict
 
--- how many nodes both pools have
-abbrev pub nodes_in : Search → ℕ
-nodes_in search = length search.wins.nodes + length search.replies.nodes
-
--- pools of the game, a meter that counted visits of it, no more nodes than visits, nodes of the adversary that are won
--- in this pass, nodes of the algorithm that are won in none, and entries that hold
+-- pools of the game, a meter that counted visits of it, nodes of the adversary that are won in this pass, nodes of the
+-- algorithm that are won in none, and entries that hold
 pub record AreSound (game : GameNumbers) (pass : ℕ) (meter : Metered) (wins : adversary_pools.Pool)
     (replies : algorithm_pools.Pool) (entries : List (Position × Verdict)) : Type 0 where
   pub wins_game : wins.game ≡ game
@@ -104,7 +116,6 @@ pub record AreSound (game : GameNumbers) (pass : ℕ) (meter : Metered) (wins : 
   pub replies_game : replies.game ≡ game
   pub replies_format : replies.format ≡ One
   pub counts : CountsVisits (whole_game game) meter
-  pub few : length wins.nodes + length replies.nodes ≤ meter.count
   pub within : meter.count ≤ meter.budget
   pub budget : meter.budget ≤ most_nodes
   pub won : All (λ node. IsWonIn game pass (adversary.position_of node)) wins.nodes
@@ -194,19 +205,18 @@ Stops game pass budget search Memory = Unit {0}
 abbrev pub GoesOn : {X : Type 0} → List X → List X → Type 0
 GoesOn {X} before after = (more : List X) × (after ≡ before ++ more)
 
--- the pools went on, path and budget are as before, and there are at most so many more new nodes than new visits
-pub record Goes (spare : ℕ) (before after : Search) : Type 0 where
+-- the pools went on, and path and budget are as before
+pub record Goes (before after : Search) : Type 0 where
   pub wins : GoesOn before.wins.nodes after.wins.nodes
   pub replies : GoesOn before.replies.nodes after.replies.nodes
   pub path : after.path ≡ before.path
   pub most : after.most ≡ before.most
   pub budget : after.meter.budget ≡ before.meter.budget
-  pub counted : nodes_in after + before.meter.count ≤ nodes_in before + after.meter.count + spare
 
 -- the search went on to a state that is sound, and to all visits past this path
-pub record WentOn (game : GameNumbers) (pass spare : ℕ) (past : List PathMove) (before after : Search)
+pub record WentOn (game : GameNumbers) (pass : ℕ) (past : List PathMove) (before after : Search)
     (entries : List (Position × Verdict)) : Type 0 where
-  pub goes : Goes spare before after
+  pub goes : Goes before after
   pub sound : IsSound game pass after entries
   pub passed : HasPassed after.meter pass past
 
@@ -217,9 +227,9 @@ pub record Tells (game : GameNumbers) (pass : ℕ) (search : Search) (position :
   pub of_pass : IsOfPass pass verdict
 
 -- the search of a position went on to a verdict
-pub record FindsVerdict (game : GameNumbers) (pass spare : ℕ) (position : Position) (before after : Search)
+pub record FindsVerdict (game : GameNumbers) (pass : ℕ) (position : Position) (before after : Search)
     (entries : List (Position × Verdict)) (verdict : Verdict) : Type 0 where
-  pub went : WentOn game pass spare before.path before after entries
+  pub went : WentOn game pass before.path before after entries
   pub tells : Tells game pass after position verdict
 
 -- no win of the adversary
@@ -252,6 +262,13 @@ HasTried game pass search position size (Answered load verdict) =
     Contains position.loads load × (load + size < game.target) × IsNoWin verdict
     × Tells game pass search (after position load size) verdict
 
+-- the entry names a load that stays below the target with its size, which may come, and leads to an earlier node or to
+-- a position that finishes
+pub record IsPending (game : GameNumbers) (replies : List AlgNode) (position : Position) (entry : Entry) : Type 0 where
+  pub names : NamesLoad game position.loads entry
+  pub may_come : Packable game (position.items ++ entry.size ∷ [])
+  pub leads : IsLed game replies (after position entry.load entry.size) entry.to
+
 -- the entry names a load that stays below the target with its size, and leads to an earlier node
 pub record IsReply (game : GameNumbers) (replies : List AlgNode) (position : Position) (entry : Entry) : Type 0 where
   pub names : NamesLoad game position.loads entry
@@ -261,20 +278,20 @@ pub record IsReply (game : GameNumbers) (replies : List AlgNode) (position : Pos
 abbrev pub IsAnswered : GameNumbers → ℕ → Search → Position → ℕ → Weighed → Type 0
 IsAnswered game pass search position size (Won number) = ⊥
 IsAnswered game pass search position size (Replied entry) =
-    (entry.size ≡ size) × IsReply game search.replies.nodes position entry
+    (entry.size ≡ size) × IsPending game search.replies.nodes position entry
 IsAnswered game pass search position size NoReply = pass + 1 < game.capacity
 
 -- a size was found not to win
 pub record HasAnswered (game : GameNumbers) (pass size : ℕ) (position : Position) (before after : Search)
     (entries : List (Position × Verdict)) (weighed : Weighed) : Type 0 where
-  pub went : WentOn game pass 0 (with_move before (size - 1) game.target) before after entries
+  pub went : WentOn game pass (with_move before (size - 1) game.target) before after entries
   pub none : WinsBy game pass position size → ⊥
   pub answered : IsAnswered game pass after position size weighed
 
 -- what a size comes to
 abbrev pub HasWeighed : GameNumbers → ℕ → ℕ → Position → Search → Search → List (Position × Verdict) → Weighed → Type 0
 HasWeighed game pass size position before after entries (Won number) =
-    FindsVerdict game pass 1 position before after entries (Adversary number)
+    FindsVerdict game pass position before after entries (Adversary number)
 HasWeighed game pass size position before after entries (Replied entry) =
     HasAnswered game pass size position before after entries (Replied entry)
 HasWeighed game pass size position before after entries NoReply =
@@ -328,11 +345,15 @@ pub record MayAct (pool : algorithm_pools.Pool) (position : Position) (act : Act
 abbrev pub numbers_down : ℕ → ℕ → List ℕ
 numbers_down high n = map (λ k. high - k) (range_with_len 0 n)
 
+-- the entries are of each size up to the room, from the largest on
+pub record AreOfAll (game : GameNumbers) (position : Position) (room : ℕ) (entries : List Entry) : Type 0 where
+  pub is_room : IsRoom game position.items room
+  pub sizes : map (λ (entry : Entry). entry.size) entries ≡ numbers_down room room
+
 -- the entries reply to each size up to the room, from the largest on
 pub record ReplyToAll (game : GameNumbers) (replies : List AlgNode) (position : Position) (room : ℕ)
     (entries : List Entry) : Type 0 where
-  pub is_room : IsRoom game position.items room
-  pub sizes : map (λ (entry : Entry). entry.size) entries ≡ numbers_down room room
+  pub of_all : AreOfAll game position room entries
   pub each : All (IsReply game replies position) entries
 
 -- ---- the table

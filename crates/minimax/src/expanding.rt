@@ -1,16 +1,20 @@
 //! The search of one pass: the expansion of positions.
 
-ghost use Rattle.std.specs.Prelude.{◌≡◌, ◌+◌, ◌-◌, ◌<◌, ◌++◌, ◌∷◌, [], Contains, MatchResult, OnOk, Some, sum};
+ghost use Rattle.std.specs.Prelude.{◌≡◌, ◌+◌, ◌-◌, ◌++◌, ◌∷◌, [], IfOk, MatchResult, Some, sum};
 ghost use Rattle.items.specs.Packable.{IsRoom, Packable};
-ghost use Rattle.loads.specs.After.{after};
+ghost use Rattle.good_situations.specs.Finish.{Finishes};
 ghost use Rattle.monotone.specs.Visits.{visit};
 ghost use Rattle.minimax.specs.Fresh.{KeepsCount, progress};
-ghost use Rattle.minimax.specs.State.{IsSound, IsPlayable, HasReached, HasTried, HasWeighed, FindsVerdict};
+ghost use Rattle.minimax.specs.Serving.{HasSpare, IsServedAt, IsServedBy, IsServedFor, IsServedWith, KeepsServing, taken_by};
+ghost use Rattle.minimax.specs.State.{IsSound, HasReached, HasTried, HasWeighed, FindsVerdict};
 ghost use Rattle.minimax.specs.State.{IsBound, IsOpenAt, IsOpenFrom, MayCome, MayVisit, StandsAtPath, Stops, WentOn};
-ghost use Rattle.minimax.specs.State.{kept_of, nodes_in, reached_by, with_move};
+ghost use Rattle.minimax.specs.State.{kept_of, reached_by, with_move};
 
-use crate::nodes::{push_finish, push_reply, push_win};
-use crate::table::{known, remember};
+use crate::finish_nodes::{FINISHES, FinishNodes};
+use crate::naming::{put, put_reply};
+use crate::nodes::{after, push_win};
+use crate::rooms::Rooms;
+use crate::table::{known, remember, remember_finish};
 use adversary_graph::AdvPool;
 use algorithm_graph::AlgPool;
 use good_situations::finishes;
@@ -18,8 +22,7 @@ use items::Game;
 use items::laws::game_is_legal;
 use loads::Position;
 use monotone::{Meter, Path, PathMove, VisitFault, allows};
-use reachable_loads::room_up_to;
-use std::alloc::{AllocError, Global};
+use std::alloc::Global;
 use strategy_text::{Entry, Placement, Placements, Then};
 use transposition::{Key, Memo, Verdict};
 
@@ -30,6 +33,8 @@ pub(crate) struct Search {
     pub(crate) meter: Meter,
     pub(crate) wins: AdvPool,
     pub(crate) replies: AlgPool,
+    pub(crate) finishes: FinishNodes,
+    pub(crate) rooms: Rooms,
     pub(crate) path: Path,
     // A bound on the room of the position that the path leads to: the room of the one before it.
     pub(crate) most: u16,
@@ -69,24 +74,32 @@ pub(crate) fn expand<M: Memo>(
 ) -> Result<Verdict, VisitFault>
     requires sound { IsSound game.now pass search.old (M.entries memo.old) }
     requires may { MayVisit game.now pass search.old position.now }
+    requires behind { HasSpare 0 search.old (M.entries memo.old) }
     ensures found { MatchResult result
-        (FindsVerdict game.now pass 0 position.now search.old search.new (M.entries memo.new))
+        (FindsVerdict game.now pass position.now search.old search.new (M.entries memo.new))
         (Stops game.now pass search.old.meter.budget search.new) }
     ensures counts { KeepsCount game.now pass (sum position.now.items)
         (progress search.old.meter (M.entries memo.old) (M.room memo.old))
         (progress search.new.meter (M.entries memo.new) (M.room memo.new)) result }
+    ensures serves { IfOk result (λ verdict. KeepsServing 0 search.old (M.entries memo.old)
+        search.new (M.entries memo.new) (λ later. IsServedBy later search.new position.now verdict)) }
 {
     let key = Key::of(search.alloc, &position.loads, &position.items)?;
     if let Some(verdict) = known(memo, &key, pass) {
         return Ok(verdict);
     }
     search.meter.visit(pass, &search.path)?;
+    game_is_legal(game);
+    if finishes(game, &position.loads) {
+        remember_finish(memo, key)?;
+        return Ok(Verdict::Algorithm(FINISHES));
+    }
     let verdict = decide(game, pass, search, memo, position)?;
     remember(memo, key, verdict)?;
     Ok(verdict)
 }
 
-// The verdict of a position that was visited.
+// The verdict of a position that was visited and does not finish.
 #[cycle(expanding)]
 fn decide<M: Memo>(
     game: &Game,
@@ -97,23 +110,23 @@ fn decide<M: Memo>(
 ) -> Result<Verdict, VisitFault>
     requires sound { IsSound game.now pass search.old (M.entries memo.old) }
     requires stands { StandsAtPath game.now pass search.old.path position.now }
+    requires unfinished { Finishes game.now position.now.loads → ⊥ }
     requires visited { search.old.meter.last ≡ Some (visit pass search.old.path) }
-    requires spare { nodes_in search.old < search.old.meter.count }
+    requires behind { HasSpare 1 search.old (M.entries memo.old) }
     requires bound { IsBound game.now position.now.items search.old.most }
     ensures found { MatchResult result
-        (FindsVerdict game.now pass 1 position.now search.old search.new (M.entries memo.new))
+        (FindsVerdict game.now pass position.now search.old search.new (M.entries memo.new))
         (Stops game.now pass search.old.meter.budget search.new) }
     ensures counts { KeepsCount game.now pass (sum position.now.items + 1)
         (progress search.old.meter (M.entries memo.old) (M.room memo.old))
         (progress search.new.meter (M.entries memo.new) (M.room memo.new)) result }
+    ensures serves { IfOk result (λ verdict. KeepsServing 1 search.old (M.entries memo.old)
+        search.new (M.entries memo.new) (λ later. IsServedBy later search.new position.now verdict)) }
 {
-    game_is_legal(game);
-    if finishes(game, &position.loads) {
-        let number = push_finish(search.alloc, &mut search.replies, position)?;
-        return Ok(Verdict::Algorithm(number));
-    }
     let most = search.most;
-    let room = room_up_to(search.alloc, game, &position.items, most)?;
+    let room = search
+        .rooms
+        .room_up_to(search.alloc, game, &position.items, most)?;
     search.most = room;
     let verdict = weigh_all(game, pass, search, memo, position, room)?;
     search.most = most;
@@ -133,13 +146,15 @@ fn weigh_all<M: Memo>(
     requires sound { IsSound game.now pass search.old (M.entries memo.old) }
     requires from_room { IsOpenFrom game.now pass room search.old position.now }
     requires is_room { IsRoom game.now position.now.items room }
-    requires spare { nodes_in search.old < search.old.meter.count }
+    requires behind { HasSpare 1 search.old (M.entries memo.old) }
     ensures found { MatchResult result
-        (FindsVerdict game.now pass 1 position.now search.old search.new (M.entries memo.new))
+        (FindsVerdict game.now pass position.now search.old search.new (M.entries memo.new))
         (Stops game.now pass search.old.meter.budget search.new) }
     ensures counts { KeepsCount game.now pass (sum position.now.items + 1)
         (progress search.old.meter (M.entries memo.old) (M.room memo.old))
         (progress search.new.meter (M.entries memo.new) (M.room memo.new)) result }
+    ensures serves { IfOk result (λ verdict. KeepsServing 1 search.old (M.entries memo.old)
+        search.new (M.entries memo.new) (λ later. IsServedBy later search.new position.now verdict)) }
 {
     let mut entries = Vec::new(search.alloc);
     for tried in 0..room {
@@ -152,16 +167,8 @@ fn weigh_all<M: Memo>(
     if entries.len() < usize::from(room) {
         return Ok(Verdict::Held(pass));
     }
-    let number = push_reply(search.alloc, &mut search.replies, position, room, entries)?;
+    let number = put_reply(game, search, position, room, entries.as_slice())?;
     Ok(Verdict::Algorithm(number))
-}
-
-// Puts an entry at the end.
-fn put(entries: &mut Vec<Entry>, entry: Entry) -> Result<(), AllocError>
-    ensures { OnOk result (entries.new.items ≡ entries.old.items ++ entry ∷ []) }
-{
-    entries.push(entry)?;
-    Ok(())
 }
 
 // What a size comes to; where it wins, the node that sends it is put.
@@ -177,13 +184,15 @@ fn weigh<M: Memo>(
     requires sound { IsSound game.now pass search.old (M.entries memo.old) }
     requires from_size { IsOpenFrom game.now pass size search.old position.now }
     requires may_come { Packable game.now (position.now.items ++ size ∷ []) }
-    requires spare { nodes_in search.old < search.old.meter.count }
+    requires behind { HasSpare 1 search.old (M.entries memo.old) }
     ensures found { MatchResult result
         (HasWeighed game.now pass size position.now search.old search.new (M.entries memo.new))
         (Stops game.now pass search.old.meter.budget search.new) }
     ensures counts { KeepsCount game.now pass (sum position.now.items + 1)
         (progress search.old.meter (M.entries memo.old) (M.room memo.old))
         (progress search.new.meter (M.entries memo.new) (M.room memo.new)) result }
+    ensures serves { IfOk result (λ weighed. KeepsServing (taken_by weighed) search.old (M.entries memo.old)
+        search.new (M.entries memo.new) (λ later. IsServedFor later search.new position.now weighed)) }
 {
     game_is_legal(game);
     if !allows(pass, &position.items, size) {
@@ -221,13 +230,16 @@ fn try_size<M: Memo>(
     requires sound { IsSound game.now pass search.old (M.entries memo.old) }
     requires from_size { IsOpenFrom game.now pass size search.old position.now }
     requires may_come { MayCome game.now pass position.now size }
+    requires behind { HasSpare 0 search.old (M.entries memo.old) }
     ensures found { MatchResult result
-        (λ tried. WentOn game.now pass 0 (with_move search.old (size - 1) game.now.target) search.old search.new
+        (λ tried. WentOn game.now pass (with_move search.old (size - 1) game.now.target) search.old search.new
         (M.entries memo.new) × HasTried game.now pass search.new position.now size tried)
         (Stops game.now pass search.old.meter.budget search.new) }
     ensures counts { KeepsCount game.now pass (sum position.now.items + 1)
         (progress search.old.meter (M.entries memo.old) (M.room memo.old))
         (progress search.new.meter (M.entries memo.new) (M.room memo.new)) result }
+    ensures serves { IfOk result (λ tried. KeepsServing 0 search.old (M.entries memo.old)
+        search.new (M.entries memo.new) (λ later. IsServedWith later search.new position.now size tried)) }
 {
     let mut placements = Placements::new(search.alloc);
     for i in 0..position.loads.distinct_count() {
@@ -254,13 +266,16 @@ fn try_load<M: Memo>(
     requires sound { IsSound game.now pass search.old (M.entries memo.old) }
     requires at_load { IsOpenAt game.now pass size load search.old position.now }
     requires may_come { MayCome game.now pass position.now size }
+    requires behind { HasSpare 0 search.old (M.entries memo.old) }
     ensures found { MatchResult result
-        (λ reached. WentOn game.now pass 0 (with_move search.old size load) search.old search.new
+        (λ reached. WentOn game.now pass (with_move search.old size load) search.old search.new
         (M.entries memo.new) × HasReached game.now pass search.new position.now size load reached)
         (Stops game.now pass search.old.meter.budget search.new) }
     ensures counts { KeepsCount game.now pass (sum position.now.items + 1)
         (progress search.old.meter (M.entries memo.old) (M.room memo.old))
         (progress search.new.meter (M.entries memo.new) (M.room memo.new)) result }
+    ensures serves { IfOk result (λ reached. KeepsServing 0 search.old (M.entries memo.old)
+        search.new (M.entries memo.new) (λ later. IsServedAt later search.new position.now size load reached)) }
 {
     let target = game.t();
     if load + size >= target {
@@ -280,20 +295,5 @@ fn reach_of(verdict: Verdict) -> Reached
     match verdict {
         Verdict::Adversary(number) => Reached::ByNext(Then::To(number)),
         _ => Reached::Answers(verdict),
-    }
-}
-
-// The position after an item of this size went to a bin of this load. Takes no memory.
-fn after(game: &Game, position: &Position, size: u16, load: u16) -> Position
-    requires playable { IsPlayable game.now position.now }
-    requires has_load { Contains position.now.loads load }
-    requires below_target { load + size < game.now.target }
-    requires may_come { Packable game.now (position.now.items ++ size ∷ []) }
-    ensures { result ≡ after position.now load size }
-{
-    game_is_legal(game);
-    Position {
-        loads: position.loads.place(game, load, size).unwrap(),
-        items: position.items.add(size),
     }
 }

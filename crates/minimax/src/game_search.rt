@@ -13,6 +13,9 @@ ghost use Rattle.minimax.specs.Fresh.{IsWithin};
 
 use crate::answer::Answer;
 use crate::expanding::{Search, expand};
+use crate::finish_nodes::FinishNodes;
+use crate::naming::node_number;
+use crate::rooms::Rooms;
 use adversary_graph::AdvPool;
 use algorithm_graph::AlgPool;
 use items::{Game, Items};
@@ -80,6 +83,8 @@ fn search_passes<M: Memo>(
         meter: Meter::new(alloc, game, budget),
         wins: AdvPool::new(alloc, game, Format::One),
         replies: AlgPool::new(alloc, game, Format::One),
+        finishes: FinishNodes::new(alloc),
+        rooms: Rooms::new(alloc, game)?,
         path: Path::new(alloc),
         most: game.g(),
     };
@@ -93,7 +98,8 @@ fn search_passes<M: Memo>(
             Ok(Verdict::Adversary(number)) => {
                 return Ok(Answer::Adversary(search.wins.into_strategy(number)));
             }
-            Ok(Verdict::Algorithm(number)) => {
+            Ok(Verdict::Algorithm(told)) => {
+                let number = node_number(game, &mut search, &root, told)?;
                 return Ok(Answer::Algorithm(search.replies.into_strategy(number)));
             }
             Err(VisitFault::Spent) => {

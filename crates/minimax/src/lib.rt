@@ -3,8 +3,11 @@
 
 mod answer;
 mod expanding;
+mod finish_nodes;
 mod game_search;
+mod naming;
 mod nodes;
+mod rooms;
 mod table;
 
 pub use answer::Answer;

@@ -1,7 +1,8 @@
 //! The nodes that a search puts into the pools of both sides.
 
-ghost use Rattle.std.specs.Prelude.{◌≡◌, ◌<◌, ◌++◌, ◌∷◌, [], IfOk, length};
+ghost use Rattle.std.specs.Prelude.{◌≡◌, ◌+◌, ◌<◌, ◌++◌, ◌∷◌, [], Contains, IfOk, length};
 ghost use Rattle.items.specs.Packable.{Packable};
+ghost use Rattle.loads.specs.After.{after};
 ghost use Rattle.strategy_text.specs.Spelling.{most_nodes};
 ghost use Rattle.strategy_text.specs.declared.node.Format.TheVariants.{One};
 ghost use Rattle.good_situations.specs.Finish.{Finishes};
@@ -9,8 +10,8 @@ ghost use Rattle.minimax.specs.State.{IsPlayable, PutsWin, PutsReply, PlacesAll,
 
 use adversary_graph::AdvPool;
 use algorithm_graph::AlgPool;
-use items::Nums;
 use items::laws::game_is_legal;
+use items::{Game, Nums};
 use loads::Position;
 use reachable_loads::pack;
 use std::alloc::{AllocError, Global};
@@ -110,4 +111,19 @@ fn push_act(
         act,
     };
     replies.push(node)
+}
+
+/// The position after an item of this size went to a bin of this load. Takes no memory.
+pub(crate) fn after(game: &Game, position: &Position, size: u16, load: u16) -> Position
+    requires playable { IsPlayable game.now position.now }
+    requires has_load { Contains position.now.loads load }
+    requires below_target { load + size < game.now.target }
+    requires may_come { Packable game.now (position.now.items ++ size ∷ []) }
+    ensures { result ≡ after position.now load size }
+{
+    game_is_legal(game);
+    Position {
+        loads: position.loads.place(game, load, size).unwrap(),
+        items: position.items.add(size),
+    }
 }

@@ -1,12 +1,15 @@
 //! What a search asks its table and puts there.
 
-ghost use Rattle.std.specs.Prelude.{◌≡◌, ◌↔◌, ◌<◌, ℕ, true, IsTrue, IfSome, OnOk, Some, None, length};
+ghost use Rattle.std.specs.Prelude.{◌≡◌, ◌↔◌, ◌<◌, ◌≤◌, ℕ, true, IsTrue, IfSome, OnOk, Some, None, length};
 ghost use Rattle.loads.specs.Packed.{are_equal};
 ghost use Rattle.transposition.specs.Bounded.{IsBoundedMap, Puts, SameEntries, bounded};
 ghost use Rattle.transposition.specs.Memo.{verdict_of};
+ghost use Rattle.transposition.specs.declared.verdict.Verdict.TheVariants.{Algorithm};
+ghost use Rattle.minimax.specs.declared.finish_nodes.TheConstants.{FINISHES};
 ghost use Rattle.minimax.specs.Fresh.{is_fresh};
 ghost use Rattle.minimax.specs.State.{IsOfPass, PutsOnly};
 
+use crate::finish_nodes::FINISHES;
 use std::alloc::AllocError;
 use transposition::{Key, Memo, Verdict};
 
@@ -52,4 +55,21 @@ pub(crate) fn remember<M: Memo>(memo: &mut M, key: Key, verdict: Verdict) -> Res
 {
     let _len = memo.len();
     memo.put(key, verdict)
+}
+
+/// Puts that a position finishes, where the table is below its capacity: it is told from the loads alone, and drops no
+/// other entry.
+pub(crate) fn remember_finish<M: Memo>(memo: &mut M, key: Key) -> Result<(), AllocError>
+    ensures valid { IsBoundedMap are_equal (bounded (M.entries memo.old) (M.room memo.old)) }
+    ensures put { OnOk result (length (M.entries memo.old) < M.room memo.old
+        → (more : ℕ) × Puts are_equal (M.entries memo.old) (M.entries memo.new) key (Algorithm FINISHES) more) }
+    ensures only { OnOk result (PutsOnly (M.entries memo.old) (M.entries memo.new) key (Algorithm FINISHES)) }
+    ensures full { M.room memo.old ≤ length (M.entries memo.old)
+        → SameEntries are_equal (M.entries memo.old) (M.entries memo.new) }
+    ensures capacity { M.room memo.new ≡ M.room memo.old }
+{
+    if memo.len() < memo.capacity() {
+        memo.put(key, Verdict::Algorithm(FINISHES))?;
+    }
+    Ok(())
 }

@@ -1,35 +1,42 @@
 use Rattle.std.proofs.Common.{◌≡◌, ◌∙◌, ◌+◌, ◌-◌, ◌<◌, ◌≤◌, ◌⊎◌, ◌++◌, ◌∷◌, [], ℕ, List, Some, None, true, length}
-use Rattle.std.proofs.Common.{get_or, sum, sym, ap, subst, arith, below_more, Vec, Global}
+use Rattle.std.proofs.Common.{get_or, sum, refl, sym, ap, subst, arith, below_more, Vec, Global}
 use Rattle.std.specs.Prelude.{All, Err}
 use Rattle.std.proofs.lemmas.Bool.{false≢true, true≢false}
 use Rattle.std.proofs.lemmas.List.{length_push, take_all}
-use Rattle.std.proofs.lemmas.List.Elements.{All-contains}
-use Rattle.items.specs.Game.{GameNumbers}
+use Rattle.std.proofs.lemmas.List.Elements.{All-contains, All-weaker}
 use Rattle.items.proofs.MultisetLemmas.{sum-put_ascending}
 use Rattle.loads.specs.After.{after}
 use Rattle.loads.specs.Descending.{distinct}
 use Rattle.loads.specs.Packed.{are_equal}
 use Rattle.loads.specs.declared.position.Position.{Position}
 use Rattle.monotone.specs.Paths.{moved}
-use Rattle.monotone.specs.Visits.{Metered}
+use Rattle.monotone.specs.Visits.{Metered, visit}
 use Rattle.packing_witness.proofs.PackingLemmas.{size_of_last, Packable-from_room}
 use Rattle.strategy_text.specs.declared.node.Entry.{Entry}
 use Rattle.transposition.specs.Bounded.{Puts}
 use Rattle.transposition.specs.Memo.{verdict_of}
-use Rattle.minimax.specs.Fresh.{IsShort, is_fresh, progress}
-use Rattle.minimax.specs.State.{HasReached, HasTried, HasWeighed, IsReply, IsWonIn, PutsOnly, ReplyToAll, WentOn, numbers_down}
+use Rattle.minimax.specs.Fresh.{CountsFresh, IsShort, is_fresh, progress}
+use Rattle.minimax.specs.State.{AreOfAll, FindsVerdict, HasReached, HasTried, HasWeighed, IsPending, IsWonIn, PutsOnly, WentOn, numbers_down}
+use Rattle.minimax.specs.Serving.{IsEntryServed, IsServedAt, IsServedFor, IsServedWith, KeepsServing, led_to, taken_by}
+use Rattle.minimax.specs.Naming.{MayNameAll, PutsNamed}
+use Rattle.minimax.specs.declared.expanding.Search.{Search}
+use Rattle.minimax.specs.declared.finish_nodes.TheConstants.{FINISHES}
+use Rattle.transposition.specs.declared.verdict.Verdict.TheVariants.{Adversary, Algorithm, Held}
 use Rattle.minimax.proofs.FinishLemmas.{IsNeverWon-finish}
 use Rattle.minimax.proofs.PlayableLemmas.{total_with}
 use Rattle.minimax.proofs.SizeLemmas.{finds_after, follows_more, next_bound, may_come_allowed, never_by_replies, none_more, not_allowed}
 use Rattle.minimax.proofs.SizeLemmas.{opens_load, opens_size, past_more, past_size}
 use Rattle.minimax.proofs.SizeLemmas.{placed_more, replies_more, replies_still, sizes_more, weighs, wins_by}
-use Rattle.minimax.proofs.StepLemmas.{finds_decided, finds_expanded, finds_held, finds_known, finds_reply, finds_win, may_visit_child, opens, passed_on}
+use Rattle.minimax.proofs.StepLemmas.{finds_decided, finds_expanded, finds_finish, finds_held, finds_known, finds_reply, finds_win, may_visit_child, opens, passed_on}
 use Rattle.minimax.proofs.StepLemmas.{reached_child, reached_over}
-use Rattle.minimax.proofs.StepLemmas.{sound_visited, spare_still, WentOn-refl, WentOn-then}
+use Rattle.minimax.proofs.StepLemmas.{sound_visited, WentOn-then}
+use Rattle.minimax.proofs.NamingLemmas.{Stays-all, WentOn-named}
+use Rattle.minimax.proofs.ServingLemmas.{AreUnder-counted, IsBehind-less, IsBehind-same, KeepsServing-and, KeepsServing-then, KeepsServing-weaker, spare_after}
+use Rattle.minimax.proofs.ExpansionLemmas.{entries_served, served_at, serves_expanded, serves_finished, serves_kept, serves_known, serves_more, serves_nothing}
+use Rattle.minimax.proofs.ExpansionLemmas.{serves_replied, serves_won}
 use Rattle.minimax.proofs.FreshLemmas.{CountsFresh-above, CountsFresh-refl, CountsFresh-same, CountsFresh-trans, CountsFresh-visited}
 use Rattle.minimax.proofs.FreshLemmas.{IsShort-above, IsShort-after}
-use Rattle.minimax.proofs.FreshLemmas.{IsShort-fault, IsShort-visited, IsVisited, volume_after}
-use Rattle.minimax.proofs.PastLemmas.{HasPassed-visited}
+use Rattle.minimax.proofs.FreshLemmas.{IsShort-fault, IsShort-visited, IsVisited, none_for_finish, volume_after}
 use Rattle.minimax.proofs.WinLemmas.{IsWon-by, not_won}
 use Rattle.minimax.proofs.expanding.+expanding.Goals as goal
 use Rattle.minimax.proofs.expanding.+expanding.Goals.{weigh_all-in-Replied+in_ok-put-in-Replied, weigh_all-in-NoReply}
@@ -43,39 +50,77 @@ expand-returns-in-Some-clause-found g t c =
     finds_known game c.args.pass c.args.search.now c.args.position.now (g.M.Memo.entries c.args.memo.now) (g.M.Memo.entries c.known.new.memo) c.in-Some.verdict
     c.requires.sound c.requires.may told c.in-Some.ensures.of_pass c.known.ensures.same
 
+pub expand-returns-in-Some-clause-serves : goal.expand-returns-in-Some-clause-serves
+expand-returns-in-Some-clause-serves g t c =
+    let told = subst (λ (p : Position). verdict_of (g.M.Memo.entries c.args.memo.now) p ≡ Some c.in-Some.verdict) c.in_ok-key.ensures.ok c.in-Some.ensures.known in
+    serves_known c.args.search.now c.args.position.now (g.M.Memo.entries c.args.memo.now) (g.M.Memo.entries c.known.new.memo) c.in-Some.verdict told c.known.ensures.same
+
 pub expand-decide-requires : goal.expand-decide-requires
 expand-decide-requires g t c κs l =
+    let s = c.args.search.now in
+    let e0 = g.M.Memo.entries c.args.memo.now in
+    let e1 = g.M.Memo.entries c.known.new.memo in
     let counted = c.in_ok-visit.ensures.ok in
-    let left : c.args.search.now.meter.count ≡ c.args.search.now.meter.budget → ⊥ = λ e. let bad = c.in_ok-visit.ensures.spent.1 e in cc in (
+    let left : s.meter.count ≡ s.meter.budget → ⊥ = λ e. let bad = c.in_ok-visit.ensures.spent.1 e in cc in
+    let behind = IsBehind-same 0 c.requires.behind.0 s e0 e1 c.known.ensures.same c.requires.behind.1 in (
       omega (arith, c.decreases),
       (
         l,
         (
-          sound_visited c.args.game.now c.args.pass c.args.search.now c.args.position.now (g.M.Memo.entries c.args.memo.now) (g.M.Memo.entries c.known.new.memo) c.visit.new.self
-              c.requires.sound c.requires.may counted left c.known.ensures.same,
+          sound_visited c.args.game.now c.args.pass s c.args.position.now e0 e1 c.visit.new.self c.requires.sound c.requires.may counted left c.known.ensures.same,
           (
             c.requires.may.stands,
             (
-              ap (λ (m : Metered). m.last) counted,
-              (omega (arith, c.requires.sound.few, ap (λ (m : Metered). m.count) counted), c.requires.may.bound),
+              (λ finishes. false≢true (sym c.if-finishes.false ∙ c.finishes.ensures.exact.1 finishes)),
+              (
+                ap (λ (m : Metered). m.last) counted,
+                (
+                  (
+                    c.requires.behind.0,
+                    (AreUnder-counted 0 c.requires.behind.0 s.meter c.visit.new.self (visit c.args.pass s.path) s.wins.nodes s.replies.nodes s.finishes counted behind.0, behind.1),
+                  ),
+                  c.requires.may.bound,
+                ),
+              ),
             ),
           ),
         ),
       ),
     )
 
--- ---- decide
-
-pub decide-returns-then-finishes-clause-found : goal.decide-returns-then-finishes-clause-found
-decide-returns-then-finishes-clause-found g t c =
+pub expand-returns-then-finishes-clause-found : goal.expand-returns-then-finishes-clause-found
+expand-returns-then-finishes-clause-found g t c =
     let game = c.args.game.now in
     let s = c.args.search.now in
-    let entries = g.M.Memo.entries c.args.memo.now in
-    let a = moved 0 0 in
-    let went = WentOn-refl game c.args.pass (s.path ++ a ∷ []) s entries c.requires.sound (HasPassed-visited s.meter c.args.pass s.path a c.requires.visited) in
+    let p = c.args.position.now in
+    let e0 = g.M.Memo.entries c.args.memo.now in
+    let e1 = g.M.Memo.entries c.known.new.memo in
+    let e2 = g.M.Memo.entries c.remember_finish.new.memo in
+    let counted = c.in_ok-visit.ensures.ok in
+    let left : s.meter.count ≡ s.meter.budget → ⊥ = λ e. let bad = c.in_ok-visit.ensures.spent.1 e in cc in
     let finishes = c.finishes.ensures.exact.0 c.if-finishes.true in
-    finds_reply game c.args.pass s s c.push_finish.new.replies a c.args.position.now entries c.in_ok-number.number went c.requires.spare c.in_ok-number.ensures
-    (IsNeverWon-finish game c.args.position.now c.game_is_legal.ensures c.requires.stands.playable finishes)
+    let sound = sound_visited game c.args.pass s p e0 e1 c.visit.new.self c.requires.sound c.requires.may counted left c.known.ensures.same in
+    finds_finish game c.args.pass s c.visit.new.self p e1 e2 counted sound (ap (λ (m : Metered). m.last) counted)
+    (record { told = refl; finishes = finishes; never = IsNeverWon-finish game p c.game_is_legal.ensures c.requires.may.stands.playable finishes })
+    (subst (λ (p : Position). PutsOnly e1 e2 p (Algorithm FINISHES)) c.in_ok-key.ensures.ok c.in_ok-remember_finish.ensures.only)
+
+pub expand-returns-then-finishes-clause-serves : goal.expand-returns-then-finishes-clause-serves
+expand-returns-then-finishes-clause-serves g t c =
+    let e1 = g.M.Memo.entries c.known.new.memo in
+    let e2 = g.M.Memo.entries c.remember_finish.new.memo in
+    serves_finished c.args.search.now c.visit.new.self (visit c.args.pass c.args.search.now.path) c.args.position.now (g.M.Memo.entries c.args.memo.now) e1 e2
+    c.in_ok-visit.ensures.ok c.known.ensures.same
+    (subst (λ (p : Position). PutsOnly e1 e2 p (Algorithm FINISHES)) c.in_ok-key.ensures.ok c.in_ok-remember_finish.ensures.only)
+
+pub expand-returns-clause-serves : goal.expand-returns-clause-serves
+expand-returns-clause-serves g t c =
+    let e2 = g.M.Memo.entries c.decide.new.memo in
+    let e3 = g.M.Memo.entries c.remember.new.memo in
+    serves_expanded c.args.search.now c.decide.new.search c.visit.new.self (visit c.args.pass c.args.search.now.path) c.args.position.now (g.M.Memo.entries c.args.memo.now)
+    (g.M.Memo.entries c.known.new.memo) e2 e3 c.in_ok-verdict.verdict c.in_ok-visit.ensures.ok c.known.ensures.same c.in_ok-verdict.ensures.serves
+    (subst (λ (p : Position). PutsOnly e2 e3 p c.in_ok-verdict.verdict) c.in_ok-key.ensures.ok c.in_ok-remember.ensures.only)
+
+-- ---- decide
 
 pub decide-weigh_all-requires : goal.decide-weigh_all-requires
 decide-weigh_all-requires g t c κs l = (
@@ -85,9 +130,9 @@ decide-weigh_all-requires g t c κs l = (
     (
       c.requires.sound,
       (
-        opens c.args.game.now c.args.pass c.args.search.now c.args.position.now c.in_ok-room.room c.requires.stands c.requires.visited
-            (λ finishes. false≢true (sym c.if-finishes.false ∙ c.finishes.ensures.exact.1 finishes)) c.in_ok-room.ensures.exact,
-        (c.in_ok-room.ensures.exact, c.requires.spare),
+        opens c.args.game.now c.args.pass c.args.search.now c.room_up_to.new.self c.args.position.now c.in_ok-room.room c.requires.stands c.requires.visited
+            c.requires.unfinished c.in_ok-room.ensures.exact,
+        (c.in_ok-room.ensures.exact, c.requires.behind),
       ),
     ),
   ),
@@ -95,11 +140,16 @@ decide-weigh_all-requires g t c κs l = (
 
 pub decide-returns-clause-found : goal.decide-returns-clause-found
 decide-returns-clause-found g t c =
-    finds_decided c.args.game.now c.args.pass c.args.search.now c.weigh_all.new.search c.in_ok-room.room c.args.position.now (g.M.Memo.entries c.weigh_all.new.memo)
+    finds_decided c.args.game.now c.args.pass c.args.search.now c.weigh_all.new.search c.room_up_to.new.self c.in_ok-room.room c.args.position.now (g.M.Memo.entries c.weigh_all.new.memo)
     c.in_ok-verdict.verdict c.in_ok-verdict.ensures.found
 
 pub decide-returns-clause-counts : goal.decide-returns-clause-counts
 decide-returns-clause-counts g t c = c.in_ok-verdict.ensures.counts
+
+pub decide-returns-clause-serves : goal.decide-returns-clause-serves
+decide-returns-clause-serves g t c spare unnamed behind =
+    let h = c.in_ok-verdict.ensures.serves spare unnamed behind in
+    record { later = h.later; behind = h.behind; keeps = h.keeps; more = h.more }
 
 -- ---- try_load
 
@@ -129,11 +179,30 @@ try_load-expand-requires g t c κs l =
         l,
         (
           c.requires.sound,
-          may_visit_child c.args.game.now c.args.pass c.args.search.now c.push.new.self c.args.position.now c.after-next.result c.args.size c.args.load
-              c.requires.at_load c.requires.may_come below c.in_ok-push.ensures.ok c.after-next.ensures,
+          (
+            may_visit_child c.args.game.now c.args.pass c.args.search.now c.push.new.self c.args.position.now c.after-next.result c.args.size c.args.load
+                c.requires.at_load c.requires.may_come below c.in_ok-push.ensures.ok c.after-next.ensures,
+            c.requires.behind,
+          ),
         ),
       ),
     )
+
+pub try_load-returns-then-load-size-clause-serves : goal.try_load-returns-then-load-size-clause-serves
+try_load-returns-then-load-size-clause-serves g t c =
+    serves_nothing 0 c.args.search.now (g.M.Memo.entries c.args.memo.now) (λ later. Unit {0}) (λ later. tt)
+
+pub try_load-returns-clause-serves : goal.try_load-returns-clause-serves
+try_load-returns-clause-serves g t c spare unnamed behind =
+    let h = c.in_ok-verdict.ensures.serves spare unnamed behind in
+    let s = record c.expand.new.search { path = c.pop.new.self } in
+    let served = served_at h.later s c.args.position.now c.after-next.result c.args.size c.args.load c.in_ok-verdict.verdict c.after-next.ensures h.more in
+    record {
+      later = h.later;
+      behind = h.behind;
+      keeps = h.keeps;
+      more = subst (IsServedAt h.later s c.args.position.now c.args.size c.args.load) (sym c.reach_of.ensures) served;
+    }
 
 pub try_load-returns-clause-found : goal.try_load-returns-clause-found
 try_load-returns-clause-found g t c =
@@ -158,7 +227,10 @@ try_size-try_load-requires g t c κs l =
             opens_load c.args.game.now c.args.pass c.args.search.now c.loop-i.search c.args.position.now c.args.size c.loop-i.i c.distinct_at-load.result
                 (g.M.Memo.entries c.loop-i.memo) c.requires.from_size i.went i.won (omega (arith, c.loop-i-test.true, c.distinct_count-i-end.ensures.value))
                 c.distinct_at-load.ensures.value c.distinct_at-load.ensures.member,
-            c.requires.may_come,
+            (
+              c.requires.may_come,
+              spare_after 0 0 c.args.search.now c.loop-i.search (g.M.Memo.entries c.args.memo.now) (g.M.Memo.entries c.loop-i.memo) (λ later. Unit {0}) i.serves c.requires.behind,
+            ),
           ),
         ),
       ),
@@ -172,13 +244,23 @@ try_size-returns-in-Answers-clause-found g t c =
     let e1 = g.M.Memo.entries c.loop-i.memo in
     let e2 = g.M.Memo.entries c.try_load.new.memo in
     let bound : ℕ = get_or (game.target ∷ distinct c.args.position.now.loads) c.loop-i.i 0 in
-    let went = WentOn-then game c.args.pass 0 0 c.args.size load (c.args.search.now.path ++ moved c.args.size bound ∷ []) c.args.search.now c.loop-i.search
+    let went = WentOn-then game c.args.pass c.args.size load (c.args.search.now.path ++ moved c.args.size bound ∷ []) c.args.search.now c.loop-i.search
     c.try_load.new.search e1 e2
     i.went c.in_ok-next.ensures.found.0 in
     let came = subst (HasReached game c.args.pass c.try_load.new.search c.args.position.now c.args.size load) c.in-Answers.is c.in_ok-next.ensures.found.1 in (
       past_size game c.args.pass c.args.search.now c.try_load.new.search c.args.position.now c.args.size load e2 c.requires.may_come.packable went,
       (c.distinct_at-load.ensures.member, came.0, came.1, came.2),
     )
+
+pub try_size-returns-in-Answers-clause-serves : goal.try_size-returns-in-Answers-clause-serves
+try_size-returns-in-Answers-clause-serves g t c =
+    let s1 = c.loop-i.search in
+    let s2 = c.try_load.new.search in
+    let e1 = g.M.Memo.entries c.loop-i.memo in
+    let e2 = g.M.Memo.entries c.try_load.new.memo in
+    let load = c.distinct_at-load.result in
+    let next = subst (λ r. KeepsServing 0 s1 e1 s2 e2 (λ later. IsServedAt later s2 c.args.position.now c.args.size load r)) c.in-Answers.is c.in_ok-next.ensures.serves in
+    KeepsServing-then 0 0 0 c.args.search.now s1 s2 (g.M.Memo.entries c.args.memo.now) e1 e2 (λ later. Unit {0}) _ refl c.loop-i.invariant.serves next
 
 pub try_size-loop-i-preserved : goal.try_size-loop-i-preserved
 try_size-loop-i-preserved g t c =
@@ -191,13 +273,15 @@ try_size-loop-i-preserved g t c =
     let ds : List ℕ = distinct p.loads in
     let bound : ℕ = get_or (game.target ∷ ds) c.loop-i.i 0 in
     let past = c.args.search.now.path ++ moved c.args.size bound ∷ [] in
-    let went = WentOn-then game c.args.pass 0 0 c.args.size load past c.args.search.now c.loop-i.search c.try_load.new.search e1 e2 i.went c.in_ok-next.ensures.found.0 in
+    let went = WentOn-then game c.args.pass c.args.size load past c.args.search.now c.loop-i.search c.try_load.new.search e1 e2 i.went c.in_ok-next.ensures.found.0 in
     let came = subst (HasReached game c.args.pass c.try_load.new.search p c.args.size load) c.in-ByNext.is c.in_ok-next.ensures.found.1 in
     let here : load ≡ get_or ds c.loop-i.i 0 = c.distinct_at-load.ensures.value in
     let next : get_or (game.target ∷ ds) (c.loop-i.i + 1) 0 ≡ get_or ds c.loop-i.i 0 = next_bound game.target ds c.loop-i.i in
     record {
-      went = subst (λ l. WentOn game c.args.pass 0 (c.args.search.now.path ++ moved c.args.size l ∷ []) c.args.search.now c.try_load.new.search e2) (here ∙ sym next) went;
+      went = subst (λ l. WentOn game c.args.pass (c.args.search.now.path ++ moved c.args.size l ∷ []) c.args.search.now c.try_load.new.search e2) (here ∙ sym next) went;
       counts = CountsFresh-trans game c.args.pass (sum p.items + 1) _ _ _ i.counts c.in_ok-next.ensures.counts;
+      serves = KeepsServing-then 0 0 0 c.args.search.now c.loop-i.search c.try_load.new.search (g.M.Memo.entries c.args.memo.now) e1 e2 (λ later. Unit {0}) (λ later. Unit {0}) refl
+          i.serves (KeepsServing-weaker 0 c.loop-i.search c.try_load.new.search e1 e2 _ (λ later. Unit {0}) (λ later m. tt) c.in_ok-next.ensures.serves);
       places = placed_more game c.args.pass p c.loop-i.i load c.in-ByNext.next c.loop-i.placements c.push.new.self here (omega (
         arith,
         c.loop-i-test.true,
@@ -218,6 +302,9 @@ try_size-returns-clause-found g t c =
       past_size game c.args.pass c.args.search.now c.loop-i.search c.args.position.now c.args.size bound (g.M.Memo.entries c.loop-i.memo) c.requires.may_come.packable i.went,
       (i.places ∙ take_all c.loop-i.i ds (omega (arith, c.loop-i-test.false, c.distinct_count-i-end.ensures.value)), i.each),
     )
+
+pub try_size-returns-clause-serves : goal.try_size-returns-clause-serves
+try_size-returns-clause-serves g t c = c.loop-i.invariant.serves
 
 -- ---- weigh
 
@@ -243,8 +330,14 @@ weigh-try_size-requires g t c κs l = (
       c.requires.sound,
       (
         c.requires.from_size,
-        may_come_allowed c.args.game.now c.args.pass c.args.position.now c.args.size c.requires.may_come
-            (c.allows.ensures.exact.0 c.if-not-allows.false),
+        (
+          may_come_allowed c.args.game.now c.args.pass c.args.position.now c.args.size c.requires.may_come
+              (c.allows.ensures.exact.0 c.if-not-allows.false),
+          (
+            c.requires.behind.0,
+            IsBehind-less 1 0 c.requires.behind.0 c.args.search.now (g.M.Memo.entries c.args.memo.now) (omega arith) c.requires.behind.1,
+          ),
+        ),
       ),
     ),
   ),
@@ -259,7 +352,7 @@ weigh-returns-in_ok-number-in-Wins-clause-found g t c =
     let may = may_come_allowed game c.args.pass p c.args.size c.requires.may_come (c.allows.ensures.exact.0 c.if-not-allows.false) in
     let won = IsWon-by game _ p c.args.size (wins_by game c.args.pass c.try_size.new.search p c.args.size c.in-Wins.placements may tried.0 tried.1) in
     finds_win game c.args.pass c.args.search.now c.try_size.new.search c.push_win.new.wins (moved (c.args.size - 1) game.target) p e2 c.in_ok-number-in-Wins.number
-    c.in_ok-placements.ensures.found.0 c.requires.spare c.in_ok-number-in-Wins.ensures won
+    c.in_ok-placements.ensures.found.0 c.in_ok-number-in-Wins.ensures won
 
 pub weigh-returns-in-Answered-clause-found : goal.weigh-returns-in-Answered-clause-found
 weigh-returns-in-Answered-clause-found g t c =
@@ -269,7 +362,34 @@ weigh-returns-in-Answered-clause-found g t c =
     let tried = subst (HasTried game c.args.pass c.try_size.new.search p c.args.size) c.in-Answered.is c.in_ok-placements.ensures.found.1 in
     subst (HasWeighed game c.args.pass c.args.size p c.args.search.now c.try_size.new.search e2) (sym c.kept.ensures)
     (weighs game c.args.pass c.args.search.now c.try_size.new.search p c.args.size c.in-Answered.load e2 c.in-Answered.verdict
-    c.in_ok-placements.ensures.found.0 tried.0 tried.1 tried.2 tried.3)
+    c.in_ok-placements.ensures.found.0 c.requires.may_come tried.0 tried.1 tried.2 tried.3)
+
+pub weigh-returns-then-not-allows-clause-serves : goal.weigh-returns-then-not-allows-clause-serves
+weigh-returns-then-not-allows-clause-serves g t c =
+    serves_nothing 0 c.args.search.now (g.M.Memo.entries c.args.memo.now) (λ later. Unit {0}) (λ later. tt)
+
+pub weigh-push_win-requires-clause-room : goal.weigh-push_win-requires-clause-room
+weigh-push_win-requires-clause-room g t c =
+    let e1 = g.M.Memo.entries c.try_size.new.memo in
+    let after = spare_after 1 0 c.args.search.now c.try_size.new.search (g.M.Memo.entries c.args.memo.now) e1 _ c.in_ok-placements.ensures.serves c.requires.behind in
+    let sound = c.in_ok-placements.ensures.found.0.sound in
+    omega (arith, after.1.0.few, sound.within, sound.budget)
+
+pub weigh-returns-in_ok-number-in-Wins-clause-serves : goal.weigh-returns-in_ok-number-in-Wins-clause-serves
+weigh-returns-in_ok-number-in-Wins-clause-serves g t c =
+    serves_won c.args.search.now c.try_size.new.search c.push_win.new.wins c.args.position.now c.in_ok-number-in-Wins.number (g.M.Memo.entries c.args.memo.now)
+    (g.M.Memo.entries c.try_size.new.memo) _ c.in_ok-number-in-Wins.ensures c.in_ok-placements.ensures.serves
+
+pub weigh-returns-in-Answered-clause-serves : goal.weigh-returns-in-Answered-clause-serves
+weigh-returns-in-Answered-clause-serves g t c =
+    let s0 = c.args.search.now in
+    let s1 = c.try_size.new.search in
+    let e0 = g.M.Memo.entries c.args.memo.now in
+    let e1 = g.M.Memo.entries c.try_size.new.memo in
+    let p = c.args.position.now in
+    let tried = subst (λ t. KeepsServing 0 s0 e0 s1 e1 (λ later. IsServedWith later s1 p c.args.size t)) c.in-Answered.is c.in_ok-placements.ensures.serves in
+    subst (λ w. KeepsServing (taken_by w) s0 e0 s1 e1 (λ later. IsServedFor later s1 p w)) (sym c.kept.ensures)
+    (serves_kept s0 s1 p c.args.size c.in-Answered.load e0 e1 c.in-Answered.verdict tried)
 
 -- ---- weigh_all
 
@@ -288,8 +408,7 @@ weigh_all-weigh-requires g t c κs l =
                 c.requires.from_room i.went i.none,
             (
               Packable-from_room game c.args.position.now.items c.args.room size c.requires.is_room (omega (arith, c.loop-tried-test.true)) (omega arith),
-              spare_still game c.args.pass (c.args.search.now.path ++ moved size game.target ∷ []) c.args.search.now c.loop-tried.search (g.M.Memo.entries
-                  c.loop-tried.memo) i.went c.requires.spare,
+              spare_after 1 0 c.args.search.now c.loop-tried.search (g.M.Memo.entries c.args.memo.now) (g.M.Memo.entries c.loop-tried.memo) _ i.serves c.requires.behind,
             ),
           ),
         ),
@@ -305,6 +424,17 @@ weigh_all-returns-in-Won-clause-found g t c =
     let weighed = subst (HasWeighed game c.args.pass size c.args.position.now c.loop-tried.search c.weigh.new.search e2) c.in-Won.is c.in_ok-number.ensures.found in
     finds_after game c.args.pass c.args.search.now c.loop-tried.search c.weigh.new.search (c.args.search.now.path ++ moved size game.target ∷ [])
     c.args.position.now e1 e2 _ c.loop-tried.invariant.went weighed
+
+pub weigh_all-returns-in-Won-clause-serves : goal.weigh_all-returns-in-Won-clause-serves
+weigh_all-returns-in-Won-clause-serves g t c =
+    let s1 = c.loop-tried.search in
+    let s2 = c.weigh.new.search in
+    let e1 = g.M.Memo.entries c.loop-tried.memo in
+    let e2 = g.M.Memo.entries c.weigh.new.memo in
+    let p = c.args.position.now in
+    let weighed = subst (λ w. KeepsServing (taken_by w) s1 e1 s2 e2 (λ later. IsServedFor later s2 p w)) c.in-Won.is c.in_ok-number.ensures.serves in
+    KeepsServing-then 0 1 1 c.args.search.now s1 s2 (g.M.Memo.entries c.args.memo.now) e1 e2 _ _ refl c.loop-tried.invariant.serves
+    (KeepsServing-weaker 1 s1 s2 e1 e2 _ _ (λ later m e. let no : Adversary c.in-Won.number ≡ Algorithm FINISHES = e in cc) weighed)
 
 pub weigh_all-loop-tried-preserved : goal.weigh_all-loop-tried-preserved
 weigh_all-loop-tried-preserved g t c =
@@ -328,6 +458,9 @@ weigh_all-loop-tried-preserved g t c =
           record {
             went = past_more game pass s0 s1 s2 p room tried e1 e2 _ i.went a;
             counts = CountsFresh-trans game pass (sum p.items + 1) _ _ _ i.counts c.in_ok-number.ensures.counts;
+            serves = KeepsServing-and 0 0 0 s0 s1 s2 (g.M.Memo.entries c.args.memo.now) e1 e2 _ _ _ refl i.serves
+                (subst (λ w. KeepsServing (taken_by w) s1 e1 s2 e2 (λ later. IsServedFor later s2 p w)) w.in-Replied.is c.in_ok-number.ensures.serves)
+                (λ before later keeps m n. entries_served before later s1 s2 p c.loop-tried.entries.items c.match-branch-2.entries.items w.in-Replied.entry keeps m n is);
             none = none_more game pass p room tried c.loop-tried-test.true i.none a.none;
             few = omega (arith, i.few, len);
             sizes = sizes_more game pass room tried w.in-Replied.entry c.loop-tried.entries.items c.match-branch-2.entries.items i.sizes a.answered.0 is;
@@ -340,10 +473,14 @@ weigh_all-loop-tried-preserved g t c =
           record {
             went = past_more game pass s0 s1 s2 p room tried e1 e2 _ i.went a;
             counts = CountsFresh-trans game pass (sum p.items + 1) _ _ _ i.counts c.in_ok-number.ensures.counts;
+            serves = KeepsServing-and 0 0 0 s0 s1 s2 (g.M.Memo.entries c.args.memo.now) e1 e2 _ _ _ refl i.serves
+                (subst (λ w. KeepsServing (taken_by w) s1 e1 s2 e2 (λ later. IsServedFor later s2 p w)) w.in-NoReply.is c.in_ok-number.ensures.serves)
+                (λ before later keeps m n. subst (All (IsEntryServed later s2 p)) (sym is)
+                (All-weaker (IsEntryServed before s1 p) (IsEntryServed later s2 p) (λ e h f. keeps (led_to p e) (h f)) c.loop-tried.entries.items m));
             none = none_more game pass p room tried c.loop-tried-test.true i.none a.none;
             few = omega (arith, i.few, ap length is);
             sizes = λ e. absurd (omega (arith, e, i.few, ap length is));
-            each = subst (All (IsReply game s2.replies.nodes p)) (sym is) (replies_still game pass s1 s2 p _ c.loop-tried.entries.items e2 a.went i.each);
+            each = subst (All (IsPending game s2.replies.nodes p)) (sym is) (replies_still game pass s1 s2 p _ c.loop-tried.entries.items e2 a.went i.each);
             gaps = λ l. a.answered;
           }
     ]
@@ -355,30 +492,67 @@ weigh_all-returns-then-len-from-clause-found g t c =
     let all : c.loop-tried.tried ≡ c.args.room = omega (arith, c.loop-tried-test.false, c.loop-tried.auto.tried-end) in
     let fewer : length c.loop-tried.entries.items < c.loop-tried.tried = omega (arith, all) in
     finds_held game c.args.pass c.args.search.now c.loop-tried.search (moved (c.args.room - c.loop-tried.tried) game.target) c.args.position.now
-    (g.M.Memo.entries c.loop-tried.memo) i.went
-    (i.gaps fewer) (not_won game _ c.args.position.now (λ size w. i.none size (omega (arith, all, (size_of_last game c.args.position.now.items size w.may_come).low)) w))
+    (g.M.Memo.entries c.loop-tried.memo) i.went (record {
+      before_last = i.gaps fewer;
+      not_won = not_won game _ c.args.position.now (λ size w. i.none size (omega (arith, all, (size_of_last game c.args.position.now.items size w.may_come).low)) w);
+      unfinished = c.requires.from_room.unfinished;
+    })
 
-pub weigh_all-push_reply-requires-clause-replies : goal.weigh_all-push_reply-requires-clause-replies
-weigh_all-push_reply-requires-clause-replies g t c =
+pub weigh_all-returns-then-len-from-clause-serves : goal.weigh_all-returns-then-len-from-clause-serves
+weigh_all-returns-then-len-from-clause-serves g t c =
+    serves_more c.args.search.now c.loop-tried.search (g.M.Memo.entries c.args.memo.now) (g.M.Memo.entries c.loop-tried.memo) _ _
+    (λ later e. let no : Held c.args.pass ≡ Algorithm FINISHES = e in cc) c.loop-tried.invariant.serves
+
+pub weigh_all-put_reply-requires-clause-may : goal.weigh_all-put_reply-requires-clause-may
+weigh_all-put_reply-requires-clause-may g t c =
+    let i = c.loop-tried.invariant in
+    let e0 = g.M.Memo.entries c.args.memo.now in
+    let b = c.requires.behind.1 in
+    let served = i.serves 1 c.requires.behind.0 (IsBehind-less 1 (0 + 1) c.requires.behind.0 c.args.search.now e0 (omega arith) b) in
+    subst (MayNameAll c.args.game.now c.loop-tried.search c.args.position.now) (sym c.as_slice.ensures.value) (record {
+      replies = record { of_game = i.went.sound.replies_game; of_format = i.went.sound.replies_format };
+      playable = c.requires.from_room.stands.playable;
+      pending = i.each;
+      limit = omega (arith, i.went.sound.within, i.went.sound.budget);
+      unnamed = served.later;
+      under = served.behind.0;
+      served = served.more;
+    })
+
+pub weigh_all-put_reply-requires-clause-of_all : goal.weigh_all-put_reply-requires-clause-of_all
+weigh_all-put_reply-requires-clause-of_all g t c =
     let i = c.loop-tried.invariant in
     let all : c.loop-tried.tried ≡ c.args.room = omega (arith, c.loop-tried-test.false, c.loop-tried.auto.tried-end) in
     let full : length c.loop-tried.entries.items ≡ c.loop-tried.tried = omega (arith, all) in
-    subst (λ (game : GameNumbers). ReplyToAll game c.loop-tried.search.replies.nodes c.args.position.now c.args.room c.loop-tried.entries.items) (sym i.went.sound.replies_game)
-    (record { is_room = c.requires.is_room; sizes = i.sizes full ∙ ap (numbers_down c.args.room) all; each = i.each })
+    subst (AreOfAll c.args.game.now c.args.position.now c.args.room) (sym c.as_slice.ensures.value)
+    (record { is_room = c.requires.is_room; sizes = i.sizes full ∙ ap (numbers_down c.args.room) all })
 
 pub weigh_all-returns-clause-found : goal.weigh_all-returns-clause-found
 weigh_all-returns-clause-found g t c =
     let game = c.args.game.now in
+    let p = c.args.position.now in
     let i = c.loop-tried.invariant in
+    let s1 = c.loop-tried.search in
     let e1 = g.M.Memo.entries c.loop-tried.memo in
     let a = moved (c.args.room - c.loop-tried.tried) game.target in
+    let entries = c.loop-tried.entries.items in
     let all : c.loop-tried.tried ≡ c.args.room = omega (arith, c.loop-tried-test.false, c.loop-tried.auto.tried-end) in
-    let full : length c.loop-tried.entries.items ≡ c.loop-tried.tried = omega (arith, all) in
-    let replies : ReplyToAll game c.loop-tried.search.replies.nodes c.args.position.now c.args.room c.loop-tried.entries.items =
-    record { is_room = c.requires.is_room; sizes = i.sizes full ∙ ap (numbers_down c.args.room) all; each = i.each } in
-    finds_reply game c.args.pass c.args.search.now c.loop-tried.search c.push_reply.new.replies a c.args.position.now e1 c.in_ok-number-2.number i.went
-    c.requires.spare c.in_ok-number-2.ensures
-    (never_by_replies game c.args.pass c.loop-tried.search c.args.position.now c.args.room c.loop-tried.entries.items e1 i.went.sound replies)
+    let full : length entries ≡ c.loop-tried.tried = omega (arith, all) in
+    let puts = subst (λ xs. PutsNamed game s1 c.put_reply.new.search p xs c.in_ok-number-2.number) c.as_slice.ensures.value c.in_ok-number-2.ensures in
+    let never = never_by_replies game c.args.pass s1 p c.args.room entries e1 i.went.sound
+    (record { is_room = c.requires.is_room; sizes = i.sizes full ∙ ap (numbers_down c.args.room) all }) i.each in
+    subst (λ s. FindsVerdict game c.args.pass p c.args.search.now s e1 (Algorithm c.in_ok-number-2.number)) (sym puts.same)
+    (finds_reply game c.args.pass c.args.search.now puts.between c.put_reply.new.search.replies a p e1 c.in_ok-number-2.number
+    (WentOn-named game c.args.pass p entries (c.args.search.now.path ++ a ∷ []) c.args.search.now s1 puts.between e1 i.went puts.all i.each) puts.puts never)
+
+pub weigh_all-returns-clause-serves : goal.weigh_all-returns-clause-serves
+weigh_all-returns-clause-serves g t c =
+    let i = c.loop-tried.invariant in
+    let game = c.args.game.now in
+    let p = c.args.position.now in
+    let puts = subst (λ xs. PutsNamed game c.loop-tried.search c.put_reply.new.search p xs c.in_ok-number-2.number) c.as_slice.ensures.value c.in_ok-number-2.ensures in
+    serves_replied game c.args.search.now c.loop-tried.search c.put_reply.new.search p c.loop-tried.entries.items c.in_ok-number-2.number
+    (g.M.Memo.entries c.args.memo.now) (g.M.Memo.entries c.loop-tried.memo) puts (omega (arith, i.went.sound.within, i.went.sound.budget)) i.serves
 
 -- ---- what is left of a budget
 
@@ -386,6 +560,26 @@ pub expand-returns-in-Some-clause-counts : goal.expand-returns-in-Some-clause-co
 expand-returns-in-Some-clause-counts g t c =
     CountsFresh-same c.args.game.now c.args.pass (sum c.args.position.now.items) c.args.search.now.meter (g.M.Memo.entries c.args.memo.now) (g.M.Memo.entries c.known.new.memo)
     (g.M.Memo.room c.args.memo.now) (g.M.Memo.room c.known.new.memo) c.known.ensures.same c.known.ensures.capacity
+
+pub expand-returns-then-finishes-clause-counts : goal.expand-returns-then-finishes-clause-counts
+expand-returns-then-finishes-clause-counts g t c =
+    let game = c.args.game.now in
+    let p = c.args.position.now in
+    let path = c.args.search.now.path in
+    let a = progress c.args.search.now.meter (g.M.Memo.entries c.args.memo.now) (g.M.Memo.room c.args.memo.now) in
+    let e1 = g.M.Memo.entries c.known.new.memo in
+    let b = progress c.visit.new.self e1 (g.M.Memo.room c.known.new.memo) in
+    let e2 = g.M.Memo.entries c.remember_finish.new.memo in
+    let fresh = subst (λ (p : Position). is_fresh c.args.pass (verdict_of a.entries p) ≡ true) c.in_ok-key.ensures.ok (c.known.ensures.fresh c.in_default.is) in
+    let visited : IsVisited game c.args.pass p path a b =
+    record { stands = c.requires.may.stands; fresh = fresh; meter = c.in_ok-visit.ensures.ok; same = c.known.ensures.same; room = c.known.ensures.capacity } in
+    let finishes = c.finishes.ensures.exact.0 c.if-finishes.true in
+    let none = c.known.ensures.same.values p ∙ none_for_finish game c.args.pass c.args.search.now.wins.nodes c.args.search.now.replies.nodes a.entries p
+    c.requires.sound.known finishes fresh in
+    let put = subst (λ (p : Position). length e1 < b.room → (more : ℕ) × Puts are_equal e1 e2 p (Algorithm FINISHES) more) c.in_ok-key.ensures.ok
+    c.in_ok-remember_finish.ensures.put in
+    CountsFresh-visited game c.args.pass p path a b b e2 (g.M.Memo.room c.remember_finish.new.memo) (Algorithm FINISHES) visited
+    (CountsFresh-refl game c.args.pass (sum p.items + 1) b) tt c.remember_finish.ensures.valid (λ left. put (left none)) c.remember_finish.ensures.capacity
 
 pub expand-returns-clause-found : goal.expand-returns-clause-found
 expand-returns-clause-found g t c =
@@ -468,9 +662,6 @@ weigh_all-returns-in_err-number-clause-counts g t c =
     passed_on _ (IsShort game c.args.pass volume a) fault c.from_residual.result c.from_residual.ensures.1
     (IsShort-after game c.args.pass volume a b fault c.loop-tried.invariant.counts c.in_err-number.ensures.counts)
 
-pub decide-returns-then-finishes-clause-counts : goal.decide-returns-then-finishes-clause-counts
-decide-returns-then-finishes-clause-counts g t c = CountsFresh-refl c.args.game.now c.args.pass (sum c.args.position.now.items + 1) _
-
 pub weigh_all-returns-in-Won-clause-counts : goal.weigh_all-returns-in-Won-clause-counts
 weigh_all-returns-in-Won-clause-counts g t c =
     CountsFresh-trans c.args.game.now c.args.pass (sum c.args.position.now.items + 1) _ _ _ c.loop-tried.invariant.counts c.in_ok-number.ensures.counts
@@ -479,7 +670,14 @@ pub weigh_all-returns-then-len-from-clause-counts : goal.weigh_all-returns-then-
 weigh_all-returns-then-len-from-clause-counts g t c = c.loop-tried.invariant.counts
 
 pub weigh_all-returns-clause-counts : goal.weigh_all-returns-clause-counts
-weigh_all-returns-clause-counts g t c = c.loop-tried.invariant.counts
+weigh_all-returns-clause-counts g t c =
+    let game = c.args.game.now in
+    let puts = c.in_ok-number-2.ensures in
+    let meter : c.put_reply.new.search.meter ≡ c.loop-tried.search.meter =
+    ap (λ (s : Search). s.meter) puts.same ∙ (Stays-all game c.args.position.now c.as_slice.result.now c.loop-tried.search puts.between puts.all).meter in
+    subst (λ m. CountsFresh game c.args.pass (sum c.args.position.now.items + 1)
+    (progress c.args.search.now.meter (g.M.Memo.entries c.args.memo.now) (g.M.Memo.room c.args.memo.now))
+    (progress m (g.M.Memo.entries c.loop-tried.memo) (g.M.Memo.room c.loop-tried.memo))) (sym meter) c.loop-tried.invariant.counts
 
 pub weigh-returns-then-not-allows-clause-counts : goal.weigh-returns-then-not-allows-clause-counts
 weigh-returns-then-not-allows-clause-counts g t c = CountsFresh-refl c.args.game.now c.args.pass (sum c.args.position.now.items + 1) _

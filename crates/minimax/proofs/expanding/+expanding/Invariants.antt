@@ -5,7 +5,8 @@ use Rattle.loads.specs.Descending.{distinct}
 use Rattle.strategy_text.specs.declared.node.Entry.{Entry}
 use Rattle.strategy_text.specs.declared.node.Placement.{Placement}
 use Rattle.minimax.specs.Fresh.{CountsFresh, progress}
-use Rattle.minimax.specs.State.{FollowsUp, IsReply, IsWonIn, WentOn, WinsBy, numbers_down, with_move}
+use Rattle.minimax.specs.Serving.{IsEntryServed, KeepsServing}
+use Rattle.minimax.specs.State.{FollowsUp, IsPending, IsWonIn, WentOn, WinsBy, numbers_down, with_move}
 use Rattle.minimax.proofs.expanding.+expanding.Given as goal
 
 abbrev pub decreases-expand : goal.decreases-expand
@@ -28,9 +29,10 @@ decreases-try_load g l = 6 * (l.game.now.bins * l.game.now.capacity - sum l.posi
 
 abbrev pub invariant-try_size-loop-i : goal.invariant-try_size-loop-i
 invariant-try_size-loop-i g l = record {
-  went : WentOn l.game l.pass 0 (with_move l.fn.search l.size (get_or (l.game.target ∷ distinct l.position.loads) l.i 0)) l.fn.search l.search (g.M.Memo.entries l.memo);
+  went : WentOn l.game l.pass (with_move l.fn.search l.size (get_or (l.game.target ∷ distinct l.position.loads) l.i 0)) l.fn.search l.search (g.M.Memo.entries l.memo);
   counts : CountsFresh l.game l.pass (sum l.position.items + 1) (progress l.fn.search.meter (g.M.Memo.entries l.fn.memo) (g.M.Memo.room l.fn.memo))
       (progress l.search.meter (g.M.Memo.entries l.memo) (g.M.Memo.room l.memo));
+  serves : KeepsServing 0 l.fn.search (g.M.Memo.entries l.fn.memo) l.search (g.M.Memo.entries l.memo) (λ later. Unit {0});
   places : map (λ (placement : Placement). placement.load) l.placements ≡ take l.i (distinct l.position.loads);
   each : All (FollowsUp l.game l.pass l.search l.position l.size) l.placements;
   won : (k : ℕ) → k < l.i → (l.game.target ≤ get_or (distinct l.position.loads) k 0 + l.size)
@@ -39,12 +41,14 @@ invariant-try_size-loop-i g l = record {
 
 abbrev pub invariant-weigh_all-loop-tried : goal.invariant-weigh_all-loop-tried
 invariant-weigh_all-loop-tried g l = record {
-  went : WentOn l.game l.pass 0 (with_move l.fn.search (l.room - l.tried) l.game.target) l.fn.search l.search (g.M.Memo.entries l.memo);
+  went : WentOn l.game l.pass (with_move l.fn.search (l.room - l.tried) l.game.target) l.fn.search l.search (g.M.Memo.entries l.memo);
   counts : CountsFresh l.game l.pass (sum l.position.items + 1) (progress l.fn.search.meter (g.M.Memo.entries l.fn.memo) (g.M.Memo.room l.fn.memo))
       (progress l.search.meter (g.M.Memo.entries l.memo) (g.M.Memo.room l.memo));
+  serves : KeepsServing 0 l.fn.search (g.M.Memo.entries l.fn.memo) l.search (g.M.Memo.entries l.memo)
+      (λ later. All (IsEntryServed later l.search l.position) l.entries.items);
   none : (size : ℕ) → l.room - l.tried < size → WinsBy l.game l.pass l.position size → ⊥;
   few : length l.entries.items ≤ l.tried;
   sizes : length l.entries.items ≡ l.tried → map (λ (entry : Entry). entry.size) l.entries.items ≡ numbers_down l.room l.tried;
-  each : All (IsReply l.game l.search.replies.nodes l.position) l.entries.items;
+  each : All (IsPending l.game l.search.replies.nodes l.position) l.entries.items;
   gaps : length l.entries.items < l.tried → l.pass + 1 < l.game.capacity;
 }

@@ -3,19 +3,32 @@ use Rattle.loads.specs.Loads.{IsLoads}
 use Rattle.loads.specs.Position.{position}
 use Rattle.loads.specs.Wins.{empty_position}
 use Rattle.monotone.specs.Visits.{IsLater, Metered, visit}
-use Rattle.minimax.specs.State.{FindsVerdict, IsNeverWon, IsSpent, IsWonIn, Stops}
+use Rattle.minimax.specs.Serving.{IsServedBy, KeepsServing}
+use Rattle.minimax.specs.State.{FindsVerdict, IsNeverWon, IsPlayable, IsSpent, IsWonIn, Stops}
 use Rattle.minimax.specs.Fresh.{IsShort, progress}
 use Rattle.minimax.proofs.FreshLemmas.{IsLessThanEnds-short, IsWithinEnds-next, IsWithinEnds-start}
-use Rattle.minimax.proofs.StateLemmas.{AreSound-later, never_by_node}
-use Rattle.minimax.proofs.RootLemmas.{AreSound-new, IsDue-spent, may_visit_root, none_more, root_of_reply, root_of_win}
+use Rattle.minimax.proofs.StateLemmas.{AreSound-later, never_by_led}
+use Rattle.minimax.proofs.RootLemmas.{AreSound-new, HasSpare-new, IsDue-spent, IsFor-reply, IsFor-win, IsPlayable-empty, after_root, may_number_root, may_visit_root, none_more, root_of_reply, root_of_win}
+use Rattle.minimax.proofs.NamingLemmas.{Stays-numbers, numbers_stand}
+use Rattle.minimax.proofs.ServingLemmas.{spare_after}
 use Rattle.minimax.proofs.game_search.search_passes.Goals as goal
 
 pub loop-pass-init : goal.loop-pass-init
 loop-pass-init g c = record {
   sound = AreSound-new c.args.game.now 0 c.args.budget c.new.result c.new-2.result c.new-3.result (g.M.Memo.entries c.args.memo.now) c.new.ensures.unused c.new-2.ensures.empty
       c.new-3.ensures.empty c.requires.empty c.requires.most;
+  behind = HasSpare-new (record {
+    alloc = c.args.alloc;
+    meter = c.new.result;
+    wins = c.new-2.result;
+    replies = c.new-3.result;
+    finishes = c.new-4.result;
+    rooms = c.args.game.now;
+    path = c.new-6.result;
+    most = 0;
+  }) c.args.game.now (g.M.Memo.entries c.args.memo.now) c.new-2.ensures.empty c.new-3.ensures.empty c.new-4.ensures.none c.requires.empty;
   ends = IsWithinEnds-start c.args.game.now (g.M.Memo.room c.args.memo.now) c.args.budget c.new.result (g.M.Memo.entries c.args.memo.now) c.new.ensures.unused c.requires.empty;
-  path = c.new-4.ensures.none;
+  path = c.new-6.ensures.none;
   most = c.g.ensures.value;
   budget = ap (λ (m : Metered). m.budget) c.new.ensures.unused;
   none_before = λ earlier first l won. omega (arith, l);
@@ -35,18 +48,72 @@ into_strategy-requires g c =
     let game = c.args.game.now in
     let e = g.M.Memo.entries c.expand.new.memo in
     let root = ap (λ xs. position xs c.empty.result) c.zero.ensures.value ∙ ap (position (empty_position game).loads) c.empty.ensures.none in
-    let finds = subst (FindsVerdict game c.loop-pass.pass 0 (position c.zero.result c.empty.result) c.loop-pass.search c.expand.new.search e) c.in-Ok-Adversary.field-0-is
+    let finds = subst (FindsVerdict game c.loop-pass.pass (position c.zero.result c.empty.result) c.loop-pass.search c.expand.new.search e) c.in-Ok-Adversary.field-0-is
     c.in-Ok-Adversary.ensures.found in
     record { root = root_of_win game c.loop-pass.pass c.expand.new.search.wins.nodes c.in-Ok-Adversary.number (position c.zero.result c.empty.result) root finds.tells.says }
+
+-- the root in the search, and what was found of it
+pub returns-in-Ok-Adversary-clause-answer : goal.returns-in-Ok-Adversary-clause-answer
+returns-in-Ok-Adversary-clause-answer g c =
+    let game = c.args.game.now in
+    let e0 = g.M.Memo.entries c.loop-pass.memo in
+    let e = g.M.Memo.entries c.expand.new.memo in
+    let s = c.expand.new.search in
+    let root = position c.zero.result c.empty.result in
+    let finds = subst (FindsVerdict game c.loop-pass.pass root c.loop-pass.search s e) c.in-Ok-Adversary.field-0-is c.in-Ok-Adversary.ensures.found in
+    let behind = spare_after 0 0 c.loop-pass.search s e0 e _ c.in-Ok-Adversary.ensures.serves c.loop-pass.invariant.behind in (
+      c.into_strategy.ensures.legal,
+      IsFor-win game c.loop-pass.pass c.args.budget s e c.in-Ok-Adversary.number c.into_strategy.result finds.went.sound behind
+          (finds.went.goes.budget ∙ c.loop-pass.invariant.budget) c.into_strategy.ensures.value,
+    )
+
+pub node_number-requires : goal.node_number-requires
+node_number-requires g c =
+    let game = c.args.game.now in
+    let e0 = g.M.Memo.entries c.loop-pass.memo in
+    let e = g.M.Memo.entries c.expand.new.memo in
+    let s = c.expand.new.search in
+    let root = position c.zero.result c.empty.result in
+    let told : ℕ = c.in-Ok-Algorithm.told in
+    let is = ap (λ xs. position xs c.empty.result) c.zero.ensures.value ∙ ap (position (empty_position game).loads) c.empty.ensures.none in
+    let finds = subst (FindsVerdict game c.loop-pass.pass root c.loop-pass.search s e) c.in-Ok-Algorithm.field-0-is c.in-Ok-Algorithm.ensures.found in
+    let serves = subst (λ v. KeepsServing 0 c.loop-pass.search e0 s e (λ later. IsServedBy later s root v)) c.in-Ok-Algorithm.field-0-is c.in-Ok-Algorithm.ensures.serves in
+    let behind = c.loop-pass.invariant.behind in
+    let h = serves 0 behind.0 behind.1 in
+    let playable = subst (IsPlayable game) (sym is) (IsPlayable-empty game (subst (IsLoads game) c.zero.ensures.value c.zero.ensures.legal)) in
+    may_number_root game c.loop-pass.pass s e root told finds.went.sound (h.later, h.behind) h.more playable finds.tells.says
 
 pub into_strategy-requires-in-Ok-Algorithm : goal.into_strategy-requires-in-Ok-Algorithm
 into_strategy-requires-in-Ok-Algorithm g c =
     let game = c.args.game.now in
+    let e0 = g.M.Memo.entries c.loop-pass.memo in
     let e = g.M.Memo.entries c.expand.new.memo in
-    let root = ap (λ xs. position xs c.empty.result) c.zero.ensures.value ∙ ap (position (empty_position game).loads) c.empty.ensures.none in
-    let finds = subst (FindsVerdict game c.loop-pass.pass 0 (position c.zero.result c.empty.result) c.loop-pass.search c.expand.new.search e) c.in-Ok-Algorithm.field-0-is
-    c.in-Ok-Algorithm.ensures.found in
-    record { root = root_of_reply game c.loop-pass.pass c.expand.new.search.replies.nodes c.in-Ok-Algorithm.number (position c.zero.result c.empty.result) root finds.tells.says }
+    let root = position c.zero.result c.empty.result in
+    let is = ap (λ xs. position xs c.empty.result) c.zero.ensures.value ∙ ap (position (empty_position game).loads) c.empty.ensures.none in
+    let behind = spare_after 0 0 c.loop-pass.search c.expand.new.search e0 e _ c.in-Ok-Algorithm.ensures.serves c.loop-pass.invariant.behind in
+    let stands = numbers_stand c.expand.new.search c.node_number.new.search root c.in-Ok-Algorithm.told c.in_ok-number-in-Ok-Algorithm.number 0 behind.0 c.in_ok-number-in-Ok-Algorithm.ensures behind.1.0 in
+    record { root = root_of_reply game c.loop-pass.pass c.node_number.new.search.replies.nodes c.in_ok-number-in-Ok-Algorithm.number root is stands }
+
+pub returns-in-Ok-Algorithm-clause-answer : goal.returns-in-Ok-Algorithm-clause-answer
+returns-in-Ok-Algorithm-clause-answer g c =
+    let game = c.args.game.now in
+    let e0 = g.M.Memo.entries c.loop-pass.memo in
+    let e = g.M.Memo.entries c.expand.new.memo in
+    let s = c.expand.new.search in
+    let t = c.node_number.new.search in
+    let root = position c.zero.result c.empty.result in
+    let told : ℕ = c.in-Ok-Algorithm.told in
+    let finds = subst (FindsVerdict game c.loop-pass.pass root c.loop-pass.search s e) c.in-Ok-Algorithm.field-0-is c.in-Ok-Algorithm.ensures.found in
+    let serves = subst (λ v. KeepsServing 0 c.loop-pass.search e0 s e (λ later. IsServedBy later s root v)) c.in-Ok-Algorithm.field-0-is c.in-Ok-Algorithm.ensures.serves in
+    let behind = c.loop-pass.invariant.behind in
+    let h = serves 0 behind.0 behind.1 in
+    let never = never_by_led game c.loop-pass.pass s.meter s.wins s.replies e root told finds.went.sound finds.tells.says in
+    let after = after_root game c.loop-pass.pass s t e root told c.in_ok-number-in-Ok-Algorithm.number finds.went.sound (h.later, h.behind) h.more never c.in_ok-number-in-Ok-Algorithm.ensures in
+    let stays = Stays-numbers s t root told c.in_ok-number-in-Ok-Algorithm.number c.in_ok-number-in-Ok-Algorithm.ensures in (
+      c.into_strategy-in-Ok-Algorithm.ensures.legal,
+      IsFor-reply game c.loop-pass.pass c.args.budget t e c.in_ok-number-in-Ok-Algorithm.number c.into_strategy-in-Ok-Algorithm.result after.0 after.1
+          (stays.goes.budget ∙ finds.went.goes.budget ∙ c.loop-pass.invariant.budget) c.into_strategy-in-Ok-Algorithm.ensures.value,
+    )
 
 pub returns-in-Err-Spent-clause-answer : goal.returns-in-Err-Spent-clause-answer
 returns-in-Err-Spent-clause-answer g c =
@@ -68,10 +135,10 @@ returns-in-Ok-Algorithm-clause-within g c =
     let e = g.M.Memo.entries c.expand.new.memo in
     let s = c.expand.new.search in
     let root = ap (λ xs. position xs c.empty.result) c.zero.ensures.value ∙ ap (position (empty_position game).loads) c.empty.ensures.none in
-    let finds = subst (FindsVerdict game c.loop-pass.pass 0 (position c.zero.result c.empty.result) c.loop-pass.search s e) c.in-Ok-Algorithm.field-0-is
+    let finds = subst (FindsVerdict game c.loop-pass.pass (position c.zero.result c.empty.result) c.loop-pass.search s e) c.in-Ok-Algorithm.field-0-is
     c.in-Ok-Algorithm.ensures.found in
-    subst (IsNeverWon game) root (never_by_node game c.loop-pass.pass s.meter s.wins s.replies e (position c.zero.result c.empty.result)
-    c.in-Ok-Algorithm.number finds.went.sound finds.tells.says)
+    subst (IsNeverWon game) root (never_by_led game c.loop-pass.pass s.meter s.wins s.replies e (position c.zero.result c.empty.result)
+    c.in-Ok-Algorithm.told finds.went.sound finds.tells.says)
 
 pub loop-pass-preserved : goal.loop-pass-preserved
 loop-pass-preserved g c =
@@ -80,16 +147,17 @@ loop-pass-preserved g c =
     let s2 = c.expand.new.search in
     let e = g.M.Memo.entries c.expand.new.memo in
     let root = ap (λ xs. position xs c.empty.result) c.zero.ensures.value ∙ ap (position (empty_position game).loads) c.empty.ensures.none in
-    let finds = subst (FindsVerdict game pass 0 (position c.zero.result c.empty.result) c.loop-pass.search s2 e) c.in-Ok-Held.field-0-is c.in-Ok-Held.ensures.found in
+    let finds = subst (FindsVerdict game pass (position c.zero.result c.empty.result) c.loop-pass.search s2 e) c.in-Ok-Held.field-0-is c.in-Ok-Held.ensures.found in
     let goes = finds.went.goes in
     record {
       sound = AreSound-later game pass s2.meter s2.wins s2.replies e (pass + 1) (omega arith) finds.went.sound;
+      behind = spare_after 0 0 c.loop-pass.search s2 (g.M.Memo.entries c.loop-pass.memo) e _ c.in-Ok-Held.ensures.serves c.loop-pass.invariant.behind;
       ends = IsWithinEnds-next game (g.M.Memo.room c.args.memo.now) c.args.budget pass (sum c.empty.result) _ _ c.loop-pass.invariant.ends c.in-Ok-Held.ensures.counts;
       path = goes.path ∙ c.loop-pass.invariant.path;
       most = goes.most ∙ c.loop-pass.invariant.most;
       budget = goes.budget ∙ c.loop-pass.invariant.budget;
       none_before = none_more game pass c.loop-pass.invariant.none_before
-          (λ won. finds.tells.says.1 (subst (IsWonIn game c.in-Ok-Held.field-0-0) (sym root) (subst (λ k. IsWonIn game k (empty_position game)) (sym finds.tells.of_pass) won)));
+          (λ won. finds.tells.says.not_won (subst (IsWonIn game c.in-Ok-Held.field-0-0) (sym root) (subst (λ k. IsWonIn game k (empty_position game)) (sym finds.tells.of_pass) won)));
       later = λ path. finds.went.passed (visit (pass + 1) path) (inl (omega arith));
-      of_game = omega (arith, finds.tells.says.0, finds.tells.of_pass);
+      of_game = omega (arith, finds.tells.says.before_last, finds.tells.of_pass);
     }

@@ -3,6 +3,7 @@ use Rattle.monotone.specs.Passes.{whole_game}
 use Rattle.monotone.specs.Visits.{IsLater, visit}
 use Rattle.monotone.specs.declared.path.PathMove.{PathMove}
 use Rattle.minimax.specs.Fresh.{IsWithinEnds, progress}
+use Rattle.minimax.specs.Serving.{HasSpare}
 use Rattle.minimax.specs.Settled.{NoneWonBefore}
 use Rattle.minimax.specs.State.{IsSound}
 use Rattle.minimax.proofs.game_search.search_passes.Given as goal
@@ -10,6 +11,7 @@ use Rattle.minimax.proofs.game_search.search_passes.Given as goal
 abbrev pub invariant-loop-pass : goal.invariant-loop-pass
 invariant-loop-pass g l = record {
   sound : IsSound l.game l.pass l.search (g.M.Memo.entries l.memo);
+  behind : HasSpare 0 l.search (g.M.Memo.entries l.memo);
   ends : IsWithinEnds l.game (g.M.Memo.room l.fn.memo) l.budget l.pass (progress l.search.meter (g.M.Memo.entries l.memo) (g.M.Memo.room l.memo));
   path : l.search.path ≡ [];
   most : l.search.most ≡ l.game.capacity;

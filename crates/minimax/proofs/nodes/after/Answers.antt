@@ -2,7 +2,7 @@ use Rattle.std.proofs.Common.{arith}
 use Rattle.adversary_graph.proofs.RuleLemmas.{game_volume}
 use Rattle.packing_witness.proofs.PackingLemmas.{size_of_last}
 use Rattle.minimax.proofs.PlayableLemmas.{total_with}
-use Rattle.minimax.proofs.expanding.after.Goals as goal
+use Rattle.minimax.proofs.nodes.after.Goals as goal
 
 pub add-requires-clause-high : goal.add-requires-clause-high
 add-requires-clause-high c =

@@ -1,0 +1,13 @@
+use Rattle.std.proofs.Common.{◌≡◌, map, take}
+use Rattle.std.specs.Prelude.{All}
+use Rattle.strategy_text.specs.declared.node.Entry.{Entry}
+use Rattle.minimax.specs.Naming.{NamesAll}
+use Rattle.minimax.specs.State.{IsReply}
+use Rattle.minimax.proofs.naming.name_all.Given as goal
+
+abbrev pub invariant-loop-entry : goal.invariant-loop-entry
+invariant-loop-entry l = record {
+  chain : NamesAll l.game l.position l.entries l.fn.search l.search;
+  sizes : map (λ (entry : Entry). entry.size) l.all.items ≡ map (λ (entry : Entry). entry.size) (take l.entry-index l.entries);
+  each : All (IsReply l.game l.search.replies.nodes l.position) l.all.items;
+}

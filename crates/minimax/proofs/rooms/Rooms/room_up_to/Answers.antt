@@ -1,0 +1,35 @@
+use Rattle.std.proofs.Common.{◌≡◌, ◌∙◌, sym, ap, subst}
+use Rattle.items.specs.Packable.{IsRoom}
+use Rattle.loads.specs.declared.position.Position.{Position}
+use Rattle.minimax.proofs.RoomLemmas.{AreRooms-same, AreRooms-with}
+use Rattle.minimax.proofs.rooms.Rooms.room_up_to.Goals as goal
+
+pub invariant_of-self : goal.invariant_of-self
+invariant_of-self c = AreRooms-same c.self.inside.game c.self.inside.table.entries c.get.new.self.entries c.get.ensures.same c.self.invariant
+
+pub returns-in-Some : goal.returns-in-Some
+returns-in-Some c =
+    let kept = c.self.invariant c.in_ok-key.key c.in-Some.room (sym c.get.ensures.value ∙ c.in-Some.is) in
+    let items : c.in_ok-key.key.items ≡ c.args.items.now = ap (λ (p : Position). p.items) c.in_ok-key.ensures.ok in
+    record {
+      exact = subst (λ game. IsRoom game c.args.items.now c.in-Some.room) c.if-not-is_same.ensures
+          (subst (λ xs. IsRoom c.self.inside.game xs c.in-Some.room) items kept);
+    }
+
+pub invariant_of-self-in_err-room : goal.invariant_of-self-in_err-room
+invariant_of-self-in_err-room c = AreRooms-same c.self.inside.game c.self.inside.table.entries c.get.new.self.entries c.get.ensures.same c.self.invariant
+
+pub invariant_of-self-in_err-put : goal.invariant_of-self-in_err-put
+invariant_of-self-in_err-put c =
+    AreRooms-same c.self.inside.game c.get.new.self.entries c.put.new.self.entries c.in_err-put.ensures.err
+    (AreRooms-same c.self.inside.game c.self.inside.table.entries c.get.new.self.entries c.get.ensures.same c.self.invariant)
+
+pub invariant_of-self-2 : goal.invariant_of-self-2
+invariant_of-self-2 c =
+    let game = c.self.inside.game in
+    let items : c.in_ok-key.key.items ≡ c.args.items.now = ap (λ (p : Position). p.items) c.in_ok-key.ensures.ok in
+    let is = subst (λ g. IsRoom g c.args.items.now c.in_ok-room.room) (sym c.if-not-is_same.ensures) c.in_ok-room.ensures.exact in
+    AreRooms-with game c.get.new.self.entries c.put.new.self.entries c.in_ok-key.key c.in_ok-room.room c.get.new.self.capacity
+    (λ some. (c.put.ensures.present some).1) c.in_ok-put.ensures.below c.in_ok-put.ensures.full
+    (subst (λ xs. IsRoom game xs c.in_ok-room.room) (sym items) is)
+    (AreRooms-same game c.self.inside.table.entries c.get.new.self.entries c.get.ensures.same c.self.invariant)

@@ -1,0 +1,77 @@
+//! The rooms of multisets of items that a search asked for, in a table of bounded size.
+
+ghost use Rattle.std.specs.Prelude.{◌≡◌, ℕ, ◌≤◌, ◌++◌, ◌∷◌, [], IfOk};
+ghost use Rattle.std.specs.Bool.{OnTrue};
+ghost use Rattle.items.specs.Packable.{IsRoom, Packable};
+
+use items::{Game, Items};
+use loads::Loads;
+use reachable_loads::room_up_to;
+use std::alloc::{AllocError, Global};
+use std::marker::Model;
+use transposition::{ClockTable, Key};
+
+// How many rooms are kept at most.
+const MOST_ROOMS: usize = 1000000;
+
+/// The rooms that were asked for in one game. The positions that lead to a multiset of items have one room.
+#[derive(Drop)]
+pub(crate) struct Rooms {
+    game: Game,
+    // The loads of a key, which are the same for all multisets.
+    no_loads: Loads,
+    table: ClockTable<Key, u16>,
+}
+
+impl Model for Rooms {
+    ghost use Rattle.items.specs.Game.{GameNumbers};
+    ghost use Rattle.minimax.specs.Rooms.{AreRooms};
+
+    ghost Value = { GameNumbers };
+
+    ghost view = { λ a. a.game };
+
+    ghost invariant = { λ a. AreRooms a.game a.table.entries };
+}
+
+impl Rooms {
+    /// No rooms of the game yet.
+    pub(crate) fn new(alloc: Global, game: &Game) -> Result<Rooms, AllocError> {
+        Ok(Rooms {
+            game: *game,
+            no_loads: Loads::zero(alloc, game),
+            table: ClockTable::new(alloc, MOST_ROOMS)?,
+        })
+    }
+
+    /// The greatest size of an item that may come next, where a bound on it is known. It is kept where the game is that
+    /// of the table.
+    pub(crate) fn room_up_to(
+        &mut self,
+        alloc: Global,
+        game: &Game,
+        items: &Items,
+        most: u16,
+    ) -> Result<u16, AllocError>
+        requires bound { (size : ℕ) → Packable game.now (items.now ++ size ∷ []) → size ≤ most }
+        ensures exact { IfOk result (IsRoom game.now items.now) }
+    {
+        if !is_same(&self.game, game) {
+            return room_up_to(alloc, game, items, most);
+        }
+        let key = Key::of(alloc, &self.no_loads, items)?;
+        if let Some(room) = self.table.get(&key) {
+            return Ok(room);
+        }
+        let room = room_up_to(alloc, game, items, most)?;
+        self.table.put(key, room)?;
+        Ok(room)
+    }
+}
+
+// Whether both have the same numbers.
+fn is_same(game: &Game, other: &Game) -> bool
+    ensures { OnTrue result (game.now ≡ other.now) }
+{
+    game.m() == other.m() && game.g() == other.g() && game.t() == other.t()
+}
