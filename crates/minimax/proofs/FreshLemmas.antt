@@ -43,7 +43,9 @@ use Rattle.minimax.specs.declared.answer.Answer.TheVariants as Answers
 use Rattle.minimax.specs.Budgets.{AreNumbersOfEnds, HasRoom, IsOfAdversary, ends_before}
 use Rattle.minimax.specs.Fresh.{AreOfEnds, CountsFresh, IsLessThanEnds, IsShort, IsWithin, IsWithinEnds, Looks, Progress, but, counted_and_fresh}
 use Rattle.minimax.specs.Fresh.{is_fresh, number_fresh, progress}
-use Rattle.minimax.specs.State.{AreKnown, IsOfPass, IsWonIn, StandsAtPath, allowed_by}
+use Rattle.minimax.specs.State.{AreKnown, IsOfPass, IsTold, IsWonIn, StandsAtPath, allowed_by}
+use Rattle.minimax.specs.declared.table.Told.{Told}
+use Rattle.minimax.specs.declared.table.Told.TheVariants.{Earlier, Settled, Unknown}
 
 -- ---- equal positions
 
@@ -150,6 +152,12 @@ pub is_fresh-other : (pass : ℕ) (verdict : Verdict) → (IsOfPass pass verdict
 is_fresh-other pass (Adversary number) h = absurd (h tt)
 is_fresh-other pass (Algorithm number) h = absurd (h tt)
 is_fresh-other pass (Held held) h = not_from_false (eqb held pass) (false_from_ne_true (eqb held pass) (λ e. h (eqb-true held pass e)))
+
+-- where the table does not settle a position it is to be visited
+pub fresh_told : (pass : ℕ) (o : Option Verdict) (told : Told) → IsTold pass o told → ((verdict : Verdict) → told ≡ Settled verdict → ⊥) → is_fresh pass o ≡ true
+fresh_told pass o (Settled verdict) h not_settled = absurd (not_settled verdict refl)
+fresh_told pass o (Earlier held) h not_settled = subst (λ x. is_fresh pass x ≡ true) (sym h.0) (is_fresh-other pass (Held held) h.1)
+fresh_told pass o Unknown h not_settled = subst (λ x. is_fresh pass x ≡ true) (sym h) refl
 
 -- a position that finishes and is to be visited has no entry
 pub none_for_finish : (game : GameNumbers) (pass : ℕ) (wins : List AdvNode) (replies : List AlgNode) (entries : List (Position × Verdict)) (position : Position)

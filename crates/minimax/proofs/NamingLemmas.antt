@@ -12,13 +12,11 @@ use Rattle.strategy_text.specs.Spelling.{most_nodes}
 use Rattle.strategy_text.specs.declared.node.Entry.{Entry}
 use Rattle.algorithm_graph.specs.Nodes as algorithm
 use Rattle.transposition.specs.declared.verdict.Verdict.{Verdict}
-use Rattle.transposition.specs.declared.verdict.Verdict.TheVariants.{Algorithm}
 use Rattle.minimax.specs.Naming.{IsNamed, MayName, MayNameAll, Names, NamesAll, NamesNew, Numbers, none_named, one_named}
 use Rattle.minimax.specs.Serving.{IsEntryServed, IsUnder, led_to}
 use Rattle.minimax.specs.State.{AreSound, Goes, HasPassed, IsNeverWon, IsPending, IsReply, IsSound, WentOn}
 use Rattle.monotone.specs.declared.path.PathMove.{PathMove}
 use Rattle.minimax.specs.declared.expanding.Search.{Search}
-use Rattle.minimax.specs.declared.finish_nodes.TheConstants.{FINISHES}
 use Rattle.minimax.proofs.PlayableLemmas.{IsPlayable-after}
 use Rattle.minimax.proofs.ServingLemmas.{serves_all}
 use Rattle.minimax.proofs.StateLemmas.{AreSound-reply, IsPending-goes, IsReply-goes, StandsAt-last, never_by_led}
@@ -114,7 +112,7 @@ sound_all game pass position entries s after told (one_named start middle end en
 pub still_under : (game : GameNumbers) (position : Position) (entries : List Entry) (s after : Search) → NamesAll game position entries s after
     → (may : MayNameAll game s position entries) → (later : List Position) × IsUnder 1 later after
 still_under game position entries s after all may =
-    let h = serves_all game position entries s after all 1 may.unnamed [] (may.under, λ p e. absurd (none-some (Algorithm FINISHES) e))
+    let h = serves_all game position entries s after all 1 may.unnamed [] (may.under, λ p v e. absurd (none-some v e))
     (λ entry c. All-contains (IsEntryServed may.unnamed s position) entries entry may.served c) in
     (h.later, h.behind.0)
 

@@ -43,7 +43,6 @@ use Rattle.minimax.specs.State.{AreSound, IsLed, IsNeverWon, IsPlayable, IsSound
 use Rattle.minimax.specs.Naming.{MayNumber, Numbers}
 use Rattle.minimax.specs.Serving.{HasSpare, IsServedBy, number_of}
 use Rattle.minimax.specs.declared.expanding.Search.{Search}
-use Rattle.minimax.specs.declared.finish_nodes.TheConstants.{FINISHES}
 use Rattle.minimax.proofs.NamingLemmas.{sound_names}
 use Rattle.minimax.proofs.ServingLemmas.{serves_number}
 
@@ -69,7 +68,7 @@ IsPlayable-empty game loads = record {
 
 -- a new search has no nodes
 pub HasSpare-new : (s : Search) (game : GameNumbers) (entries : List (Position × Verdict)) → s.wins ≡ adversary_pools.pool_of One game []
-    → s.replies ≡ algorithm_pools.pool_of One game [] → s.finishes ≡ [] → entries ≡ [] → HasSpare 0 s entries
+    → s.replies ≡ algorithm_pools.pool_of One game [] → s.finishes ≡ [] → entries ≡ [] → HasSpare game 0 s entries
 HasSpare-new s game entries w r f e = (
   [],
   (
@@ -77,7 +76,7 @@ HasSpare-new s game entries w r f e = (
       few = omega (arith, ap (λ (p : adversary_pools.Pool). length p.nodes) w, ap (λ (p : algorithm_pools.Pool). length p.nodes) r);
       named = λ p k told. absurd (none-some k (subst (λ fs. number_of fs p ≡ Some k) f told));
     },
-    λ p told. absurd (none-some (Algorithm FINISHES) (subst (λ es. verdict_of es p ≡ Some (Algorithm FINISHES)) e told)),
+    λ p v told. absurd (none-some v (subst (λ es. verdict_of es p ≡ Some v) e told)),
   ),
 )
 
@@ -135,7 +134,7 @@ module _ (game : GameNumbers) (pass : ℕ) where
       algorithm_lemmas.root_from_position nodes number root stands (subst IsEmptyPosition (sym is) empty_is)
 
   -- the strategy up to the root has no more nodes than visits were made
-  pub IsFor-win : (budget : ℕ) (s : Search) (entries : List (Position × Verdict)) (root : ℕ) (strategy : Strategy) → IsSound game pass s entries → HasSpare 0 s entries → s.meter.budget ≡ budget
+  pub IsFor-win : (budget : ℕ) (s : Search) (entries : List (Position × Verdict)) (root : ℕ) (strategy : Strategy) → IsSound game pass s entries → HasSpare game 0 s entries → s.meter.budget ≡ budget
       → strategy ≡ adversary_pools.strategy_of (adversary_pools.pool_of s.wins.format s.wins.game (adversary_pools.nodes_up_to root s.wins.nodes)) → IsFor game budget strategy
   IsFor-win budget s entries root strategy sound behind b is = subst (IsFor game budget) (sym is) (record {
     of_game = sound.wins_game;
@@ -143,7 +142,7 @@ module _ (game : GameNumbers) (pass : ℕ) where
     few = omega (arith, behind.1.0.few, sound.within, b, length-map (take (root + 1) s.wins.nodes) of_adversary, length-take-le (root + 1) s.wins.nodes);
   })
 
-  pub IsFor-reply : (budget : ℕ) (s : Search) (entries : List (Position × Verdict)) (root : ℕ) (strategy : Strategy) → IsSound game pass s entries → HasSpare 0 s entries → s.meter.budget ≡ budget
+  pub IsFor-reply : (budget : ℕ) (s : Search) (entries : List (Position × Verdict)) (root : ℕ) (strategy : Strategy) → IsSound game pass s entries → HasSpare game 0 s entries → s.meter.budget ≡ budget
       → strategy ≡ algorithm_pools.strategy_of (algorithm_pools.pool_of s.replies.format s.replies.game (algorithm_pools.nodes_up_to root s.replies.nodes)) →
       IsFor game budget strategy
   IsFor-reply budget s entries root strategy sound behind b is = subst (IsFor game budget) (sym is) (record {
@@ -154,14 +153,14 @@ module _ (game : GameNumbers) (pass : ℕ) where
 
   -- the number of the root's node may be asked for
   pub may_number_root : (s : Search) (entries : List (Position × Verdict)) (root : Position) (number : ℕ) → IsSound game pass s entries
-      → (behind : HasSpare 0 s entries) → IsServedBy behind.0 s root (Algorithm number) → IsPlayable game root → IsLed game s.replies.nodes root number
+      → (behind : HasSpare game 0 s entries) → IsServedBy game behind.0 s root (Algorithm number) → IsPlayable game root → IsLed game s.replies.nodes root number
       → MayNumber game s root number
   may_number_root s entries root number sound behind served playable led = record {
     replies = record { of_game = sound.replies_game; of_format = sound.replies_format };
     playable = playable;
     led = led;
     limit = omega (arith, behind.1.0.few, sound.within, sound.budget);
-    room = λ e none. elim (served (ap Algorithm e)) [
+    room = λ e none. elim (served.0 (ap Algorithm e)) [
       | inl c ↦ omega (arith, behind.1.0.few, sound.within, sound.budget, c.1)
       | inr some ↦ let no : false ≡ true = subst IsSome none some in cc
     ];
@@ -169,12 +168,12 @@ module _ (game : GameNumbers) (pass : ℕ) where
 
   -- the search after the root got its number
   pub after_root : (s after : Search) (entries : List (Position × Verdict)) (root : Position) (told number : ℕ) → IsSound game pass s entries
-      → (behind : HasSpare 0 s entries) → IsServedBy behind.0 s root (Algorithm told) → IsNeverWon game root → Numbers s after root told number
-      → IsSound game pass after entries × HasSpare 0 after entries
+      → (behind : HasSpare game 0 s entries) → IsServedBy game behind.0 s root (Algorithm told) → IsNeverWon game root → Numbers s after root told number
+      → IsSound game pass after entries × HasSpare game 0 after entries
   after_root s after entries root told number sound behind served never (inl (e, n, h)) =
-      (subst (λ t. IsSound game pass t entries) (sym e) sound, subst (λ t. HasSpare 0 t entries) (sym e) behind)
+      (subst (λ t. IsSound game pass t entries) (sym e) sound, subst (λ t. HasSpare game 0 t entries) (sym e) behind)
   after_root s after entries root told number sound behind served never (inr (e, names)) =
-      let h = serves_number s after root number 0 behind.0 entries names behind.1 (served (ap Algorithm e)) in
+      let h = serves_number game s after root number 0 behind.0 entries names behind.1 (served.0 (ap Algorithm e)) in
       (sound_names game pass s after entries root number sound never names, (h.later, h.behind))
 
   -- the visit that was due

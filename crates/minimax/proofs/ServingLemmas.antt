@@ -4,6 +4,7 @@ use Rattle.std.proofs.Common.{refl, sym, ap, ◌∙◌, subst, inl, inr, ⊎_eli
 use Rattle.std.specs.Prelude.{Contains, IsSome, if◌then◌else◌}
 use Rattle.std.proofs.lemmas.List.{length_push}
 use Rattle.items.specs.Game.{GameNumbers}
+use Rattle.loads.specs.After.{after}
 use Rattle.loads.specs.Packed.{are_equal}
 use Rattle.loads.specs.Position.{StandsAt}
 use Rattle.loads.specs.declared.position.Position.{Position}
@@ -17,7 +18,7 @@ use Rattle.monotone.specs.Visits.{Metered, Visit, counted}
 use Rattle.monotone.proofs.ListLemmas.{Contains-first, Contains-later, Contains-nothing, Contains-split}
 use Rattle.transposition.specs.Bounded.{SameEntries}
 use Rattle.transposition.specs.declared.verdict.Verdict.{Verdict}
-use Rattle.transposition.specs.declared.verdict.Verdict.TheVariants.{Algorithm}
+use Rattle.transposition.specs.declared.verdict.Verdict.TheVariants.{Algorithm, Held}
 use Rattle.minimax.specs.Naming.{Names, NamesAll, NamesNew, none_named, one_named}
 use Rattle.minimax.specs.State.{PutsOnly, PutsReply, PutsWin}
 use Rattle.minimax.specs.Serving.{AreUnder, IsBehind, IsEntryServed, IsServed, IsServedBy, KeepsServing, Serving, led_to, number_of}
@@ -32,30 +33,30 @@ pub AreUnder-less : (more less : ℕ) (unnamed : List Position) (meter : Metered
     (finishes : List (Position × ℕ)) → less ≤ more → AreUnder more unnamed meter wins replies finishes → AreUnder less unnamed meter wins replies finishes
 AreUnder-less more less unnamed meter wins replies finishes l u = record { few = omega (arith, l, u.few); named = u.named }
 
-pub IsBehind-less : (more less : ℕ) (unnamed : List Position) (s : Search) (entries : List (Position × Verdict)) → less ≤ more → IsBehind more unnamed s entries
-    → IsBehind less unnamed s entries
-IsBehind-less more less unnamed s entries l b = (AreUnder-less more less unnamed s.meter s.wins.nodes s.replies.nodes s.finishes l b.0, b.1)
+pub IsBehind-less : (game : GameNumbers) (more less : ℕ) (unnamed : List Position) (s : Search) (entries : List (Position × Verdict)) → less ≤ more → IsBehind game more unnamed s entries
+    → IsBehind game less unnamed s entries
+IsBehind-less game more less unnamed s entries l b = (AreUnder-less more less unnamed s.meter s.wins.nodes s.replies.nodes s.finishes l b.0, b.1)
 
 -- ---- one step after another
 
-pub Serving-refl : (spare : ℕ) (unnamed : List Position) (s : Search) (entries : List (Position × Verdict)) (More : List Position → Type 0)
-    → IsBehind spare unnamed s entries → More unnamed → Serving spare unnamed s s entries More
-Serving-refl spare unnamed s entries More b m = record { later = unnamed; behind = b; keeps = λ p h. h; more = m }
+pub Serving-refl : (game : GameNumbers) (spare : ℕ) (unnamed : List Position) (s : Search) (entries : List (Position × Verdict)) (More : List Position → Type 0)
+    → IsBehind game spare unnamed s entries → More unnamed → Serving game spare unnamed s s entries More
+Serving-refl game spare unnamed s entries More b m = record { later = unnamed; behind = b; keeps = λ p h. h; more = m }
 
-pub KeepsServing-then : (a b took : ℕ) (s0 s1 s2 : Search) (e0 e1 e2 : List (Position × Verdict)) (M N : List Position → Type 0) → a + b ≡ took
-    → KeepsServing a s0 e0 s1 e1 M → KeepsServing b s1 e1 s2 e2 N → KeepsServing took s0 e0 s2 e2 N
-KeepsServing-then a b took s0 s1 s2 e0 e1 e2 M N e f g spare unnamed behind =
-    let first = f (b + spare) unnamed (IsBehind-less (took + spare) (a + (b + spare)) unnamed s0 e0 (omega (arith, e)) behind) in
+pub KeepsServing-then : (game : GameNumbers) (a b took : ℕ) (s0 s1 s2 : Search) (e0 e1 e2 : List (Position × Verdict)) (M N : List Position → Type 0) → a + b ≡ took
+    → KeepsServing game a s0 e0 s1 e1 M → KeepsServing game b s1 e1 s2 e2 N → KeepsServing game took s0 e0 s2 e2 N
+KeepsServing-then game a b took s0 s1 s2 e0 e1 e2 M N e f g spare unnamed behind =
+    let first = f (b + spare) unnamed (IsBehind-less game (took + spare) (a + (b + spare)) unnamed s0 e0 (omega (arith, e)) behind) in
     let second = g spare first.later first.behind in
     record { later = second.later; behind = second.behind; keeps = λ p h. second.keeps p (first.keeps p h); more = second.more }
 
 -- what more is served still is, after a further step
-pub KeepsServing-and : (a b took : ℕ) (s0 s1 s2 : Search) (e0 e1 e2 : List (Position × Verdict)) (M N O : List Position → Type 0) → a + b ≡ took
-    → KeepsServing a s0 e0 s1 e1 M → KeepsServing b s1 e1 s2 e2 N
+pub KeepsServing-and : (game : GameNumbers) (a b took : ℕ) (s0 s1 s2 : Search) (e0 e1 e2 : List (Position × Verdict)) (M N O : List Position → Type 0) → a + b ≡ took
+    → KeepsServing game a s0 e0 s1 e1 M → KeepsServing game b s1 e1 s2 e2 N
     → ((before later : List Position) → ((p : Position) → IsServed before s1 p → IsServed later s2 p) → M before → N later → O later)
-    → KeepsServing took s0 e0 s2 e2 O
-KeepsServing-and a b took s0 s1 s2 e0 e1 e2 M N O e f g join spare unnamed behind =
-    let first = f (b + spare) unnamed (IsBehind-less (took + spare) (a + (b + spare)) unnamed s0 e0 (omega (arith, e)) behind) in
+    → KeepsServing game took s0 e0 s2 e2 O
+KeepsServing-and game a b took s0 s1 s2 e0 e1 e2 M N O e f g join spare unnamed behind =
+    let first = f (b + spare) unnamed (IsBehind-less game (took + spare) (a + (b + spare)) unnamed s0 e0 (omega (arith, e)) behind) in
     let second = g spare first.later first.behind in
     record {
       later = second.later;
@@ -64,33 +65,39 @@ KeepsServing-and a b took s0 s1 s2 e0 e1 e2 M N O e f g join spare unnamed behin
       more = join first.later second.later second.keeps first.more second.more;
     }
 
-pub KeepsServing-weaker : (took : ℕ) (s0 s1 : Search) (e0 e1 : List (Position × Verdict)) (M N : List Position → Type 0)
-    → ((later : List Position) → M later → N later) → KeepsServing took s0 e0 s1 e1 M → KeepsServing took s0 e0 s1 e1 N
-KeepsServing-weaker took s0 s1 e0 e1 M N w f spare unnamed behind =
+pub KeepsServing-weaker : (game : GameNumbers) (took : ℕ) (s0 s1 : Search) (e0 e1 : List (Position × Verdict)) (M N : List Position → Type 0)
+    → ((later : List Position) → M later → N later) → KeepsServing game took s0 e0 s1 e1 M → KeepsServing game took s0 e0 s1 e1 N
+KeepsServing-weaker game took s0 s1 e0 e1 M N w f spare unnamed behind =
     let h = f spare unnamed behind in
     record { later = h.later; behind = h.behind; keeps = h.keeps; more = w h.later h.more }
 
 -- there are so many visits left over still
-pub spare_after : (spare took : ℕ) (s0 s1 : Search) (e0 e1 : List (Position × Verdict)) (M : List Position → Type 0) → KeepsServing took s0 e0 s1 e1 M
-    → (h : (unnamed : List Position) × IsBehind (took + spare) unnamed s0 e0) → (unnamed : List Position) × IsBehind spare unnamed s1 e1
-spare_after spare took s0 s1 e0 e1 M f h =
+pub spare_after : (game : GameNumbers) (spare took : ℕ) (s0 s1 : Search) (e0 e1 : List (Position × Verdict)) (M : List Position → Type 0) → KeepsServing game took s0 e0 s1 e1 M
+    → (h : (unnamed : List Position) × IsBehind game (took + spare) unnamed s0 e0) → (unnamed : List Position) × IsBehind game spare unnamed s1 e1
+spare_after game spare took s0 s1 e0 e1 M f h =
     let after = f spare h.0 h.1 in (after.later, after.behind)
 
 -- ---- the table
 
+-- what was served still is, so also by a verdict
+pub served_still : (game : GameNumbers) (before later : List Position) (s1 s2 : Search) (position : Position) (verdict : Verdict)
+    → ((p : Position) → IsServed before s1 p → IsServed later s2 p) → IsServedBy game before s1 position verdict → IsServedBy game later s2 position verdict
+served_still game before later s1 s2 position verdict keeps h =
+    (λ e. keeps position (h.0 e), λ k e size allowed may load first finishes. keeps (after position load size) (h.1 k e size allowed may load first finishes))
+
 -- the table was asked
-pub IsBehind-same : (spare : ℕ) (unnamed : List Position) (s : Search) (old new : List (Position × Verdict)) → SameEntries are_equal old new
-    → IsBehind spare unnamed s old → IsBehind spare unnamed s new
-IsBehind-same spare unnamed s old new same b = (b.0, λ p told. b.1 p (sym (same.values p) ∙ told))
+pub IsBehind-same : (game : GameNumbers) (spare : ℕ) (unnamed : List Position) (s : Search) (old new : List (Position × Verdict)) → SameEntries are_equal old new
+    → IsBehind game spare unnamed s old → IsBehind game spare unnamed s new
+IsBehind-same game spare unnamed s old new same b = (b.0, λ p v told. b.1 p v (sym (same.values p) ∙ told))
 
 -- a verdict was put
-pub IsBehind-put : (spare : ℕ) (unnamed : List Position) (s : Search) (old new : List (Position × Verdict)) (position : Position) (verdict : Verdict)
-    → PutsOnly old new position verdict → IsServedBy unnamed s position verdict → IsBehind spare unnamed s old → IsBehind spare unnamed s new
-IsBehind-put spare unnamed s old new position verdict puts served b = (
+pub IsBehind-put : (game : GameNumbers) (spare : ℕ) (unnamed : List Position) (s : Search) (old new : List (Position × Verdict)) (position : Position) (verdict : Verdict)
+    → PutsOnly old new position verdict → IsServedBy game unnamed s position verdict → IsBehind game spare unnamed s old → IsBehind game spare unnamed s new
+IsBehind-put game spare unnamed s old new position verdict puts served b = (
   b.0,
-  λ p told. elim (puts p (Algorithm FINISHES) told) [
-    | inl (e, v) ↦ subst (IsServed unnamed s) (sym e) (served (sym v))
-    | inr before ↦ b.1 p before
+  λ p v told. elim (puts p v told) [
+    | inl (e, w) ↦ subst (λ q. IsServedBy game unnamed s q v) (sym e) (subst (IsServedBy game unnamed s position) (sym w) served)
+    | inr before ↦ b.1 p v before
   ],
 )
 
@@ -103,18 +110,22 @@ AreUnder-counted spare unnamed meter after next wins replies finishes e u =
     record { few = omega (arith, u.few, one); named = u.named }
 
 -- a position that finishes takes the visit that is left over
-pub serves_finish : (spare : ℕ) (unnamed : List Position) (s : Search) (old new : List (Position × Verdict)) (position : Position)
-    → PutsOnly old new position (Algorithm FINISHES) → IsBehind (1 + spare) unnamed s old
-    → Serving spare unnamed s s new (λ later. IsServedBy later s position (Algorithm FINISHES))
-serves_finish spare unnamed s old new position puts b =
+pub serves_finish : (game : GameNumbers) (spare : ℕ) (unnamed : List Position) (s : Search) (old new : List (Position × Verdict)) (position : Position)
+    → PutsOnly old new position (Algorithm FINISHES) → IsBehind game (1 + spare) unnamed s old
+    → Serving game spare unnamed s s new (λ later. IsServedBy game later s position (Algorithm FINISHES))
+serves_finish game spare unnamed s old new position puts b =
     let keeps : (p : Position) → IsServed unnamed s p → IsServed (position ∷ unnamed) s p =
     λ p h. ⊎_elim (λ c. inl (Contains-later position unnamed p c)) (λ n. inr n) h in
     record {
       later = position ∷ unnamed;
-      behind = IsBehind-put spare (position ∷ unnamed) s old new position (Algorithm FINISHES) puts (λ e. inl (Contains-first position unnamed))
-          (record { few = omega (arith, b.0.few); named = b.0.named }, λ p told. keeps p (b.1 p told));
+      behind = IsBehind-put game spare (position ∷ unnamed) s old new position (Algorithm FINISHES) puts
+          (λ e. inl (Contains-first position unnamed), λ k e. absurd (let no : Algorithm FINISHES ≡ Held k = e in cc))
+          (
+            record { few = omega (arith, b.0.few); named = b.0.named },
+            λ p v told. served_still game unnamed (position ∷ unnamed) s s p v keeps (b.1 p v told),
+          );
       keeps = keeps;
-      more = λ e. inl (Contains-first position unnamed);
+      more = (λ e. inl (Contains-first position unnamed), λ k e. absurd (let no : Algorithm FINISHES ≡ Held k = e in cc));
     }
 
 -- ---- nodes
@@ -156,30 +167,30 @@ without (z ∷ zs) x c = elim (Contains-split z zs x c) [
 
 -- ---- a node that finishes was put
 
-module _ (s after : Search) (position : Position) (number : ℕ) (new : NamesNew s after position number) where
-  nodes : after.replies.nodes ≡ s.replies.nodes ++ new.puts.node ∷ []
+module _ (s next : Search) (position : Position) (number : ℕ) (new : NamesNew s next position number) where
+  nodes : next.replies.nodes ≡ s.replies.nodes ++ new.puts.node ∷ []
   nodes = ap (λ r. r.nodes) new.puts.pool
 
-  same_meter : after.meter ≡ s.meter
+  same_meter : next.meter ≡ s.meter
   same_meter = ap (λ (t : Search). t.meter) new.same
 
-  same_wins : after.wins.nodes ≡ s.wins.nodes
+  same_wins : next.wins.nodes ≡ s.wins.nodes
   same_wins = ap (λ (t : Search). t.wins.nodes) new.same
 
   number_stands : (p : Position) (k : ℕ) (b : Bool) (o : Option ℕ) → are_equal position p ≡ b → (if b then Some number else o) ≡ Some k
-      → (o ≡ Some k → StandsAt (map algorithm.position_of s.replies.nodes) k p) → StandsAt (map algorithm.position_of after.replies.nodes) k p
+      → (o ≡ Some k → StandsAt (map algorithm.position_of s.replies.nodes) k p) → StandsAt (map algorithm.position_of next.replies.nodes) k p
   number_stands p k true o same told before =
       let equal : k ≡ number = cc in
-      StandsAt-last algorithm.position_of s.replies.nodes after.replies.nodes new.puts.node k p nodes (equal ∙ new.puts.is_last)
+      StandsAt-last algorithm.position_of s.replies.nodes next.replies.nodes new.puts.node k p nodes (equal ∙ new.puts.is_last)
       (new.puts.stands ∙ are_equal-told position p same)
   number_stands p k false o same told before =
-      StandsAt-goes algorithm.position_of s.replies.nodes after.replies.nodes k p (new.puts.node ∷ [], nodes) (before told)
+      StandsAt-goes algorithm.position_of s.replies.nodes next.replies.nodes k p (new.puts.node ∷ [], nodes) (before told)
 
   some_with : (b : Bool) (o : Option ℕ) → IsSome o → IsSome (if b then Some number else o)
   some_with true o h = refl
   some_with false o h = h
 
-  some_here : (p : Position) → position ≡ p → IsSome (number_of after.finishes p)
+  some_here : (p : Position) → position ≡ p → IsSome (number_of next.finishes p)
   some_here p e =
       let equal : are_equal position p ≡ true = subst (λ q. are_equal position q ≡ true) e (equal_positions.refl position) in
       subst IsSome (sym (new.numbers p ∙ ap (λ b. if b then Some number else number_of s.finishes p) equal)) refl
@@ -188,11 +199,11 @@ module _ (s after : Search) (position : Position) (number : ℕ) (new : NamesNew
   not_named unnamed (inl c) = c
   not_named unnamed (inr some) = let no : false ≡ true = subst IsSome new.none some in cc
 
-  serves_new : (spare : ℕ) (unnamed : List Position) (entries : List (Position × Verdict)) → IsBehind spare unnamed s entries → IsServed unnamed s position
-      → Serving spare unnamed s after entries (λ later. Unit {0})
-  serves_new spare unnamed entries behind served =
+  serves_new : (game : GameNumbers) (spare : ℕ) (unnamed : List Position) (entries : List (Position × Verdict)) → IsBehind game spare unnamed s entries → IsServed unnamed s position
+      → Serving game spare unnamed s next entries (λ later. Unit {0})
+  serves_new game spare unnamed entries behind served =
       let r = without unnamed position (not_named unnamed served) in
-      let keeps : (p : Position) → IsServed unnamed s p → IsServed r.0 after p =
+      let keeps : (p : Position) → IsServed unnamed s p → IsServed r.0 next p =
       λ p h. ⊎_elim
       (λ c. ⊎_elim (λ e. inr (some_here p e)) (λ there. inl there) (r.1.others p c))
       (λ some. inr (subst IsSome (sym (new.numbers p)) (some_with (are_equal position p) (number_of s.finishes p) some))) h in
@@ -211,28 +222,28 @@ module _ (s after : Search) (position : Position) (number : ℕ) (new : NamesNew
             );
             named = λ p k told. number_stands p k (are_equal position p) (number_of s.finishes p) refl (sym (new.numbers p) ∙ told) (behind.0.named p k);
           },
-          λ p told. keeps p (behind.1 p told),
+          λ p v told. served_still game unnamed r.0 s next p v keeps (behind.1 p v told),
         );
         keeps = keeps;
         more = tt;
       }
 
 -- the position has a node after its number was told
-pub serves_number : (s after : Search) (position : Position) (number spare : ℕ) (unnamed : List Position) (entries : List (Position × Verdict))
-    → Names s after position number → IsBehind spare unnamed s entries → IsServed unnamed s position → Serving spare unnamed s after entries (λ later. Unit {0})
-serves_number s after position number spare unnamed entries (inl (e, told)) behind served =
-    subst (λ t. Serving spare unnamed s t entries (λ later. Unit {0})) (sym e) (Serving-refl spare unnamed s entries (λ later. Unit {0}) behind tt)
-serves_number s after position number spare unnamed entries (inr new) behind served = serves_new s after position number new spare unnamed entries behind served
+pub serves_number : (game : GameNumbers) (s after : Search) (position : Position) (number spare : ℕ) (unnamed : List Position) (entries : List (Position × Verdict))
+    → Names s after position number → IsBehind game spare unnamed s entries → IsServed unnamed s position → Serving game spare unnamed s after entries (λ later. Unit {0})
+serves_number game s after position number spare unnamed entries (inl (e, told)) behind served =
+    subst (λ t. Serving game spare unnamed s t entries (λ later. Unit {0})) (sym e) (Serving-refl game spare unnamed s entries (λ later. Unit {0}) behind tt)
+serves_number game s after position number spare unnamed entries (inr new) behind served = serves_new s after position number new game spare unnamed entries behind served
 
 -- where entries that are served were named, all that was served still is
 pub serves_all : (game : GameNumbers) (position : Position) (entries : List Entry) (s after : Search) → NamesAll game position entries s after → (spare : ℕ)
-    (unnamed : List Position) (told : List (Position × Verdict)) → IsBehind spare unnamed s told
-    → ((entry : Entry) → Contains entries entry → IsEntryServed unnamed s position entry) → Serving spare unnamed s after told (λ later. Unit {0})
-serves_all game position entries s after (none_named t) spare unnamed told behind served = Serving-refl spare unnamed s told (λ later. Unit {0}) behind tt
+    (unnamed : List Position) (told : List (Position × Verdict)) → IsBehind game spare unnamed s told
+    → ((entry : Entry) → Contains entries entry → IsEntryServed unnamed s position entry) → Serving game spare unnamed s after told (λ later. Unit {0})
+serves_all game position entries s after (none_named t) spare unnamed told behind served = Serving-refl game spare unnamed s told (λ later. Unit {0}) behind tt
 serves_all game position entries s after (one_named start middle end entry number all c e names) spare unnamed told behind served =
     let first = serves_all game position entries s middle all spare unnamed told behind served in
     let here = first.keeps (led_to position entry) (served entry c e) in
-    let second = serves_number middle after (led_to position entry) number spare first.later told names first.behind here in
+    let second = serves_number game middle after (led_to position entry) number spare first.later told names first.behind here in
     record { later = second.later; behind = second.behind; keeps = λ p h. second.keeps p (first.keeps p h); more = tt }
 
 -- a node of the algorithm takes the visit that is left over

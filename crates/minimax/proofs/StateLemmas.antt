@@ -74,7 +74,8 @@ all_stand f P xs n p all h =
 
 pub IsLed-goes : (game : GameNumbers) (replies more : List AlgNode) (position : Position) (number : ℕ) → GoesOn replies more
     → IsLed game replies position number → IsLed game more position number
-IsLed-goes game replies more position number g (inl h) = inl (StandsAt-goes algorithm.position_of replies more number position g h)
+IsLed-goes game replies more position number g (inl h) =
+    inl (record { stands = StandsAt-goes algorithm.position_of replies more number position g h.stands; unfinished = h.unfinished })
 IsLed-goes game replies more position number g (inr h) = inr h
 
 pub Says-goes : (game : GameNumbers) (wins more_wins : List AdvNode) (replies more_replies : List AlgNode) (position : Position) (verdict : Verdict)
@@ -98,7 +99,7 @@ never_by_node game pass meter wins replies entries position number s h = all_sta
 -- so where it finishes
 pub never_by_led : (game : GameNumbers) (pass : ℕ) (meter : Metered) (wins : adversary_pools.Pool) (replies : algorithm_pools.Pool) (entries : List (Position × Verdict))
     (position : Position) (number : ℕ) → AreSound game pass meter wins replies entries → IsLed game replies.nodes position number → IsNeverWon game position
-never_by_led game pass meter wins replies entries position number s (inl h) = never_by_node game pass meter wins replies entries position number s h
+never_by_led game pass meter wins replies entries position number s (inl h) = never_by_node game pass meter wins replies entries position number s h.stands
 never_by_led game pass meter wins replies entries position number s (inr h) = h.never
 
 -- a verdict that is no win of the adversary says that it does not win this pass

@@ -150,8 +150,8 @@ module _ (game : GameNumbers) (pass : ℕ) where
   -- a node of the algorithm gives the verdict
   pub finds_reply : (s0 s1 : Search) (replies : algorithm_pools.Pool) (a : PathMove) (position : Position) (entries : List (Position × Verdict)) (number : ℕ)
       → WentOn game pass (s0.path ++ a ∷ []) s0 s1 entries → PutsReply s1.replies replies position number
-      → IsNeverWon game position → FindsVerdict game pass position s0 (record s1 { replies = replies }) entries (Algorithm number)
-  finds_reply s0 s1 replies a position entries number g p never =
+      → IsNeverWon game position → (Finishes game position.loads → ⊥) → FindsVerdict game pass position s0 (record s1 { replies = replies }) entries (Algorithm number)
+  finds_reply s0 s1 replies a position entries number g p never unfinished =
       let nodes : replies.nodes ≡ s1.replies.nodes ++ p.node ∷ [] = ap (λ r. r.nodes) p.pool in
       record {
         went = record {
@@ -166,7 +166,10 @@ module _ (game : GameNumbers) (pass : ℕ) where
           passed = HasPassed-path s1.meter pass s0.path a g.passed;
         };
         tells = record {
-          says = inl (StandsAt-last algorithm.position_of s1.replies.nodes replies.nodes p.node number position nodes p.is_last p.stands);
+          says = inl (record {
+            stands = StandsAt-last algorithm.position_of s1.replies.nodes replies.nodes p.node number position nodes p.is_last p.stands;
+            unfinished = unfinished;
+          });
           of_pass = tt;
         };
       }

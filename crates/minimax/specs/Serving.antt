@@ -1,6 +1,8 @@
 -- Serves private contracts: a position that finishes has no node until a reply leads to it. That there are no more nodes
 -- than visits rests on a list of the positions that finish, were visited and have no node yet.
-use Rattle.std.specs.Prelude.{◌≡◌, ℕ, ◌+◌, ◌≤◌, ◌⊎◌, List, Option, Some, IsSome, length, map, Contains}
+use Rattle.std.specs.Prelude.{◌≡◌, ℕ, ◌+◌, ◌<◌, ◌≤◌, ◌⊎◌, IsTrue, List, [], ◌∷◌, ◌++◌, Option, Some, IsSome, length, map, Contains}
+use Rattle.items.specs.Game.{GameNumbers}
+use Rattle.items.specs.Packable.{Packable}
 use Rattle.loads.specs.After.{after}
 use Rattle.loads.specs.Packed.{are_equal}
 use Rattle.loads.specs.Position.{StandsAt}
@@ -9,11 +11,15 @@ use Rattle.strategy_text.specs.declared.node.Entry.{Entry}
 use Rattle.strategy_text.specs.declared.node.AdvNode.{AdvNode}
 use Rattle.strategy_text.specs.declared.node.AlgNode.{AlgNode}
 use Rattle.algorithm_graph.specs.Nodes as algorithm
+use Rattle.good_situations.specs.Finish.{Finishes}
 use Rattle.monotone.specs.Visits.{Metered}
 use Rattle.transposition.specs.Bounded.{found}
 use Rattle.transposition.specs.Memo.{verdict_of}
 use Rattle.transposition.specs.declared.verdict.Verdict.{Verdict}
-use Rattle.transposition.specs.declared.verdict.Verdict.TheVariants.{Algorithm}
+use Rattle.transposition.specs.declared.verdict.Verdict.TheVariants.{Algorithm, Held}
+use Rattle.minimax.specs.State.{allowed_by}
+use Rattle.minimax.specs.declared.table.Told.{Told}
+use Rattle.minimax.specs.declared.table.Told.TheVariants.{Earlier}
 use Rattle.minimax.specs.declared.finish_nodes.TheConstants.{FINISHES}
 use Rattle.minimax.specs.declared.expanding.Reached.{Reached}
 use Rattle.minimax.specs.declared.expanding.Reached.TheVariants.{Answers, ByNext}
@@ -42,44 +48,79 @@ pub record AreUnder (spare : ℕ) (unnamed : List Position) (meter : Metered) (w
 abbrev pub IsUnder : ℕ → List Position → Search → Type 0
 IsUnder spare unnamed search = AreUnder spare unnamed search.meter search.wins.nodes search.replies.nodes search.finishes
 
--- and each entry that tells that its position finishes is served
-abbrev pub IsBehind : ℕ → List Position → Search → List (Position × Verdict) → Type 0
-IsBehind spare unnamed search entries =
+-- the greatest load that stays below the target with an item of this size
+pub record IsFirst (game : GameNumbers) (position : Position) (size load : ℕ) : Type 0 where
+  pub has_load : Contains position.loads load
+  pub below : load + size < game.target
+  pub larger : (other : ℕ) → Contains position.loads other → load < other → game.target ≤ other + size
+
+-- where the item at that load leads to a position that finishes, that is served
+abbrev pub IsFirstServed : GameNumbers → List Position → Search → Position → ℕ → Type 0
+IsFirstServed game unnamed search position size =
+    (load : ℕ) → IsFirst game position size load → Finishes game (after position load size).loads
+    → IsServed unnamed search (after position load size)
+
+-- so it is for each size of a pass that may come
+abbrev pub IsTriedOut : GameNumbers → ℕ → List Position → Search → Position → Type 0
+IsTriedOut game pass unnamed search position =
+    (size : ℕ) → IsTrue (allowed_by game pass position.items size) → Packable game (position.items ++ size ∷ [])
+    → IsFirstServed game unnamed search position size
+
+-- a position whose verdict tells that it finishes is served, and one without a win in a pass is tried out in it
+abbrev pub IsServedBy : GameNumbers → List Position → Search → Position → Verdict → Type 0
+IsServedBy game unnamed search position verdict =
+    (verdict ≡ Algorithm FINISHES → IsServed unnamed search position)
+    × ((pass : ℕ) → verdict ≡ Held pass → IsTriedOut game pass unnamed search position)
+
+-- and so is each position with an entry, by its verdict
+abbrev pub IsBehind : GameNumbers → ℕ → List Position → Search → List (Position × Verdict) → Type 0
+IsBehind game spare unnamed search entries =
     IsUnder spare unnamed search
-    × ((position : Position) → verdict_of entries position ≡ Some (Algorithm FINISHES) → IsServed unnamed search position)
+    × ((position : Position) (verdict : Verdict) → verdict_of entries position ≡ Some verdict
+    → IsServedBy game unnamed search position verdict)
 
 -- there is such a list
-abbrev pub HasSpare : ℕ → Search → List (Position × Verdict) → Type 0
-HasSpare spare search entries = (unnamed : List Position) × IsBehind spare unnamed search entries
+abbrev pub HasSpare : GameNumbers → ℕ → Search → List (Position × Verdict) → Type 0
+HasSpare game spare search entries = (unnamed : List Position) × IsBehind game spare unnamed search entries
 
 -- from a list a search came to another; what was served still is, and more
-pub record Serving (spare : ℕ) (unnamed : List Position) (before after : Search) (entries : List (Position × Verdict))
-    (More : List Position → Type 0) : Type 0 where
+pub record Serving (game : GameNumbers) (spare : ℕ) (unnamed : List Position) (before after : Search)
+    (entries : List (Position × Verdict)) (More : List Position → Type 0) : Type 0 where
   pub later : List Position
-  pub behind : IsBehind spare later after entries
+  pub behind : IsBehind game spare later after entries
   pub keeps : (position : Position) → IsServed unnamed before position → IsServed later after position
   pub more : More later
 
 -- whatever the list was, a search came to another, and took so many of the visits that were left over
-abbrev pub KeepsServing : ℕ → Search → List (Position × Verdict) → Search → List (Position × Verdict)
+abbrev pub KeepsServing : GameNumbers → ℕ → Search → List (Position × Verdict) → Search → List (Position × Verdict)
     → (List Position → Type 0) → Type 0
-KeepsServing took before old after new More =
-    (spare : ℕ) (unnamed : List Position) → IsBehind (took + spare) unnamed before old
-    → Serving spare unnamed before after new More
+KeepsServing game took before old after new More =
+    (spare : ℕ) (unnamed : List Position) → IsBehind game (took + spare) unnamed before old
+    → Serving game spare unnamed before after new More
 
--- a position whose verdict tells that it finishes is served
-abbrev pub IsServedBy : List Position → Search → Position → Verdict → Type 0
-IsServedBy unnamed search position verdict = verdict ≡ Algorithm FINISHES → IsServed unnamed search position
+-- a position of which the table told an earlier pass is tried out in that pass
+abbrev pub IsTriedBefore : GameNumbers → Told → List Position → Search → Position → Type 0
+IsTriedBefore game told unnamed search position =
+    (pass : ℕ) → told ≡ Earlier pass → IsTriedOut game pass unnamed search position
+
+-- the same from each list with which the position is tried out as the table told
+abbrev pub KeepsServingTold : GameNumbers → Told → Position → ℕ → Search → List (Position × Verdict) → Search
+    → List (Position × Verdict) → (List Position → Type 0) → Type 0
+KeepsServingTold game told position took before old after new More =
+    (spare : ℕ) (unnamed : List Position) → IsBehind game (took + spare) unnamed before old
+    → IsTriedBefore game told unnamed before position → Serving game spare unnamed before after new More
 
 -- so is what an item at a load came to
-abbrev pub IsServedAt : List Position → Search → Position → ℕ → ℕ → Reached → Type 0
-IsServedAt unnamed search position size load (ByNext next) = Unit {0}
-IsServedAt unnamed search position size load (Answers verdict) = IsServedBy unnamed search (after position load size) verdict
+abbrev pub IsServedAt : GameNumbers → List Position → Search → Position → ℕ → ℕ → Reached → Type 0
+IsServedAt game unnamed search position size load (ByNext next) = Unit {0}
+IsServedAt game unnamed search position size load (Answers verdict) =
+    IsServedBy game unnamed search (after position load size) verdict
 
 -- what an item came to
-abbrev pub IsServedWith : List Position → Search → Position → ℕ → Tried → Type 0
-IsServedWith unnamed search position size (Wins placements) = Unit {0}
-IsServedWith unnamed search position size (Answered load verdict) = IsServedBy unnamed search (after position load size) verdict
+abbrev pub IsServedWith : GameNumbers → List Position → Search → Position → ℕ → Tried → Type 0
+IsServedWith game unnamed search position size (Wins placements) = Unit {0}
+IsServedWith game unnamed search position size (Answered load verdict) =
+    IsServedBy game unnamed search (after position load size) verdict
 
 -- the position to which an entry leads
 abbrev pub led_to : Position → Entry → Position
@@ -89,14 +130,34 @@ led_to position entry = after position entry.load entry.size
 abbrev pub IsEntryServed : List Position → Search → Position → Entry → Type 0
 IsEntryServed unnamed search position entry = entry.to ≡ FINISHES → IsServed unnamed search (led_to position entry)
 
+-- a size that the pass allows was tried
+abbrev pub IsSizeTried : GameNumbers → ℕ → List Position → Search → Position → ℕ → Type 0
+IsSizeTried game pass unnamed search position size =
+    IsTrue (allowed_by game pass position.items size) → IsFirstServed game unnamed search position size
+
+-- so was each size above one, up to the room
+abbrev pub AreTried : GameNumbers → ℕ → ℕ → ℕ → List Position → Search → Position → Type 0
+AreTried game pass above room unnamed search position =
+    (size : ℕ) → above < size → size ≤ room → IsSizeTried game pass unnamed search position size
+
 -- and what was found of a size
-abbrev pub IsServedFor : List Position → Search → Position → Weighed → Type 0
-IsServedFor unnamed search position (Won number) = Unit {0}
-IsServedFor unnamed search position (Replied entry) = IsEntryServed unnamed search position entry
-IsServedFor unnamed search position NoReply = Unit {0}
+abbrev pub IsServedFor : GameNumbers → ℕ → List Position → Search → Position → ℕ → Weighed → Type 0
+IsServedFor game pass unnamed search position size (Won number) = Unit {0}
+IsServedFor game pass unnamed search position size (Replied entry) =
+    IsEntryServed unnamed search position entry × IsSizeTried game pass unnamed search position size
+IsServedFor game pass unnamed search position size NoReply = IsSizeTried game pass unnamed search position size
 
 -- a size that wins takes one visit that was left over
 abbrev pub taken_by : Weighed → ℕ
 taken_by (Won number) = 1
 taken_by (Replied entry) = 0
 taken_by NoReply = 0
+
+-- an item of this size, which an earlier pass tried, leads to a position that finishes at the greatest load that stays
+-- below the target
+pub record IsSkipped (game : GameNumbers) (told : Told) (position : Position) (size load : ℕ) : Type 0 where
+  pub pass : ℕ
+  pub earlier : told ≡ Earlier pass
+  pub allowed : IsTrue (allowed_by game pass position.items size)
+  pub first : IsFirst game position size load
+  pub finishes : Finishes game (after position load size).loads

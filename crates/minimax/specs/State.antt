@@ -1,5 +1,5 @@
 -- Serves private contracts: what a search keeps while it goes on. Nothing here has to be believed.
-use Rattle.std.specs.Prelude.{◌≡◌, ℕ, ◌+◌, ◌-◌, ◌<◌, ◌≤◌, ◌⊎◌, Bool, IsTrue, List, [], ◌∷◌, ◌++◌, Some}
+use Rattle.std.specs.Prelude.{◌≡◌, ℕ, ◌+◌, ◌-◌, ◌<◌, ◌≤◌, ◌⊎◌, Bool, IsTrue, List, [], ◌∷◌, ◌++◌, Option, Some, None}
 use Rattle.std.specs.Prelude.{length, map, false}
 use Rattle.std.specs.Prelude.{All, Contains}
 use Rattle.std.specs.List.{range_with_len}
@@ -46,6 +46,8 @@ use Rattle.minimax.specs.declared.expanding.Tried.{Tried}
 use Rattle.minimax.specs.declared.expanding.Tried.TheVariants.{Answered, Wins}
 use Rattle.minimax.specs.declared.expanding.Weighed.{Weighed}
 use Rattle.minimax.specs.declared.expanding.Weighed.TheVariants.{NoReply, Replied, Won}
+use Rattle.minimax.specs.declared.table.Told.{Told}
+use Rattle.minimax.specs.declared.table.Told.TheVariants.{Earlier, Settled, Unknown}
 
 -- ---- positions
 
@@ -79,9 +81,14 @@ pub record IsFinish (game : GameNumbers) (position : Position) (number : ℕ) : 
   pub finishes : Finishes game position.loads
   pub never : IsNeverWon game position
 
+-- the algorithm's node of this number stands at the position, which does not finish
+pub record IsNode (game : GameNumbers) (replies : List AlgNode) (position : Position) (number : ℕ) : Type 0 where
+  pub stands : StandsAt (map algorithm.position_of replies) number position
+  pub unfinished : Finishes game position.loads → ⊥
+
 -- the algorithm's node of this number stands at the position, or the position finishes
 abbrev pub IsLed : GameNumbers → List AlgNode → Position → ℕ → Type 0
-IsLed game replies position number = StandsAt (map algorithm.position_of replies) number position ⊎ IsFinish game position number
+IsLed game replies position number = IsNode game replies position number ⊎ IsFinish game position number
 
 -- that the adversary has no win in a pass, which is not the last one
 pub record IsHeld (game : GameNumbers) (pass : ℕ) (position : Position) : Type 0 where
@@ -253,6 +260,12 @@ HasReached game pass search position size load (ByNext next) =
 HasReached game pass search position size load (Answers verdict) =
     (load + size < game.target) × IsNoWin verdict × Tells game pass search (after position load size) verdict
 
+-- with this size the adversary wins at each larger load below the target
+abbrev pub AreWonAbove : GameNumbers → ℕ → Position → ℕ → ℕ → Type 0
+AreWonAbove game pass position size load =
+    (other : ℕ) → Contains position.loads other → load < other → other + size < game.target
+    → IsWonIn game pass (after position other size)
+
 -- what an item of this size comes to
 abbrev pub HasTried : GameNumbers → ℕ → Search → Position → ℕ → Tried → Type 0
 HasTried game pass search position size (Wins placements) =
@@ -260,7 +273,7 @@ HasTried game pass search position size (Wins placements) =
     × All (FollowsUp game pass search position size) placements
 HasTried game pass search position size (Answered load verdict) =
     Contains position.loads load × (load + size < game.target) × IsNoWin verdict
-    × Tells game pass search (after position load size) verdict
+    × Tells game pass search (after position load size) verdict × AreWonAbove game pass position size load
 
 -- the entry names a load that stays below the target with its size, which may come, and leads to an earlier node or to
 -- a position that finishes
@@ -357,6 +370,12 @@ pub record ReplyToAll (game : GameNumbers) (replies : List AlgNode) (position : 
   pub each : All (IsReply game replies position) entries
 
 -- ---- the table
+
+-- what the table tells of a position in a pass
+abbrev pub IsTold : ℕ → Option Verdict → Told → Type 0
+IsTold pass entry (Settled verdict) = (entry ≡ Some verdict) × IsOfPass pass verdict
+IsTold pass entry (Earlier held) = (entry ≡ Some (Held held)) × (held ≡ pass → ⊥)
+IsTold pass entry Unknown = entry ≡ None
 
 -- the table says nothing of other positions that it did not say before
 abbrev pub PutsOnly : List (Position × Verdict) → List (Position × Verdict) → Position → Verdict → Type 0

@@ -4,17 +4,20 @@ ghost use Rattle.std.specs.Prelude.{◌≡◌, ◌+◌, ◌-◌, ◌++◌, ◌�
 ghost use Rattle.items.specs.Packable.{IsRoom, Packable};
 ghost use Rattle.good_situations.specs.Finish.{Finishes};
 ghost use Rattle.monotone.specs.Visits.{visit};
+ghost use Rattle.transposition.specs.Memo.{verdict_of};
 ghost use Rattle.minimax.specs.Fresh.{KeepsCount, progress};
-ghost use Rattle.minimax.specs.Serving.{HasSpare, IsServedAt, IsServedBy, IsServedFor, IsServedWith, KeepsServing, taken_by};
+ghost use Rattle.minimax.specs.Serving.{HasSpare, IsServedAt, IsServedBy, IsServedFor, IsServedWith, KeepsServing, KeepsServingTold};
+ghost use Rattle.minimax.specs.Serving.{taken_by};
 ghost use Rattle.minimax.specs.State.{IsSound, HasReached, HasTried, HasWeighed, FindsVerdict};
-ghost use Rattle.minimax.specs.State.{IsBound, IsOpenAt, IsOpenFrom, MayCome, MayVisit, StandsAtPath, Stops, WentOn};
+ghost use Rattle.minimax.specs.State.{IsBound, IsOpenAt, IsOpenFrom, IsTold, MayCome, MayVisit, StandsAtPath, Stops, WentOn};
 ghost use Rattle.minimax.specs.State.{kept_of, reached_by, with_move};
 
 use crate::finish_nodes::{FINISHES, FinishNodes};
 use crate::naming::{put, put_reply};
 use crate::nodes::{after, push_win};
 use crate::rooms::Rooms;
-use crate::table::{known, remember, remember_finish};
+use crate::skipping::skipped;
+use crate::table::{Told, known, remember, remember_finish};
 use adversary_graph::AdvPool;
 use algorithm_graph::AlgPool;
 use good_situations::finishes;
@@ -74,18 +77,19 @@ pub(crate) fn expand<M: Memo>(
 ) -> Result<Verdict, VisitFault>
     requires sound { IsSound game.now pass search.old (M.entries memo.old) }
     requires may { MayVisit game.now pass search.old position.now }
-    requires behind { HasSpare 0 search.old (M.entries memo.old) }
+    requires behind { HasSpare game.now 0 search.old (M.entries memo.old) }
     ensures found { MatchResult result
         (FindsVerdict game.now pass position.now search.old search.new (M.entries memo.new))
         (Stops game.now pass search.old.meter.budget search.new) }
     ensures counts { KeepsCount game.now pass (sum position.now.items)
         (progress search.old.meter (M.entries memo.old) (M.room memo.old))
         (progress search.new.meter (M.entries memo.new) (M.room memo.new)) result }
-    ensures serves { IfOk result (λ verdict. KeepsServing 0 search.old (M.entries memo.old)
-        search.new (M.entries memo.new) (λ later. IsServedBy later search.new position.now verdict)) }
+    ensures serves { IfOk result (λ verdict. KeepsServing game.now 0 search.old (M.entries memo.old)
+        search.new (M.entries memo.new) (λ later. IsServedBy game.now later search.new position.now verdict)) }
 {
     let key = Key::of(search.alloc, &position.loads, &position.items)?;
-    if let Some(verdict) = known(memo, &key, pass) {
+    let told = known(memo, &key, pass);
+    if let Told::Settled(verdict) = told {
         return Ok(verdict);
     }
     search.meter.visit(pass, &search.path)?;
@@ -94,7 +98,7 @@ pub(crate) fn expand<M: Memo>(
         remember_finish(memo, key)?;
         return Ok(Verdict::Algorithm(FINISHES));
     }
-    let verdict = decide(game, pass, search, memo, position)?;
+    let verdict = decide(game, pass, told, search, memo, position)?;
     remember(memo, key, verdict)?;
     Ok(verdict)
 }
@@ -104,6 +108,7 @@ pub(crate) fn expand<M: Memo>(
 fn decide<M: Memo>(
     game: &Game,
     pass: u16,
+    told: Told,
     search: &mut Search,
     memo: &mut M,
     position: &Position,
@@ -112,7 +117,8 @@ fn decide<M: Memo>(
     requires stands { StandsAtPath game.now pass search.old.path position.now }
     requires unfinished { Finishes game.now position.now.loads → ⊥ }
     requires visited { search.old.meter.last ≡ Some (visit pass search.old.path) }
-    requires behind { HasSpare 1 search.old (M.entries memo.old) }
+    requires told { IsTold pass (verdict_of (M.entries memo.old) position.now) told }
+    requires behind { HasSpare game.now 1 search.old (M.entries memo.old) }
     requires bound { IsBound game.now position.now.items search.old.most }
     ensures found { MatchResult result
         (FindsVerdict game.now pass position.now search.old search.new (M.entries memo.new))
@@ -120,15 +126,15 @@ fn decide<M: Memo>(
     ensures counts { KeepsCount game.now pass (sum position.now.items + 1)
         (progress search.old.meter (M.entries memo.old) (M.room memo.old))
         (progress search.new.meter (M.entries memo.new) (M.room memo.new)) result }
-    ensures serves { IfOk result (λ verdict. KeepsServing 1 search.old (M.entries memo.old)
-        search.new (M.entries memo.new) (λ later. IsServedBy later search.new position.now verdict)) }
+    ensures serves { IfOk result (λ verdict. KeepsServing game.now 1 search.old (M.entries memo.old)
+        search.new (M.entries memo.new) (λ later. IsServedBy game.now later search.new position.now verdict)) }
 {
     let most = search.most;
     let room = search
         .rooms
         .room_up_to(search.alloc, game, &position.items, most)?;
     search.most = room;
-    let verdict = weigh_all(game, pass, search, memo, position, room)?;
+    let verdict = weigh_all(game, pass, told, search, memo, position, room)?;
     search.most = most;
     Ok(verdict)
 }
@@ -138,6 +144,7 @@ fn decide<M: Memo>(
 fn weigh_all<M: Memo>(
     game: &Game,
     pass: u16,
+    told: Told,
     search: &mut Search,
     memo: &mut M,
     position: &Position,
@@ -146,19 +153,20 @@ fn weigh_all<M: Memo>(
     requires sound { IsSound game.now pass search.old (M.entries memo.old) }
     requires from_room { IsOpenFrom game.now pass room search.old position.now }
     requires is_room { IsRoom game.now position.now.items room }
-    requires behind { HasSpare 1 search.old (M.entries memo.old) }
+    requires told { IsTold pass (verdict_of (M.entries memo.old) position.now) told }
+    requires behind { HasSpare game.now 1 search.old (M.entries memo.old) }
     ensures found { MatchResult result
         (FindsVerdict game.now pass position.now search.old search.new (M.entries memo.new))
         (Stops game.now pass search.old.meter.budget search.new) }
     ensures counts { KeepsCount game.now pass (sum position.now.items + 1)
         (progress search.old.meter (M.entries memo.old) (M.room memo.old))
         (progress search.new.meter (M.entries memo.new) (M.room memo.new)) result }
-    ensures serves { IfOk result (λ verdict. KeepsServing 1 search.old (M.entries memo.old)
-        search.new (M.entries memo.new) (λ later. IsServedBy later search.new position.now verdict)) }
+    ensures serves { IfOk result (λ verdict. KeepsServing game.now 1 search.old (M.entries memo.old)
+        search.new (M.entries memo.new) (λ later. IsServedBy game.now later search.new position.now verdict)) }
 {
     let mut entries = Vec::new(search.alloc);
     for tried in 0..room {
-        match weigh(game, pass, search, memo, position, room - tried)? {
+        match weigh(game, pass, told, search, memo, position, room - tried)? {
             Weighed::Won(number) => return Ok(Verdict::Adversary(number)),
             Weighed::Replied(entry) => put(&mut entries, entry)?,
             Weighed::NoReply => {}
@@ -176,6 +184,7 @@ fn weigh_all<M: Memo>(
 fn weigh<M: Memo>(
     game: &Game,
     pass: u16,
+    told: Told,
     search: &mut Search,
     memo: &mut M,
     position: &Position,
@@ -184,19 +193,23 @@ fn weigh<M: Memo>(
     requires sound { IsSound game.now pass search.old (M.entries memo.old) }
     requires from_size { IsOpenFrom game.now pass size search.old position.now }
     requires may_come { Packable game.now (position.now.items ++ size ∷ []) }
-    requires behind { HasSpare 1 search.old (M.entries memo.old) }
+    requires behind { HasSpare game.now 1 search.old (M.entries memo.old) }
     ensures found { MatchResult result
         (HasWeighed game.now pass size position.now search.old search.new (M.entries memo.new))
         (Stops game.now pass search.old.meter.budget search.new) }
     ensures counts { KeepsCount game.now pass (sum position.now.items + 1)
         (progress search.old.meter (M.entries memo.old) (M.room memo.old))
         (progress search.new.meter (M.entries memo.new) (M.room memo.new)) result }
-    ensures serves { IfOk result (λ weighed. KeepsServing (taken_by weighed) search.old (M.entries memo.old)
-        search.new (M.entries memo.new) (λ later. IsServedFor later search.new position.now weighed)) }
+    ensures serves { IfOk result (λ weighed. KeepsServingTold game.now told position.now (taken_by weighed) search.old
+        (M.entries memo.old) search.new (M.entries memo.new)
+        (λ later. IsServedFor game.now pass later search.new position.now size weighed)) }
 {
     game_is_legal(game);
     if !allows(pass, &position.items, size) {
         return Ok(Weighed::NoReply);
+    }
+    if let Some(load) = skipped(game, told, position, size) {
+        return Ok(kept(size, load, Verdict::Algorithm(FINISHES)));
     }
     match try_size(game, pass, search, memo, position, size)? {
         Tried::Wins(placements) => {
@@ -230,7 +243,7 @@ fn try_size<M: Memo>(
     requires sound { IsSound game.now pass search.old (M.entries memo.old) }
     requires from_size { IsOpenFrom game.now pass size search.old position.now }
     requires may_come { MayCome game.now pass position.now size }
-    requires behind { HasSpare 0 search.old (M.entries memo.old) }
+    requires behind { HasSpare game.now 0 search.old (M.entries memo.old) }
     ensures found { MatchResult result
         (λ tried. WentOn game.now pass (with_move search.old (size - 1) game.now.target) search.old search.new
         (M.entries memo.new) × HasTried game.now pass search.new position.now size tried)
@@ -238,8 +251,8 @@ fn try_size<M: Memo>(
     ensures counts { KeepsCount game.now pass (sum position.now.items + 1)
         (progress search.old.meter (M.entries memo.old) (M.room memo.old))
         (progress search.new.meter (M.entries memo.new) (M.room memo.new)) result }
-    ensures serves { IfOk result (λ tried. KeepsServing 0 search.old (M.entries memo.old)
-        search.new (M.entries memo.new) (λ later. IsServedWith later search.new position.now size tried)) }
+    ensures serves { IfOk result (λ tried. KeepsServing game.now 0 search.old (M.entries memo.old)
+        search.new (M.entries memo.new) (λ later. IsServedWith game.now later search.new position.now size tried)) }
 {
     let mut placements = Placements::new(search.alloc);
     for i in 0..position.loads.distinct_count() {
@@ -266,7 +279,7 @@ fn try_load<M: Memo>(
     requires sound { IsSound game.now pass search.old (M.entries memo.old) }
     requires at_load { IsOpenAt game.now pass size load search.old position.now }
     requires may_come { MayCome game.now pass position.now size }
-    requires behind { HasSpare 0 search.old (M.entries memo.old) }
+    requires behind { HasSpare game.now 0 search.old (M.entries memo.old) }
     ensures found { MatchResult result
         (λ reached. WentOn game.now pass (with_move search.old size load) search.old search.new
         (M.entries memo.new) × HasReached game.now pass search.new position.now size load reached)
@@ -274,8 +287,8 @@ fn try_load<M: Memo>(
     ensures counts { KeepsCount game.now pass (sum position.now.items + 1)
         (progress search.old.meter (M.entries memo.old) (M.room memo.old))
         (progress search.new.meter (M.entries memo.new) (M.room memo.new)) result }
-    ensures serves { IfOk result (λ reached. KeepsServing 0 search.old (M.entries memo.old)
-        search.new (M.entries memo.new) (λ later. IsServedAt later search.new position.now size load reached)) }
+    ensures serves { IfOk result (λ reached. KeepsServing game.now 0 search.old (M.entries memo.old)
+        search.new (M.entries memo.new) (λ later. IsServedAt game.now later search.new position.now size load reached)) }
 {
     let target = game.t();
     if load + size >= target {

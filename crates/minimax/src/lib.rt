@@ -8,6 +8,7 @@ mod game_search;
 mod naming;
 mod nodes;
 mod rooms;
+mod skipping;
 mod table;
 
 pub use answer::Answer;

@@ -1,46 +1,47 @@
 //! What a search asks its table and puts there.
 
-ghost use Rattle.std.specs.Prelude.{◌≡◌, ◌↔◌, ◌<◌, ◌≤◌, ℕ, true, IsTrue, IfSome, OnOk, Some, None, length};
+ghost use Rattle.std.specs.Prelude.{◌≡◌, ◌<◌, ◌≤◌, ℕ, OnOk, Some, None, length};
 ghost use Rattle.loads.specs.Packed.{are_equal};
 ghost use Rattle.transposition.specs.Bounded.{IsBoundedMap, Puts, SameEntries, bounded};
 ghost use Rattle.transposition.specs.Memo.{verdict_of};
 ghost use Rattle.transposition.specs.declared.verdict.Verdict.TheVariants.{Algorithm};
 ghost use Rattle.minimax.specs.declared.finish_nodes.TheConstants.{FINISHES};
-ghost use Rattle.minimax.specs.Fresh.{is_fresh};
-ghost use Rattle.minimax.specs.State.{IsOfPass, PutsOnly};
+ghost use Rattle.minimax.specs.State.{IsTold, PutsOnly};
 
 use crate::finish_nodes::FINISHES;
 use std::alloc::AllocError;
 use transposition::{Key, Memo, Verdict};
 
-/// The verdict that the table has for a position, where it holds in this pass; that the adversary has no win in an
-/// earlier pass says nothing.
-pub(crate) fn known<M: Memo>(memo: &mut M, key: &Key, pass: u16) -> Option<Verdict>
-    ensures known { IfSome result (λ verdict. verdict_of (M.entries memo.old) key.now ≡ Some verdict) }
-    ensures of_pass { IfSome result (IsOfPass pass) }
-    ensures fresh { result ≡ None → is_fresh pass (verdict_of (M.entries memo.old) key.now) ≡ true }
+/// What the table tells of a position in a pass.
+#[derive(Clone, Copy)]
+pub(crate) enum Told {
+    /// A verdict that holds in this pass.
+    Settled(Verdict),
+    /// The adversary has no win in the earlier pass of this number, which says nothing of this one.
+    Earlier(u16),
+    /// Nothing.
+    Unknown,
+}
+
+/// What the table tells of a position in this pass.
+pub(crate) fn known<M: Memo>(memo: &mut M, key: &Key, pass: u16) -> Told
+    ensures told { IsTold pass (verdict_of (M.entries memo.old) key.now) result }
     ensures same { SameEntries are_equal (M.entries memo.old) (M.entries memo.new) }
     ensures capacity { M.room memo.new ≡ M.room memo.old }
 {
     match memo.get(key) {
-        Some(verdict) => {
-            if holds_in(verdict, pass) {
-                Some(verdict)
-            } else {
-                None
-            }
-        }
-        None => None,
+        Some(verdict) => told_by(verdict, pass),
+        None => Told::Unknown,
     }
 }
 
-// Whether the verdict holds in this pass.
-fn holds_in(verdict: Verdict, pass: u16) -> bool
-    ensures { IsTrue result ↔ IsOfPass pass verdict }
+// What a verdict of the table tells.
+fn told_by(verdict: Verdict, pass: u16) -> Told
+    ensures { IsTold pass (Some verdict) result }
 {
     match verdict {
-        Verdict::Held(held) => held == pass,
-        _ => true,
+        Verdict::Held(held) if held != pass => Told::Earlier(held),
+        _ => Told::Settled(verdict),
     }
 }
 

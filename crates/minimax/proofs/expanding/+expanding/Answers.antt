@@ -1,9 +1,9 @@
 use Rattle.std.proofs.Common.{◌≡◌, ◌∙◌, ◌+◌, ◌-◌, ◌<◌, ◌≤◌, ◌⊎◌, ◌++◌, ◌∷◌, [], ℕ, List, Some, None, true, length}
-use Rattle.std.proofs.Common.{get_or, sum, refl, sym, ap, subst, arith, below_more, Vec, Global}
-use Rattle.std.specs.Prelude.{All, Err}
+use Rattle.std.proofs.Common.{get_or, map, sum, refl, sym, ap, subst, inl, inr, arith, below_more, Vec, Global}
+use Rattle.std.specs.Prelude.{All, Err, IsTrue}
 use Rattle.std.proofs.lemmas.Bool.{false≢true, true≢false}
 use Rattle.std.proofs.lemmas.List.{length_push, take_all}
-use Rattle.std.proofs.lemmas.List.Elements.{All-contains, All-weaker}
+use Rattle.std.proofs.lemmas.List.Elements.{All-contains, All-nil, All-weaker}
 use Rattle.items.proofs.MultisetLemmas.{sum-put_ascending}
 use Rattle.loads.specs.After.{after}
 use Rattle.loads.specs.Descending.{distinct}
@@ -11,63 +11,70 @@ use Rattle.loads.specs.Packed.{are_equal}
 use Rattle.loads.specs.declared.position.Position.{Position}
 use Rattle.monotone.specs.Paths.{moved}
 use Rattle.monotone.specs.Visits.{Metered, visit}
-use Rattle.packing_witness.proofs.PackingLemmas.{size_of_last, Packable-from_room}
+use Rattle.packing_witness.proofs.PackingLemmas.{size_of_last, le_room, Packable-from_room}
 use Rattle.strategy_text.specs.declared.node.Entry.{Entry}
 use Rattle.transposition.specs.Bounded.{Puts}
 use Rattle.transposition.specs.Memo.{verdict_of}
 use Rattle.minimax.specs.Fresh.{CountsFresh, IsShort, is_fresh, progress}
-use Rattle.minimax.specs.State.{AreOfAll, FindsVerdict, HasReached, HasTried, HasWeighed, IsPending, IsWonIn, PutsOnly, WentOn, numbers_down}
-use Rattle.minimax.specs.Serving.{IsEntryServed, IsServedAt, IsServedFor, IsServedWith, KeepsServing, led_to, taken_by}
+use Rattle.minimax.specs.State.{AreOfAll, FindsVerdict, HasReached, HasTried, HasWeighed, IsPending, IsTold, IsWonIn, PutsOnly, WentOn, allowed_by, numbers_down}
+use Rattle.minimax.specs.Serving.{IsEntryServed, IsServedAt, IsServedFor, IsServedWith, KeepsServing, KeepsServingTold, led_to, taken_by}
 use Rattle.minimax.specs.Naming.{MayNameAll, PutsNamed}
 use Rattle.minimax.specs.declared.expanding.Search.{Search}
 use Rattle.minimax.specs.declared.finish_nodes.TheConstants.{FINISHES}
 use Rattle.transposition.specs.declared.verdict.Verdict.TheVariants.{Adversary, Algorithm, Held}
 use Rattle.minimax.proofs.FinishLemmas.{IsNeverWon-finish}
-use Rattle.minimax.proofs.PlayableLemmas.{total_with}
+use Rattle.minimax.proofs.PlayableLemmas.{IsPlayable-after, total_with}
 use Rattle.minimax.proofs.SizeLemmas.{finds_after, follows_more, next_bound, may_come_allowed, never_by_replies, none_more, not_allowed}
 use Rattle.minimax.proofs.SizeLemmas.{opens_load, opens_size, past_more, past_size}
 use Rattle.minimax.proofs.SizeLemmas.{placed_more, replies_more, replies_still, sizes_more, weighs, wins_by}
 use Rattle.minimax.proofs.StepLemmas.{finds_decided, finds_expanded, finds_finish, finds_held, finds_known, finds_reply, finds_win, may_visit_child, opens, passed_on}
 use Rattle.minimax.proofs.StepLemmas.{reached_child, reached_over}
-use Rattle.minimax.proofs.StepLemmas.{sound_visited, WentOn-then}
+use Rattle.minimax.proofs.StepLemmas.{sound_visited, WentOn-later, WentOn-refl, WentOn-then}
 use Rattle.minimax.proofs.NamingLemmas.{Stays-all, WentOn-named}
-use Rattle.minimax.proofs.ServingLemmas.{AreUnder-counted, IsBehind-less, IsBehind-same, KeepsServing-and, KeepsServing-then, KeepsServing-weaker, spare_after}
-use Rattle.minimax.proofs.ExpansionLemmas.{entries_served, served_at, serves_expanded, serves_finished, serves_kept, serves_known, serves_more, serves_nothing}
-use Rattle.minimax.proofs.ExpansionLemmas.{serves_replied, serves_won}
+use Rattle.minimax.proofs.ServingLemmas.{AreUnder-counted, IsBehind-less, IsBehind-same, KeepsServing-then, KeepsServing-weaker, Serving-refl, spare_after}
 use Rattle.minimax.proofs.FreshLemmas.{CountsFresh-above, CountsFresh-refl, CountsFresh-same, CountsFresh-trans, CountsFresh-visited}
 use Rattle.minimax.proofs.FreshLemmas.{IsShort-above, IsShort-after}
-use Rattle.minimax.proofs.FreshLemmas.{IsShort-fault, IsShort-visited, IsVisited, none_for_finish, volume_after}
+use Rattle.minimax.proofs.FreshLemmas.{IsShort-fault, IsShort-visited, IsVisited, fresh_told, none_for_finish, volume_after}
 use Rattle.minimax.proofs.WinLemmas.{IsWon-by, not_won}
+use Rattle.minimax.proofs.ExpansionLemmas.{entries_served, first_served, served_at, serves_expanded, serves_finished, serves_kept, serves_known, serves_more}
+use Rattle.minimax.proofs.ExpansionLemmas.{serves_not_allowed, serves_nothing, serves_replied, serves_size, serves_skipped, serves_won, sizes_tried}
+use Rattle.minimax.proofs.ExpansionLemmas.{tried_before, tried_still}
+use Rattle.monotone.proofs.PassLemmas.{allowed_in-exact}
+use Rattle.items.specs.Multiset.{sizes_of}
 use Rattle.minimax.proofs.expanding.+expanding.Goals as goal
 use Rattle.minimax.proofs.expanding.+expanding.Goals.{weigh_all-in-Replied+in_ok-put-in-Replied, weigh_all-in-NoReply}
 
 -- ---- expand
 
-pub expand-returns-in-Some-clause-found : goal.expand-returns-in-Some-clause-found
-expand-returns-in-Some-clause-found g t c =
+pub expand-returns-in-Settled-clause-found : goal.expand-returns-in-Settled-clause-found
+expand-returns-in-Settled-clause-found g t c =
     let game = c.args.game.now in
-    let told = subst (λ (p : Position). verdict_of (g.M.Memo.entries c.args.memo.now) p ≡ Some c.in-Some.verdict) c.in_ok-key.ensures.ok c.in-Some.ensures.known in
-    finds_known game c.args.pass c.args.search.now c.args.position.now (g.M.Memo.entries c.args.memo.now) (g.M.Memo.entries c.known.new.memo) c.in-Some.verdict
-    c.requires.sound c.requires.may told c.in-Some.ensures.of_pass c.known.ensures.same
+    let at = subst (IsTold c.args.pass (verdict_of (g.M.Memo.entries c.args.memo.now) c.in_ok-key.key)) c.in-Settled.is c.known-told.ensures.told in
+    let told = subst (λ (p : Position). verdict_of (g.M.Memo.entries c.args.memo.now) p ≡ Some c.in-Settled.verdict) c.in_ok-key.ensures.ok at.0 in
+    finds_known game c.args.pass c.args.search.now c.args.position.now (g.M.Memo.entries c.args.memo.now) (g.M.Memo.entries c.known-told.new.memo) c.in-Settled.verdict
+    c.requires.sound c.requires.may told at.1 c.known-told.ensures.same
 
-pub expand-returns-in-Some-clause-serves : goal.expand-returns-in-Some-clause-serves
-expand-returns-in-Some-clause-serves g t c =
-    let told = subst (λ (p : Position). verdict_of (g.M.Memo.entries c.args.memo.now) p ≡ Some c.in-Some.verdict) c.in_ok-key.ensures.ok c.in-Some.ensures.known in
-    serves_known c.args.search.now c.args.position.now (g.M.Memo.entries c.args.memo.now) (g.M.Memo.entries c.known.new.memo) c.in-Some.verdict told c.known.ensures.same
+pub expand-returns-in-Settled-clause-serves : goal.expand-returns-in-Settled-clause-serves
+expand-returns-in-Settled-clause-serves g t c =
+    let at = subst (IsTold c.args.pass (verdict_of (g.M.Memo.entries c.args.memo.now) c.in_ok-key.key)) c.in-Settled.is c.known-told.ensures.told in
+    let told = subst (λ (p : Position). verdict_of (g.M.Memo.entries c.args.memo.now) p ≡ Some c.in-Settled.verdict) c.in_ok-key.ensures.ok at.0 in
+    serves_known c.args.game.now c.args.search.now c.args.position.now (g.M.Memo.entries c.args.memo.now) (g.M.Memo.entries c.known-told.new.memo) c.in-Settled.verdict told c.known-told.ensures.same
 
 pub expand-decide-requires : goal.expand-decide-requires
 expand-decide-requires g t c κs l =
     let s = c.args.search.now in
     let e0 = g.M.Memo.entries c.args.memo.now in
-    let e1 = g.M.Memo.entries c.known.new.memo in
+    let e1 = g.M.Memo.entries c.known-told.new.memo in
     let counted = c.in_ok-visit.ensures.ok in
     let left : s.meter.count ≡ s.meter.budget → ⊥ = λ e. let bad = c.in_ok-visit.ensures.spent.1 e in cc in
-    let behind = IsBehind-same 0 c.requires.behind.0 s e0 e1 c.known.ensures.same c.requires.behind.1 in (
+    let key = subst (λ (p : Position). IsTold c.args.pass (verdict_of e0 p) c.known-told.result) c.in_ok-key.ensures.ok c.known-told.ensures.told in
+    let told = subst (λ o. IsTold c.args.pass o c.known-told.result) (sym (c.known-told.ensures.same.values c.args.position.now)) key in
+    let behind = IsBehind-same c.args.game.now 0 c.requires.behind.0 s e0 e1 c.known-told.ensures.same c.requires.behind.1 in (
       omega (arith, c.decreases),
       (
         l,
         (
-          sound_visited c.args.game.now c.args.pass s c.args.position.now e0 e1 c.visit.new.self c.requires.sound c.requires.may counted left c.known.ensures.same,
+          sound_visited c.args.game.now c.args.pass s c.args.position.now e0 e1 c.visit.new.self c.requires.sound c.requires.may counted left c.known-told.ensures.same,
           (
             c.requires.may.stands,
             (
@@ -75,11 +82,14 @@ expand-decide-requires g t c κs l =
               (
                 ap (λ (m : Metered). m.last) counted,
                 (
+                  told,
                   (
-                    c.requires.behind.0,
-                    (AreUnder-counted 0 c.requires.behind.0 s.meter c.visit.new.self (visit c.args.pass s.path) s.wins.nodes s.replies.nodes s.finishes counted behind.0, behind.1),
+                    (
+                      c.requires.behind.0,
+                      (AreUnder-counted 0 c.requires.behind.0 s.meter c.visit.new.self (visit c.args.pass s.path) s.wins.nodes s.replies.nodes s.finishes counted behind.0, behind.1),
+                    ),
+                    c.requires.may.bound,
                   ),
-                  c.requires.may.bound,
                 ),
               ),
             ),
@@ -94,30 +104,30 @@ expand-returns-then-finishes-clause-found g t c =
     let s = c.args.search.now in
     let p = c.args.position.now in
     let e0 = g.M.Memo.entries c.args.memo.now in
-    let e1 = g.M.Memo.entries c.known.new.memo in
+    let e1 = g.M.Memo.entries c.known-told.new.memo in
     let e2 = g.M.Memo.entries c.remember_finish.new.memo in
     let counted = c.in_ok-visit.ensures.ok in
     let left : s.meter.count ≡ s.meter.budget → ⊥ = λ e. let bad = c.in_ok-visit.ensures.spent.1 e in cc in
     let finishes = c.finishes.ensures.exact.0 c.if-finishes.true in
-    let sound = sound_visited game c.args.pass s p e0 e1 c.visit.new.self c.requires.sound c.requires.may counted left c.known.ensures.same in
+    let sound = sound_visited game c.args.pass s p e0 e1 c.visit.new.self c.requires.sound c.requires.may counted left c.known-told.ensures.same in
     finds_finish game c.args.pass s c.visit.new.self p e1 e2 counted sound (ap (λ (m : Metered). m.last) counted)
     (record { told = refl; finishes = finishes; never = IsNeverWon-finish game p c.game_is_legal.ensures c.requires.may.stands.playable finishes })
     (subst (λ (p : Position). PutsOnly e1 e2 p (Algorithm FINISHES)) c.in_ok-key.ensures.ok c.in_ok-remember_finish.ensures.only)
 
 pub expand-returns-then-finishes-clause-serves : goal.expand-returns-then-finishes-clause-serves
 expand-returns-then-finishes-clause-serves g t c =
-    let e1 = g.M.Memo.entries c.known.new.memo in
+    let e1 = g.M.Memo.entries c.known-told.new.memo in
     let e2 = g.M.Memo.entries c.remember_finish.new.memo in
-    serves_finished c.args.search.now c.visit.new.self (visit c.args.pass c.args.search.now.path) c.args.position.now (g.M.Memo.entries c.args.memo.now) e1 e2
-    c.in_ok-visit.ensures.ok c.known.ensures.same
+    serves_finished c.args.game.now c.args.search.now c.visit.new.self (visit c.args.pass c.args.search.now.path) c.args.position.now (g.M.Memo.entries c.args.memo.now) e1 e2
+    c.in_ok-visit.ensures.ok c.known-told.ensures.same
     (subst (λ (p : Position). PutsOnly e1 e2 p (Algorithm FINISHES)) c.in_ok-key.ensures.ok c.in_ok-remember_finish.ensures.only)
 
 pub expand-returns-clause-serves : goal.expand-returns-clause-serves
 expand-returns-clause-serves g t c =
     let e2 = g.M.Memo.entries c.decide.new.memo in
     let e3 = g.M.Memo.entries c.remember.new.memo in
-    serves_expanded c.args.search.now c.decide.new.search c.visit.new.self (visit c.args.pass c.args.search.now.path) c.args.position.now (g.M.Memo.entries c.args.memo.now)
-    (g.M.Memo.entries c.known.new.memo) e2 e3 c.in_ok-verdict.verdict c.in_ok-visit.ensures.ok c.known.ensures.same c.in_ok-verdict.ensures.serves
+    serves_expanded c.args.game.now c.args.search.now c.decide.new.search c.visit.new.self (visit c.args.pass c.args.search.now.path) c.args.position.now (g.M.Memo.entries c.args.memo.now)
+    (g.M.Memo.entries c.known-told.new.memo) e2 e3 c.in_ok-verdict.verdict c.in_ok-visit.ensures.ok c.known-told.ensures.same c.in_ok-verdict.ensures.serves
     (subst (λ (p : Position). PutsOnly e2 e3 p c.in_ok-verdict.verdict) c.in_ok-key.ensures.ok c.in_ok-remember.ensures.only)
 
 -- ---- decide
@@ -132,7 +142,7 @@ decide-weigh_all-requires g t c κs l = (
       (
         opens c.args.game.now c.args.pass c.args.search.now c.room_up_to.new.self c.args.position.now c.in_ok-room.room c.requires.stands c.requires.visited
             c.requires.unfinished c.in_ok-room.ensures.exact,
-        (c.in_ok-room.ensures.exact, c.requires.behind),
+        (c.in_ok-room.ensures.exact, (c.requires.told, c.requires.behind)),
       ),
     ),
   ),
@@ -190,18 +200,18 @@ try_load-expand-requires g t c κs l =
 
 pub try_load-returns-then-load-size-clause-serves : goal.try_load-returns-then-load-size-clause-serves
 try_load-returns-then-load-size-clause-serves g t c =
-    serves_nothing 0 c.args.search.now (g.M.Memo.entries c.args.memo.now) (λ later. Unit {0}) (λ later. tt)
+    serves_nothing c.args.game.now 0 c.args.search.now (g.M.Memo.entries c.args.memo.now) (λ later. Unit {0}) (λ later. tt)
 
 pub try_load-returns-clause-serves : goal.try_load-returns-clause-serves
 try_load-returns-clause-serves g t c spare unnamed behind =
     let h = c.in_ok-verdict.ensures.serves spare unnamed behind in
     let s = record c.expand.new.search { path = c.pop.new.self } in
-    let served = served_at h.later s c.args.position.now c.after-next.result c.args.size c.args.load c.in_ok-verdict.verdict c.after-next.ensures h.more in
+    let served = served_at c.args.game.now h.later s c.args.position.now c.after-next.result c.args.size c.args.load c.in_ok-verdict.verdict c.after-next.ensures h.more in
     record {
       later = h.later;
       behind = h.behind;
       keeps = h.keeps;
-      more = subst (IsServedAt h.later s c.args.position.now c.args.size c.args.load) (sym c.reach_of.ensures) served;
+      more = subst (IsServedAt c.args.game.now h.later s c.args.position.now c.args.size c.args.load) (sym c.reach_of.ensures) served;
     }
 
 pub try_load-returns-clause-found : goal.try_load-returns-clause-found
@@ -229,7 +239,7 @@ try_size-try_load-requires g t c κs l =
                 c.distinct_at-load.ensures.value c.distinct_at-load.ensures.member,
             (
               c.requires.may_come,
-              spare_after 0 0 c.args.search.now c.loop-i.search (g.M.Memo.entries c.args.memo.now) (g.M.Memo.entries c.loop-i.memo) (λ later. Unit {0}) i.serves c.requires.behind,
+              spare_after c.args.game.now 0 0 c.args.search.now c.loop-i.search (g.M.Memo.entries c.args.memo.now) (g.M.Memo.entries c.loop-i.memo) (λ later. Unit {0}) i.serves c.requires.behind,
             ),
           ),
         ),
@@ -247,9 +257,11 @@ try_size-returns-in-Answers-clause-found g t c =
     let went = WentOn-then game c.args.pass c.args.size load (c.args.search.now.path ++ moved c.args.size bound ∷ []) c.args.search.now c.loop-i.search
     c.try_load.new.search e1 e2
     i.went c.in_ok-next.ensures.found.0 in
+    let opened = opens_load game c.args.pass c.args.search.now c.loop-i.search c.args.position.now c.args.size c.loop-i.i load e1 c.requires.from_size i.went i.won
+    (omega (arith, c.loop-i-test.true, c.distinct_count-i-end.ensures.value)) c.distinct_at-load.ensures.value c.distinct_at-load.ensures.member in
     let came = subst (HasReached game c.args.pass c.try_load.new.search c.args.position.now c.args.size load) c.in-Answers.is c.in_ok-next.ensures.found.1 in (
       past_size game c.args.pass c.args.search.now c.try_load.new.search c.args.position.now c.args.size load e2 c.requires.may_come.packable went,
-      (c.distinct_at-load.ensures.member, came.0, came.1, came.2),
+      (c.distinct_at-load.ensures.member, came.0, came.1, came.2, opened.larger_loads),
     )
 
 pub try_size-returns-in-Answers-clause-serves : goal.try_size-returns-in-Answers-clause-serves
@@ -259,8 +271,8 @@ try_size-returns-in-Answers-clause-serves g t c =
     let e1 = g.M.Memo.entries c.loop-i.memo in
     let e2 = g.M.Memo.entries c.try_load.new.memo in
     let load = c.distinct_at-load.result in
-    let next = subst (λ r. KeepsServing 0 s1 e1 s2 e2 (λ later. IsServedAt later s2 c.args.position.now c.args.size load r)) c.in-Answers.is c.in_ok-next.ensures.serves in
-    KeepsServing-then 0 0 0 c.args.search.now s1 s2 (g.M.Memo.entries c.args.memo.now) e1 e2 (λ later. Unit {0}) _ refl c.loop-i.invariant.serves next
+    let next = subst (λ r. KeepsServing c.args.game.now 0 s1 e1 s2 e2 (λ later. IsServedAt c.args.game.now later s2 c.args.position.now c.args.size load r)) c.in-Answers.is c.in_ok-next.ensures.serves in
+    KeepsServing-then c.args.game.now 0 0 0 c.args.search.now s1 s2 (g.M.Memo.entries c.args.memo.now) e1 e2 (λ later. Unit {0}) _ refl c.loop-i.invariant.serves next
 
 pub try_size-loop-i-preserved : goal.try_size-loop-i-preserved
 try_size-loop-i-preserved g t c =
@@ -280,8 +292,8 @@ try_size-loop-i-preserved g t c =
     record {
       went = subst (λ l. WentOn game c.args.pass (c.args.search.now.path ++ moved c.args.size l ∷ []) c.args.search.now c.try_load.new.search e2) (here ∙ sym next) went;
       counts = CountsFresh-trans game c.args.pass (sum p.items + 1) _ _ _ i.counts c.in_ok-next.ensures.counts;
-      serves = KeepsServing-then 0 0 0 c.args.search.now c.loop-i.search c.try_load.new.search (g.M.Memo.entries c.args.memo.now) e1 e2 (λ later. Unit {0}) (λ later. Unit {0}) refl
-          i.serves (KeepsServing-weaker 0 c.loop-i.search c.try_load.new.search e1 e2 _ (λ later. Unit {0}) (λ later m. tt) c.in_ok-next.ensures.serves);
+      serves = KeepsServing-then c.args.game.now 0 0 0 c.args.search.now c.loop-i.search c.try_load.new.search (g.M.Memo.entries c.args.memo.now) e1 e2 (λ later. Unit {0}) (λ later. Unit {0}) refl
+          i.serves (KeepsServing-weaker c.args.game.now 0 c.loop-i.search c.try_load.new.search e1 e2 _ (λ later. Unit {0}) (λ later m. tt) c.in_ok-next.ensures.serves);
       places = placed_more game c.args.pass p c.loop-i.i load c.in-ByNext.next c.loop-i.placements c.push.new.self here (omega (
         arith,
         c.loop-i-test.true,
@@ -335,7 +347,7 @@ weigh-try_size-requires g t c κs l = (
               (c.allows.ensures.exact.0 c.if-not-allows.false),
           (
             c.requires.behind.0,
-            IsBehind-less 1 0 c.requires.behind.0 c.args.search.now (g.M.Memo.entries c.args.memo.now) (omega arith) c.requires.behind.1,
+            IsBehind-less c.args.game.now 1 0 c.requires.behind.0 c.args.search.now (g.M.Memo.entries c.args.memo.now) (omega arith) c.requires.behind.1,
           ),
         ),
       ),
@@ -360,36 +372,74 @@ weigh-returns-in-Answered-clause-found g t c =
     let p = c.args.position.now in
     let e2 = g.M.Memo.entries c.try_size.new.memo in
     let tried = subst (HasTried game c.args.pass c.try_size.new.search p c.args.size) c.in-Answered.is c.in_ok-placements.ensures.found.1 in
-    subst (HasWeighed game c.args.pass c.args.size p c.args.search.now c.try_size.new.search e2) (sym c.kept.ensures)
+    subst (HasWeighed game c.args.pass c.args.size p c.args.search.now c.try_size.new.search e2) (sym c.kept-in-Answered.ensures)
     (weighs game c.args.pass c.args.search.now c.try_size.new.search p c.args.size c.in-Answered.load e2 c.in-Answered.verdict
     c.in_ok-placements.ensures.found.0 c.requires.may_come tried.0 tried.1 tried.2 tried.3)
 
 pub weigh-returns-then-not-allows-clause-serves : goal.weigh-returns-then-not-allows-clause-serves
 weigh-returns-then-not-allows-clause-serves g t c =
-    serves_nothing 0 c.args.search.now (g.M.Memo.entries c.args.memo.now) (λ later. Unit {0}) (λ later. tt)
+    serves_not_allowed c.args.game.now c.args.pass c.args.told c.args.search.now c.args.position.now c.args.size (g.M.Memo.entries c.args.memo.now)
+    (λ allowed. let is = c.allows.ensures.exact.1 ((allowed_in-exact (sizes_of c.args.game.now) c.args.position.now.items c.args.pass c.args.size).0 allowed).1 in
+    true≢false (sym is ∙ c.if-not-allows.true))
+
+-- a size that an earlier pass tried
+pub weigh-returns-in-Some-clause-found : goal.weigh-returns-in-Some-clause-found
+weigh-returns-in-Some-clause-found g t c =
+    let game = c.args.game.now in
+    let s = c.args.search.now in
+    let p = c.args.position.now in
+    let e = g.M.Memo.entries c.args.memo.now in
+    let load = c.in-Some.load in
+    let skipped = c.in-Some.ensures in
+    let first = skipped.first in
+    let playable = c.requires.from_size.stands.playable in
+    let never = IsNeverWon-finish game (after p load c.args.size) c.game_is_legal.ensures
+    (IsPlayable-after game p load c.args.size playable first.has_load first.below c.requires.may_come) skipped.finishes in
+    let low = (size_of_last game p.items c.args.size c.requires.may_come).low in
+    let went = WentOn-later game c.args.pass (moved c.args.size game.target) (moved (c.args.size - 1) game.target) s s e (inl (omega (arith, low)))
+    (WentOn-refl game c.args.pass (s.path ++ moved c.args.size game.target ∷ []) s e c.requires.sound c.requires.from_size.passed) in
+    subst (HasWeighed game c.args.pass c.args.size p s s e) (sym c.kept.ensures)
+    (weighs game c.args.pass s s p c.args.size load e (Algorithm FINISHES) went c.requires.may_come first.has_load first.below tt
+    (record { says = inr (record { told = refl; finishes = skipped.finishes; never = never }); of_pass = tt }))
+
+pub weigh-returns-in-Some-clause-counts : goal.weigh-returns-in-Some-clause-counts
+weigh-returns-in-Some-clause-counts g t c = CountsFresh-refl c.args.game.now c.args.pass (sum c.args.position.now.items + 1) _
+
+pub weigh-returns-in-Some-clause-serves : goal.weigh-returns-in-Some-clause-serves
+weigh-returns-in-Some-clause-serves g t c =
+    let game = c.args.game.now in
+    let s = c.args.search.now in
+    let p = c.args.position.now in
+    let e = g.M.Memo.entries c.args.memo.now in
+    subst (λ w. KeepsServingTold game c.args.told p (taken_by w) s e s e (λ later. IsServedFor game c.args.pass later s p c.args.size w)) (sym c.kept.ensures)
+    (serves_skipped game c.args.pass c.args.told s p c.args.size c.in-Some.load e c.requires.may_come c.in-Some.ensures)
 
 pub weigh-push_win-requires-clause-room : goal.weigh-push_win-requires-clause-room
 weigh-push_win-requires-clause-room g t c =
     let e1 = g.M.Memo.entries c.try_size.new.memo in
-    let after = spare_after 1 0 c.args.search.now c.try_size.new.search (g.M.Memo.entries c.args.memo.now) e1 _ c.in_ok-placements.ensures.serves c.requires.behind in
+    let after = spare_after c.args.game.now 1 0 c.args.search.now c.try_size.new.search (g.M.Memo.entries c.args.memo.now) e1 _ c.in_ok-placements.ensures.serves c.requires.behind in
     let sound = c.in_ok-placements.ensures.found.0.sound in
     omega (arith, after.1.0.few, sound.within, sound.budget)
 
 pub weigh-returns-in_ok-number-in-Wins-clause-serves : goal.weigh-returns-in_ok-number-in-Wins-clause-serves
 weigh-returns-in_ok-number-in-Wins-clause-serves g t c =
-    serves_won c.args.search.now c.try_size.new.search c.push_win.new.wins c.args.position.now c.in_ok-number-in-Wins.number (g.M.Memo.entries c.args.memo.now)
+    serves_won c.args.game.now c.args.told c.args.search.now c.try_size.new.search c.push_win.new.wins c.args.position.now c.in_ok-number-in-Wins.number (g.M.Memo.entries c.args.memo.now)
     (g.M.Memo.entries c.try_size.new.memo) _ c.in_ok-number-in-Wins.ensures c.in_ok-placements.ensures.serves
 
 pub weigh-returns-in-Answered-clause-serves : goal.weigh-returns-in-Answered-clause-serves
 weigh-returns-in-Answered-clause-serves g t c =
+    let game = c.args.game.now in
     let s0 = c.args.search.now in
     let s1 = c.try_size.new.search in
     let e0 = g.M.Memo.entries c.args.memo.now in
     let e1 = g.M.Memo.entries c.try_size.new.memo in
     let p = c.args.position.now in
-    let tried = subst (λ t. KeepsServing 0 s0 e0 s1 e1 (λ later. IsServedWith later s1 p c.args.size t)) c.in-Answered.is c.in_ok-placements.ensures.serves in
-    subst (λ w. KeepsServing (taken_by w) s0 e0 s1 e1 (λ later. IsServedFor later s1 p w)) (sym c.kept.ensures)
-    (serves_kept s0 s1 p c.args.size c.in-Answered.load e0 e1 c.in-Answered.verdict tried)
+    let answered = subst (λ t. KeepsServing game 0 s0 e0 s1 e1 (λ later. IsServedWith game later s1 p c.args.size t)) c.in-Answered.is c.in_ok-placements.ensures.serves in
+    let tried = subst (HasTried game c.args.pass s1 p c.args.size) c.in-Answered.is c.in_ok-placements.ensures.found.1 in
+    subst (λ w. KeepsServingTold game c.args.told p (taken_by w) s0 e0 s1 e1 (λ later. IsServedFor game c.args.pass later s1 p c.args.size w)) (sym c.kept-in-Answered.ensures)
+    (serves_kept game c.args.pass c.args.told s0 s1 p c.args.size c.in-Answered.load e0 e1 c.in-Answered.verdict
+    (λ later served. first_served game c.args.pass later s1 p c.args.size c.in-Answered.load c.in-Answered.verdict c.game_is_legal.ensures
+    c.requires.from_size.stands.playable c.requires.may_come tried served) answered)
 
 -- ---- weigh_all
 
@@ -408,7 +458,7 @@ weigh_all-weigh-requires g t c κs l =
                 c.requires.from_room i.went i.none,
             (
               Packable-from_room game c.args.position.now.items c.args.room size c.requires.is_room (omega (arith, c.loop-tried-test.true)) (omega arith),
-              spare_after 1 0 c.args.search.now c.loop-tried.search (g.M.Memo.entries c.args.memo.now) (g.M.Memo.entries c.loop-tried.memo) _ i.serves c.requires.behind,
+              spare_after c.args.game.now 1 0 c.args.search.now c.loop-tried.search (g.M.Memo.entries c.args.memo.now) (g.M.Memo.entries c.loop-tried.memo) _ i.serves c.requires.behind,
             ),
           ),
         ),
@@ -425,16 +475,43 @@ weigh_all-returns-in-Won-clause-found g t c =
     finds_after game c.args.pass c.args.search.now c.loop-tried.search c.weigh.new.search (c.args.search.now.path ++ moved size game.target ∷ [])
     c.args.position.now e1 e2 _ c.loop-tried.invariant.went weighed
 
+pub weigh_all-loop-tried-init : goal.weigh_all-loop-tried-init
+weigh_all-loop-tried-init g t c =
+    let game = c.args.game.now in
+    let s = c.args.search.now in
+    let p = c.args.position.now in
+    let e = g.M.Memo.entries c.args.memo.now in
+    let room : ℕ = c.args.room in
+    let none : length c.new-entries.result.items ≡ 0 = ap length c.new-entries.ensures.items in
+    record {
+      went = subst (λ size. WentOn game c.args.pass (s.path ++ moved size game.target ∷ []) s s e) (let all : room ≡ room - 0 = omega arith in all)
+          (WentOn-refl game c.args.pass (s.path ++ moved room game.target ∷ []) s e c.requires.sound c.requires.from_room.passed);
+      counts = CountsFresh-refl game c.args.pass (sum p.items + 1) _;
+      serves = λ spare unnamed behind. Serving-refl game spare unnamed s e _ (IsBehind-less game (0 + spare) spare unnamed s e (omega arith) behind) (
+        subst (All (IsEntryServed unnamed s p)) (sym c.new-entries.ensures.items) (All-nil (IsEntryServed unnamed s p)),
+        (λ size above within. absurd (omega (arith, above, within))),
+        tried_before game c.args.pass (0 + spare) c.args.told unnamed s p e c.requires.told behind,
+      );
+      none = λ size above w. c.requires.from_room.larger_sizes size (omega (arith, above)) w;
+      few = omega (arith, none);
+      sizes = λ all. ap (map (λ (entry : Entry). entry.size)) c.new-entries.ensures.items;
+      each = subst (All (IsPending game s.replies.nodes p)) (sym c.new-entries.ensures.items) (All-nil (IsPending game s.replies.nodes p));
+      gaps = λ l. absurd (omega (arith, l, none));
+    }
+
 pub weigh_all-returns-in-Won-clause-serves : goal.weigh_all-returns-in-Won-clause-serves
 weigh_all-returns-in-Won-clause-serves g t c =
+    let game = c.args.game.now in
     let s1 = c.loop-tried.search in
     let s2 = c.weigh.new.search in
     let e1 = g.M.Memo.entries c.loop-tried.memo in
     let e2 = g.M.Memo.entries c.weigh.new.memo in
     let p = c.args.position.now in
-    let weighed = subst (λ w. KeepsServing (taken_by w) s1 e1 s2 e2 (λ later. IsServedFor later s2 p w)) c.in-Won.is c.in_ok-number.ensures.serves in
-    KeepsServing-then 0 1 1 c.args.search.now s1 s2 (g.M.Memo.entries c.args.memo.now) e1 e2 _ _ refl c.loop-tried.invariant.serves
-    (KeepsServing-weaker 1 s1 s2 e1 e2 _ _ (λ later m e. let no : Adversary c.in-Won.number ≡ Algorithm FINISHES = e in cc) weighed)
+    let size : ℕ = c.args.room - c.loop-tried.tried in
+    let weighed = subst (λ w. KeepsServingTold game c.args.told p (taken_by w) s1 e1 s2 e2 (λ later. IsServedFor game c.args.pass later s2 p size w)) c.in-Won.is
+    c.in_ok-number.ensures.serves in
+    serves_size game c.args.told p 1 c.args.search.now s1 s2 (g.M.Memo.entries c.args.memo.now) e1 e2 _ _ _ c.loop-tried.invariant.serves weighed (λ later m. m.2)
+    (λ before later keeps m n. (λ e. absurd (let no : Adversary c.in-Won.number ≡ Algorithm FINISHES = e in cc), λ k e. absurd (let no : Adversary c.in-Won.number ≡ Held k = e in cc)))
 
 pub weigh_all-loop-tried-preserved : goal.weigh_all-loop-tried-preserved
 weigh_all-loop-tried-preserved g t c =
@@ -458,9 +535,14 @@ weigh_all-loop-tried-preserved g t c =
           record {
             went = past_more game pass s0 s1 s2 p room tried e1 e2 _ i.went a;
             counts = CountsFresh-trans game pass (sum p.items + 1) _ _ _ i.counts c.in_ok-number.ensures.counts;
-            serves = KeepsServing-and 0 0 0 s0 s1 s2 (g.M.Memo.entries c.args.memo.now) e1 e2 _ _ _ refl i.serves
-                (subst (λ w. KeepsServing (taken_by w) s1 e1 s2 e2 (λ later. IsServedFor later s2 p w)) w.in-Replied.is c.in_ok-number.ensures.serves)
-                (λ before later keeps m n. entries_served before later s1 s2 p c.loop-tried.entries.items c.match-branch-2.entries.items w.in-Replied.entry keeps m n is);
+            serves = serves_size game c.args.told p 0 s0 s1 s2 (g.M.Memo.entries c.args.memo.now) e1 e2 _ _ _ i.serves
+                (subst (λ w. KeepsServingTold game c.args.told p (taken_by w) s1 e1 s2 e2 (λ later. IsServedFor game pass later s2 p size w)) w.in-Replied.is
+                c.in_ok-number.ensures.serves) (λ later m. m.2)
+                (λ before later keeps m n. (
+                  entries_served before later s1 s2 p c.loop-tried.entries.items c.match-branch-2.entries.items w.in-Replied.entry keeps m.0 n.0 is,
+                  sizes_tried game pass room tried before later s1 s2 p c.loop-tried-test.true keeps m.1 n.1,
+                  tried_still game c.args.told before later s1 s2 p keeps m.2,
+                ));
             none = none_more game pass p room tried c.loop-tried-test.true i.none a.none;
             few = omega (arith, i.few, len);
             sizes = sizes_more game pass room tried w.in-Replied.entry c.loop-tried.entries.items c.match-branch-2.entries.items i.sizes a.answered.0 is;
@@ -473,10 +555,15 @@ weigh_all-loop-tried-preserved g t c =
           record {
             went = past_more game pass s0 s1 s2 p room tried e1 e2 _ i.went a;
             counts = CountsFresh-trans game pass (sum p.items + 1) _ _ _ i.counts c.in_ok-number.ensures.counts;
-            serves = KeepsServing-and 0 0 0 s0 s1 s2 (g.M.Memo.entries c.args.memo.now) e1 e2 _ _ _ refl i.serves
-                (subst (λ w. KeepsServing (taken_by w) s1 e1 s2 e2 (λ later. IsServedFor later s2 p w)) w.in-NoReply.is c.in_ok-number.ensures.serves)
-                (λ before later keeps m n. subst (All (IsEntryServed later s2 p)) (sym is)
-                (All-weaker (IsEntryServed before s1 p) (IsEntryServed later s2 p) (λ e h f. keeps (led_to p e) (h f)) c.loop-tried.entries.items m));
+            serves = serves_size game c.args.told p 0 s0 s1 s2 (g.M.Memo.entries c.args.memo.now) e1 e2 _ _ _ i.serves
+                (subst (λ w. KeepsServingTold game c.args.told p (taken_by w) s1 e1 s2 e2 (λ later. IsServedFor game pass later s2 p size w)) w.in-NoReply.is
+                c.in_ok-number.ensures.serves) (λ later m. m.2)
+                (λ before later keeps m n. (
+                  subst (All (IsEntryServed later s2 p)) (sym is)
+                      (All-weaker (IsEntryServed before s1 p) (IsEntryServed later s2 p) (λ e h f. keeps (led_to p e) (h f)) c.loop-tried.entries.items m.0),
+                  sizes_tried game pass room tried before later s1 s2 p c.loop-tried-test.true keeps m.1 n,
+                  tried_still game c.args.told before later s1 s2 p keeps m.2,
+                ));
             none = none_more game pass p room tried c.loop-tried-test.true i.none a.none;
             few = omega (arith, i.few, ap length is);
             sizes = λ e. absurd (omega (arith, e, i.few, ap length is));
@@ -500,15 +587,25 @@ weigh_all-returns-then-len-from-clause-found g t c =
 
 pub weigh_all-returns-then-len-from-clause-serves : goal.weigh_all-returns-then-len-from-clause-serves
 weigh_all-returns-then-len-from-clause-serves g t c =
-    serves_more c.args.search.now c.loop-tried.search (g.M.Memo.entries c.args.memo.now) (g.M.Memo.entries c.loop-tried.memo) _ _
-    (λ later e. let no : Held c.args.pass ≡ Algorithm FINISHES = e in cc) c.loop-tried.invariant.serves
+    let game = c.args.game.now in
+    let p = c.args.position.now in
+    let all : c.loop-tried.tried ≡ c.args.room = omega (arith, c.loop-tried-test.false, c.loop-tried.auto.tried-end) in
+    serves_more game c.args.search.now c.loop-tried.search (g.M.Memo.entries c.args.memo.now) (g.M.Memo.entries c.loop-tried.memo) _ _
+    (λ later m. (
+      (λ e. absurd (let no : Held c.args.pass ≡ Algorithm FINISHES = e in cc)),
+      λ k e size allowed may.
+          let same : k ≡ c.args.pass = (let is : Held c.args.pass ≡ Held k = e in cc) in
+          let low = (size_of_last game p.items size may).low in
+          let high = le_room game p.items c.args.room size c.requires.is_room may in
+          m.1 size (omega (arith, all, low)) high (subst (λ n. IsTrue (allowed_by game n p.items size)) same allowed),
+    )) c.loop-tried.invariant.serves
 
 pub weigh_all-put_reply-requires-clause-may : goal.weigh_all-put_reply-requires-clause-may
 weigh_all-put_reply-requires-clause-may g t c =
     let i = c.loop-tried.invariant in
     let e0 = g.M.Memo.entries c.args.memo.now in
     let b = c.requires.behind.1 in
-    let served = i.serves 1 c.requires.behind.0 (IsBehind-less 1 (0 + 1) c.requires.behind.0 c.args.search.now e0 (omega arith) b) in
+    let served = i.serves 1 c.requires.behind.0 (IsBehind-less c.args.game.now 1 (0 + 1) c.requires.behind.0 c.args.search.now e0 (omega arith) b) in
     subst (MayNameAll c.args.game.now c.loop-tried.search c.args.position.now) (sym c.as_slice.ensures.value) (record {
       replies = record { of_game = i.went.sound.replies_game; of_format = i.went.sound.replies_format };
       playable = c.requires.from_room.stands.playable;
@@ -516,7 +613,7 @@ weigh_all-put_reply-requires-clause-may g t c =
       limit = omega (arith, i.went.sound.within, i.went.sound.budget);
       unnamed = served.later;
       under = served.behind.0;
-      served = served.more;
+      served = served.more.0;
     })
 
 pub weigh_all-put_reply-requires-clause-of_all : goal.weigh_all-put_reply-requires-clause-of_all
@@ -543,7 +640,7 @@ weigh_all-returns-clause-found g t c =
     (record { is_room = c.requires.is_room; sizes = i.sizes full ∙ ap (numbers_down c.args.room) all }) i.each in
     subst (λ s. FindsVerdict game c.args.pass p c.args.search.now s e1 (Algorithm c.in_ok-number-2.number)) (sym puts.same)
     (finds_reply game c.args.pass c.args.search.now puts.between c.put_reply.new.search.replies a p e1 c.in_ok-number-2.number
-    (WentOn-named game c.args.pass p entries (c.args.search.now.path ++ a ∷ []) c.args.search.now s1 puts.between e1 i.went puts.all i.each) puts.puts never)
+    (WentOn-named game c.args.pass p entries (c.args.search.now.path ++ a ∷ []) c.args.search.now s1 puts.between e1 i.went puts.all i.each) puts.puts never c.requires.from_room.unfinished)
 
 pub weigh_all-returns-clause-serves : goal.weigh_all-returns-clause-serves
 weigh_all-returns-clause-serves g t c =
@@ -552,14 +649,14 @@ weigh_all-returns-clause-serves g t c =
     let p = c.args.position.now in
     let puts = subst (λ xs. PutsNamed game c.loop-tried.search c.put_reply.new.search p xs c.in_ok-number-2.number) c.as_slice.ensures.value c.in_ok-number-2.ensures in
     serves_replied game c.args.search.now c.loop-tried.search c.put_reply.new.search p c.loop-tried.entries.items c.in_ok-number-2.number
-    (g.M.Memo.entries c.args.memo.now) (g.M.Memo.entries c.loop-tried.memo) puts (omega (arith, i.went.sound.within, i.went.sound.budget)) i.serves
+    (g.M.Memo.entries c.args.memo.now) (g.M.Memo.entries c.loop-tried.memo) _ puts (omega (arith, i.went.sound.within, i.went.sound.budget)) i.serves (λ later m. m.0)
 
 -- ---- what is left of a budget
 
-pub expand-returns-in-Some-clause-counts : goal.expand-returns-in-Some-clause-counts
-expand-returns-in-Some-clause-counts g t c =
-    CountsFresh-same c.args.game.now c.args.pass (sum c.args.position.now.items) c.args.search.now.meter (g.M.Memo.entries c.args.memo.now) (g.M.Memo.entries c.known.new.memo)
-    (g.M.Memo.room c.args.memo.now) (g.M.Memo.room c.known.new.memo) c.known.ensures.same c.known.ensures.capacity
+pub expand-returns-in-Settled-clause-counts : goal.expand-returns-in-Settled-clause-counts
+expand-returns-in-Settled-clause-counts g t c =
+    CountsFresh-same c.args.game.now c.args.pass (sum c.args.position.now.items) c.args.search.now.meter (g.M.Memo.entries c.args.memo.now) (g.M.Memo.entries c.known-told.new.memo)
+    (g.M.Memo.room c.args.memo.now) (g.M.Memo.room c.known-told.new.memo) c.known-told.ensures.same c.known-told.ensures.capacity
 
 pub expand-returns-then-finishes-clause-counts : goal.expand-returns-then-finishes-clause-counts
 expand-returns-then-finishes-clause-counts g t c =
@@ -567,14 +664,14 @@ expand-returns-then-finishes-clause-counts g t c =
     let p = c.args.position.now in
     let path = c.args.search.now.path in
     let a = progress c.args.search.now.meter (g.M.Memo.entries c.args.memo.now) (g.M.Memo.room c.args.memo.now) in
-    let e1 = g.M.Memo.entries c.known.new.memo in
-    let b = progress c.visit.new.self e1 (g.M.Memo.room c.known.new.memo) in
+    let e1 = g.M.Memo.entries c.known-told.new.memo in
+    let b = progress c.visit.new.self e1 (g.M.Memo.room c.known-told.new.memo) in
     let e2 = g.M.Memo.entries c.remember_finish.new.memo in
-    let fresh = subst (λ (p : Position). is_fresh c.args.pass (verdict_of a.entries p) ≡ true) c.in_ok-key.ensures.ok (c.known.ensures.fresh c.in_default.is) in
+    let fresh = subst (λ (p : Position). is_fresh c.args.pass (verdict_of a.entries p) ≡ true) c.in_ok-key.ensures.ok (fresh_told c.args.pass _ c.known-told.result c.known-told.ensures.told c.in_default.not-Settled) in
     let visited : IsVisited game c.args.pass p path a b =
-    record { stands = c.requires.may.stands; fresh = fresh; meter = c.in_ok-visit.ensures.ok; same = c.known.ensures.same; room = c.known.ensures.capacity } in
+    record { stands = c.requires.may.stands; fresh = fresh; meter = c.in_ok-visit.ensures.ok; same = c.known-told.ensures.same; room = c.known-told.ensures.capacity } in
     let finishes = c.finishes.ensures.exact.0 c.if-finishes.true in
-    let none = c.known.ensures.same.values p ∙ none_for_finish game c.args.pass c.args.search.now.wins.nodes c.args.search.now.replies.nodes a.entries p
+    let none = c.known-told.ensures.same.values p ∙ none_for_finish game c.args.pass c.args.search.now.wins.nodes c.args.search.now.replies.nodes a.entries p
     c.requires.sound.known finishes fresh in
     let put = subst (λ (p : Position). length e1 < b.room → (more : ℕ) × Puts are_equal e1 e2 p (Algorithm FINISHES) more) c.in_ok-key.ensures.ok
     c.in_ok-remember_finish.ensures.put in
@@ -595,13 +692,13 @@ expand-returns-clause-counts g t c =
     let path = c.args.search.now.path in
     let verdict = c.in_ok-verdict.verdict in
     let a = progress c.args.search.now.meter (g.M.Memo.entries c.args.memo.now) (g.M.Memo.room c.args.memo.now) in
-    let b = progress c.visit.new.self (g.M.Memo.entries c.known.new.memo) (g.M.Memo.room c.known.new.memo) in
+    let b = progress c.visit.new.self (g.M.Memo.entries c.known-told.new.memo) (g.M.Memo.room c.known-told.new.memo) in
     let e1 = g.M.Memo.entries c.decide.new.memo in
     let e2 = g.M.Memo.entries c.remember.new.memo in
     let r1 = g.M.Memo.room c.decide.new.memo in
-    let fresh = subst (λ (p : Position). is_fresh c.args.pass (verdict_of a.entries p) ≡ true) c.in_ok-key.ensures.ok (c.known.ensures.fresh c.in_default.is) in
+    let fresh = subst (λ (p : Position). is_fresh c.args.pass (verdict_of a.entries p) ≡ true) c.in_ok-key.ensures.ok (fresh_told c.args.pass _ c.known-told.result c.known-told.ensures.told c.in_default.not-Settled) in
     let visited : IsVisited game c.args.pass p path a b =
-    record { stands = c.requires.may.stands; fresh = fresh; meter = c.in_ok-visit.ensures.ok; same = c.known.ensures.same; room = c.known.ensures.capacity } in
+    record { stands = c.requires.may.stands; fresh = fresh; meter = c.in_ok-visit.ensures.ok; same = c.known-told.ensures.same; room = c.known-told.ensures.capacity } in
     CountsFresh-visited game c.args.pass p path a b (progress c.decide.new.search.meter e1 r1) e2 (g.M.Memo.room c.remember.new.memo) verdict visited c.in_ok-verdict.ensures.counts
     c.in_ok-verdict.ensures.found.tells.of_pass c.remember.ensures.valid
     (subst (λ (p : Position). (verdict_of e1 p ≡ None → length e1 < r1) → (more : ℕ) × Puts are_equal e1 e2 p verdict more) c.in_ok-key.ensures.ok c.in_ok-remember.ensures.put)
@@ -613,7 +710,7 @@ expand-returns-in_err-visit-clause-counts g t c =
     let p = c.args.position.now in
     let fault = c.in_err-visit.field-0.0 in
     let a = progress c.args.search.now.meter (g.M.Memo.entries c.args.memo.now) (g.M.Memo.room c.args.memo.now) in
-    let fresh = subst (λ (p : Position). is_fresh c.args.pass (verdict_of a.entries p) ≡ true) c.in_ok-key.ensures.ok (c.known.ensures.fresh c.in_default.is) in
+    let fresh = subst (λ (p : Position). is_fresh c.args.pass (verdict_of a.entries p) ≡ true) c.in_ok-key.ensures.ok (fresh_told c.args.pass _ c.known-told.result c.known-told.ensures.told c.in_default.not-Settled) in
     let short = IsShort-fault game c.args.pass p c.args.search.now.path a fault c.requires.may.stands fresh (λ e. c.in_err-visit.ensures.spent.0 (ap Err e)) in
     passed_on _ (IsShort game c.args.pass (sum p.items) a) fault c.from_residual-in_err-visit.result c.from_residual-in_err-visit.ensures.1 short
 
@@ -624,10 +721,10 @@ expand-returns-in_err-verdict-clause-counts g t c =
     let path = c.args.search.now.path in
     let fault = c.in_err-verdict.field-0.0 in
     let a = progress c.args.search.now.meter (g.M.Memo.entries c.args.memo.now) (g.M.Memo.room c.args.memo.now) in
-    let b = progress c.visit.new.self (g.M.Memo.entries c.known.new.memo) (g.M.Memo.room c.known.new.memo) in
-    let fresh = subst (λ (p : Position). is_fresh c.args.pass (verdict_of a.entries p) ≡ true) c.in_ok-key.ensures.ok (c.known.ensures.fresh c.in_default.is) in
+    let b = progress c.visit.new.self (g.M.Memo.entries c.known-told.new.memo) (g.M.Memo.room c.known-told.new.memo) in
+    let fresh = subst (λ (p : Position). is_fresh c.args.pass (verdict_of a.entries p) ≡ true) c.in_ok-key.ensures.ok (fresh_told c.args.pass _ c.known-told.result c.known-told.ensures.told c.in_default.not-Settled) in
     let visited : IsVisited game c.args.pass p path a b =
-    record { stands = c.requires.may.stands; fresh = fresh; meter = c.in_ok-visit.ensures.ok; same = c.known.ensures.same; room = c.known.ensures.capacity } in
+    record { stands = c.requires.may.stands; fresh = fresh; meter = c.in_ok-visit.ensures.ok; same = c.known-told.ensures.same; room = c.known-told.ensures.capacity } in
     passed_on _ (IsShort game c.args.pass (sum p.items) a) fault c.from_residual-in_err-verdict.result c.from_residual-in_err-verdict.ensures.1
     (IsShort-visited game c.args.pass p path a b fault visited c.in_err-verdict.ensures.counts)
 

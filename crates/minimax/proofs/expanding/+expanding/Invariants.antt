@@ -5,7 +5,7 @@ use Rattle.loads.specs.Descending.{distinct}
 use Rattle.strategy_text.specs.declared.node.Entry.{Entry}
 use Rattle.strategy_text.specs.declared.node.Placement.{Placement}
 use Rattle.minimax.specs.Fresh.{CountsFresh, progress}
-use Rattle.minimax.specs.Serving.{IsEntryServed, KeepsServing}
+use Rattle.minimax.specs.Serving.{AreTried, IsEntryServed, IsTriedBefore, KeepsServing}
 use Rattle.minimax.specs.State.{FollowsUp, IsPending, IsWonIn, WentOn, WinsBy, numbers_down, with_move}
 use Rattle.minimax.proofs.expanding.+expanding.Given as goal
 
@@ -32,7 +32,7 @@ invariant-try_size-loop-i g l = record {
   went : WentOn l.game l.pass (with_move l.fn.search l.size (get_or (l.game.target ∷ distinct l.position.loads) l.i 0)) l.fn.search l.search (g.M.Memo.entries l.memo);
   counts : CountsFresh l.game l.pass (sum l.position.items + 1) (progress l.fn.search.meter (g.M.Memo.entries l.fn.memo) (g.M.Memo.room l.fn.memo))
       (progress l.search.meter (g.M.Memo.entries l.memo) (g.M.Memo.room l.memo));
-  serves : KeepsServing 0 l.fn.search (g.M.Memo.entries l.fn.memo) l.search (g.M.Memo.entries l.memo) (λ later. Unit {0});
+  serves : KeepsServing l.game 0 l.fn.search (g.M.Memo.entries l.fn.memo) l.search (g.M.Memo.entries l.memo) (λ later. Unit {0});
   places : map (λ (placement : Placement). placement.load) l.placements ≡ take l.i (distinct l.position.loads);
   each : All (FollowsUp l.game l.pass l.search l.position l.size) l.placements;
   won : (k : ℕ) → k < l.i → (l.game.target ≤ get_or (distinct l.position.loads) k 0 + l.size)
@@ -44,8 +44,9 @@ invariant-weigh_all-loop-tried g l = record {
   went : WentOn l.game l.pass (with_move l.fn.search (l.room - l.tried) l.game.target) l.fn.search l.search (g.M.Memo.entries l.memo);
   counts : CountsFresh l.game l.pass (sum l.position.items + 1) (progress l.fn.search.meter (g.M.Memo.entries l.fn.memo) (g.M.Memo.room l.fn.memo))
       (progress l.search.meter (g.M.Memo.entries l.memo) (g.M.Memo.room l.memo));
-  serves : KeepsServing 0 l.fn.search (g.M.Memo.entries l.fn.memo) l.search (g.M.Memo.entries l.memo)
-      (λ later. All (IsEntryServed later l.search l.position) l.entries.items);
+  serves : KeepsServing l.game 0 l.fn.search (g.M.Memo.entries l.fn.memo) l.search (g.M.Memo.entries l.memo)
+      (λ later. All (IsEntryServed later l.search l.position) l.entries.items
+      × AreTried l.game l.pass (l.room - l.tried) l.room later l.search l.position × IsTriedBefore l.game l.told later l.search l.position);
   none : (size : ℕ) → l.room - l.tried < size → WinsBy l.game l.pass l.position size → ⊥;
   few : length l.entries.items ≤ l.tried;
   sizes : length l.entries.items ≡ l.tried → map (λ (entry : Entry). entry.size) l.entries.items ≡ numbers_down l.room l.tried;

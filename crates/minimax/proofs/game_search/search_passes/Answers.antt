@@ -61,7 +61,7 @@ returns-in-Ok-Adversary-clause-answer g c =
     let s = c.expand.new.search in
     let root = position c.zero.result c.empty.result in
     let finds = subst (FindsVerdict game c.loop-pass.pass root c.loop-pass.search s e) c.in-Ok-Adversary.field-0-is c.in-Ok-Adversary.ensures.found in
-    let behind = spare_after 0 0 c.loop-pass.search s e0 e _ c.in-Ok-Adversary.ensures.serves c.loop-pass.invariant.behind in (
+    let behind = spare_after c.args.game.now 0 0 c.loop-pass.search s e0 e _ c.in-Ok-Adversary.ensures.serves c.loop-pass.invariant.behind in (
       c.into_strategy.ensures.legal,
       IsFor-win game c.loop-pass.pass c.args.budget s e c.in-Ok-Adversary.number c.into_strategy.result finds.went.sound behind
           (finds.went.goes.budget ∙ c.loop-pass.invariant.budget) c.into_strategy.ensures.value,
@@ -77,7 +77,7 @@ node_number-requires g c =
     let told : ℕ = c.in-Ok-Algorithm.told in
     let is = ap (λ xs. position xs c.empty.result) c.zero.ensures.value ∙ ap (position (empty_position game).loads) c.empty.ensures.none in
     let finds = subst (FindsVerdict game c.loop-pass.pass root c.loop-pass.search s e) c.in-Ok-Algorithm.field-0-is c.in-Ok-Algorithm.ensures.found in
-    let serves = subst (λ v. KeepsServing 0 c.loop-pass.search e0 s e (λ later. IsServedBy later s root v)) c.in-Ok-Algorithm.field-0-is c.in-Ok-Algorithm.ensures.serves in
+    let serves = subst (λ v. KeepsServing c.args.game.now 0 c.loop-pass.search e0 s e (λ later. IsServedBy c.args.game.now later s root v)) c.in-Ok-Algorithm.field-0-is c.in-Ok-Algorithm.ensures.serves in
     let behind = c.loop-pass.invariant.behind in
     let h = serves 0 behind.0 behind.1 in
     let playable = subst (IsPlayable game) (sym is) (IsPlayable-empty game (subst (IsLoads game) c.zero.ensures.value c.zero.ensures.legal)) in
@@ -90,7 +90,7 @@ into_strategy-requires-in-Ok-Algorithm g c =
     let e = g.M.Memo.entries c.expand.new.memo in
     let root = position c.zero.result c.empty.result in
     let is = ap (λ xs. position xs c.empty.result) c.zero.ensures.value ∙ ap (position (empty_position game).loads) c.empty.ensures.none in
-    let behind = spare_after 0 0 c.loop-pass.search c.expand.new.search e0 e _ c.in-Ok-Algorithm.ensures.serves c.loop-pass.invariant.behind in
+    let behind = spare_after c.args.game.now 0 0 c.loop-pass.search c.expand.new.search e0 e _ c.in-Ok-Algorithm.ensures.serves c.loop-pass.invariant.behind in
     let stands = numbers_stand c.expand.new.search c.node_number.new.search root c.in-Ok-Algorithm.told c.in_ok-number-in-Ok-Algorithm.number 0 behind.0 c.in_ok-number-in-Ok-Algorithm.ensures behind.1.0 in
     record { root = root_of_reply game c.loop-pass.pass c.node_number.new.search.replies.nodes c.in_ok-number-in-Ok-Algorithm.number root is stands }
 
@@ -104,7 +104,7 @@ returns-in-Ok-Algorithm-clause-answer g c =
     let root = position c.zero.result c.empty.result in
     let told : ℕ = c.in-Ok-Algorithm.told in
     let finds = subst (FindsVerdict game c.loop-pass.pass root c.loop-pass.search s e) c.in-Ok-Algorithm.field-0-is c.in-Ok-Algorithm.ensures.found in
-    let serves = subst (λ v. KeepsServing 0 c.loop-pass.search e0 s e (λ later. IsServedBy later s root v)) c.in-Ok-Algorithm.field-0-is c.in-Ok-Algorithm.ensures.serves in
+    let serves = subst (λ v. KeepsServing c.args.game.now 0 c.loop-pass.search e0 s e (λ later. IsServedBy c.args.game.now later s root v)) c.in-Ok-Algorithm.field-0-is c.in-Ok-Algorithm.ensures.serves in
     let behind = c.loop-pass.invariant.behind in
     let h = serves 0 behind.0 behind.1 in
     let never = never_by_led game c.loop-pass.pass s.meter s.wins s.replies e root told finds.went.sound finds.tells.says in
@@ -151,7 +151,7 @@ loop-pass-preserved g c =
     let goes = finds.went.goes in
     record {
       sound = AreSound-later game pass s2.meter s2.wins s2.replies e (pass + 1) (omega arith) finds.went.sound;
-      behind = spare_after 0 0 c.loop-pass.search s2 (g.M.Memo.entries c.loop-pass.memo) e _ c.in-Ok-Held.ensures.serves c.loop-pass.invariant.behind;
+      behind = spare_after c.args.game.now 0 0 c.loop-pass.search s2 (g.M.Memo.entries c.loop-pass.memo) e _ c.in-Ok-Held.ensures.serves c.loop-pass.invariant.behind;
       ends = IsWithinEnds-next game (g.M.Memo.room c.args.memo.now) c.args.budget pass (sum c.empty.result) _ _ c.loop-pass.invariant.ends c.in-Ok-Held.ensures.counts;
       path = goes.path ∙ c.loop-pass.invariant.path;
       most = goes.most ∙ c.loop-pass.invariant.most;

@@ -11,7 +11,7 @@ use Rattle.minimax.proofs.game_search.search_passes.Given as goal
 abbrev pub invariant-loop-pass : goal.invariant-loop-pass
 invariant-loop-pass g l = record {
   sound : IsSound l.game l.pass l.search (g.M.Memo.entries l.memo);
-  behind : HasSpare 0 l.search (g.M.Memo.entries l.memo);
+  behind : HasSpare l.game 0 l.search (g.M.Memo.entries l.memo);
   ends : IsWithinEnds l.game (g.M.Memo.room l.fn.memo) l.budget l.pass (progress l.search.meter (g.M.Memo.entries l.memo) (g.M.Memo.room l.memo));
   path : l.search.path ≡ [];
   most : l.search.most ≡ l.game.capacity;
