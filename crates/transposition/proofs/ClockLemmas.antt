@@ -19,7 +19,7 @@ marks_left-cleared (mark ∷ marks) (suc place) d l h = omega (arith, marks_left
 
 -- the marks and the hand, part of the way round
 pub record IsOnTheWay (before : Marks) (marks : List Bool) (hand : ℕ) : Type 0 where
-  pub passes : PassesOver before (marks_at marks hand)
+  pub passes : PassesOver before (marks_at marks hand before.room)
   pub number : length marks ≡ length before.marks
   pub within : hand < length marks
 
@@ -35,13 +35,13 @@ one_more_on before marks hand next h is e =
     let same : length (set marks hand false) ≡ length marks = length-set marks hand false in
     let is_next : next ≡ next_place (length marks) hand = e ∙ ap (λ n. next_place n hand) same in
     record {
-      passes = subst (λ n. PassesOver before (marks_at (set marks hand false) n)) (sym is_next) (one_more before (marks_at marks hand) h.passes is);
+      passes = subst (λ n. PassesOver before (marks_at (set marks hand false) n before.room)) (sym is_next) (one_more before (marks_at marks hand before.room) h.passes is);
       number = same ∙ h.number;
       within = let l = next-lt (length marks) hand h.within in omega (arith, l, is_next, same);
     }
 
-pub at_the_start : (marks : List Bool) (hand : ℕ) → hand ≤ length marks - 1 → 0 < length marks → IsOnTheWay (marks_at marks hand) marks hand
-at_the_start marks hand l some = record { passes = nothing (marks_at marks hand); number = refl; within = omega (arith, l, some) }
+pub at_the_start : (marks : List Bool) (hand room : ℕ) → hand ≤ length marks - 1 → 0 < length marks → IsOnTheWay (marks_at marks hand room) marks hand
+at_the_start marks hand room l some = record { passes = nothing (marks_at marks hand room); number = refl; within = omega (arith, l, some) }
 
 pub read_mark : (marks : List Bool) (hand : ℕ) (r : Bool) → hand < length marks → r ≡ get_or marks hand r → r ≡ true → get_or marks hand false ≡ true
 read_mark marks hand r l e h = get_or_default marks hand false r l ∙ sym e ∙ h

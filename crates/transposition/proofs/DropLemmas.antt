@@ -1,13 +1,32 @@
--- What is found in a table after an entry was dropped for another.
-use Rattle.std.proofs.Common.{◌≡◌, ℕ, ◌+◌, ◌<◌, Bool, true, false, cond, Option, Some, None, IsSome, List, length, refl, sym, ap, ◌∙◌, subst, inl, inr, arith}
+-- What is found in a table after an entry was put in and another was dropped for it.
+use Rattle.std.proofs.Common.{◌≡◌, ℕ, zero, suc, ◌+◌, ◌<◌, Bool, true, false, cond, Option, Some, None, IsSome, List, [], ◌∷◌, ◌++◌, length, take}
+use Rattle.std.proofs.Common.{refl, sym, ap, ◌∙◌, subst, inl, inr, arith}
 use Rattle.std.specs.Prelude.{IfSome, slice_get, is_some, if◌then◌else◌}
 use Rattle.std.specs.Cmp.{IsEquivalence}
-use Rattle.std.specs.HashMap.{HashMap, Updates, IsUnique}
+use Rattle.std.specs.HashMap.{HashMap, Updates}
+use Rattle.std.proofs.lemmas.List.{length-append, take-append-le, take_all}
 use Rattle.std.proofs.lemmas.Option.{slice_get_cases}
-use Rattle.std.proofs.lemmas.Map.Entries.{lookup_from_place}
+use Rattle.indexmap.specs.IndexMap.{insert_entry}
+use Rattle.indexmap.proofs.CallerLemmas.{insert_entry-new}
 use Rattle.transposition.specs.Bounded.{found, PutsForOther}
 use Rattle.transposition.specs.Clock.{Drops}
-use Rattle.transposition.proofs.LookupLemmas.{found_alike}
+use Rattle.transposition.proofs.LookupLemmas.{found_alike, turned}
+
+module _ {K V : Type 0} (eq : K → K → Bool) (laws : IsEquivalence eq) where
+  some_either : (b : Bool) (value : V) (o : Option V) → IsSome o → IsSome (cond b (Some value) o)
+  some_either true value o h = refl
+  some_either false value o h = h
+
+  -- a key finds its entry among the first ones
+  found_first : (entries : List (K × V)) (first place : ℕ) (entry : K × V) → place < first → slice_get entries place ≡ Some entry
+      → IsSome (found eq (take first entries) entry.0)
+  found_first [] first place entry l e = cc
+  found_first (one ∷ entries) zero place entry l e = absurd (omega arith)
+  found_first (one ∷ entries) (suc first) zero entry l e =
+      let is : one ≡ entry = cc in
+      subst (λ b. IsSome (cond b (Some one.1) (found eq (take first entries) entry.0))) (sym (ap (λ (o : K × V). eq entry.0 o.0) is ∙ laws.refl entry.0)) refl
+  found_first (one ∷ entries) (suc first) (suc place) entry l e =
+      some_either (eq entry.0 one.0) one.1 (found eq (take first entries) entry.0) (found_first entries first place entry (omega arith) e)
 
 module _ {K V S : Type 0} (eq : K → K → Bool) (laws : IsEquivalence eq) where
   no_entry : (old : HashMap K V S) (place : ℕ) → place < length old.entries → None ≡ slice_get old.entries place → ⊥
@@ -22,42 +41,36 @@ module _ {K V S : Type 0} (eq : K → K → Bool) (laws : IsEquivalence eq) wher
   one_fewer old new place (Some entry) l e number = number
 
   -- the entry at a place is dropped
-  pub dropped_at : (old new : HashMap K V S) (place : ℕ) (taken : Option (K × V)) → IsUnique eq old → place < length old.entries → taken ≡ slice_get old.entries place
-      → IfSome taken (λ entry. Updates eq old new entry.0 None) → (dropped : K) × Drops eq old.entries new.entries dropped
-  dropped_at old new place None distinct l e updates = absurd (no_entry old place l e)
-  dropped_at old new place (Some entry) distinct l e updates = (
+  pub dropped_at : (old new : HashMap K V S) (first place : ℕ) (taken : Option (K × V)) → place < first → first < length old.entries → taken ≡ slice_get old.entries place
+      → IfSome taken (λ entry. Updates eq old new entry.0 None) → (dropped : K) × Drops eq first old.entries new.entries dropped
+  dropped_at old new first place None l m e updates = absurd (no_entry old place (omega arith) e)
+  dropped_at old new first place (Some entry) l m e updates = (
     entry.0,
-    record {
-      had = subst IsSome (sym (lookup_from_place laws old.entries place entry.0 entry.1 distinct (sym e))) refl;
-      values = updates.0;
-    },
+    record { had = found_first eq laws old.entries first place entry l (sym e); values = updates.0 },
   )
 
-module _ {K V : Type 0} (eq : K → K → Bool) (laws : IsEquivalence eq) (before between after : List (K × V)) (key : K) (value : V) (dropped : K) where
-  apart : (b : Bool) → eq key dropped ≡ b → found eq before key ≡ None → IsSome (found eq before dropped) → b ≡ false
-  apart true e none had = let same : found eq before dropped ≡ None = sym (found_alike eq laws key dropped before e) ∙ none in let no : false ≡ true = subst IsSome same had in cc
+module _ {K V S : Type 0} (eq : K → K → Bool) (laws : IsEquivalence eq) (before between after : HashMap K V S) (key : K) (value : V) (dropped : K) where
+  apart : (b : Bool) → eq key dropped ≡ b → found eq before.entries key ≡ None → IsSome (found eq before.entries dropped) → b ≡ false
+  apart true e none had =
+      let same : found eq before.entries dropped ≡ None = sym (found_alike eq laws key dropped before.entries e) ∙ none in
+      let no : false ≡ true = subst IsSome same had in cc
   apart false e none had = refl
 
-  none_either : (b : Bool) → (let o : Option V = None in cond b o o) ≡ None
-  none_either true = refl
-  none_either false = refl
-
-  still_none : found eq before key ≡ None → Drops eq before between dropped → found eq between key ≡ None
-  still_none none drops = drops.values key ∙ ap (λ o. cond (eq dropped key) None o) none ∙ none_either (eq dropped key)
-
-  -- there are as many entries as before
-  number_for_other : found eq before key ≡ None → Drops eq before between dropped → length between + 1 ≡ length before → (had : Option V) → had ≡ found eq between key
-      → length after ≡ length between + (if is_some had then 0 else 1) → length after ≡ length before
-  number_for_other none drops fewer None e number = omega (arith, fewer, number)
-  number_for_other none drops fewer (Some v) e number = let no = still_none none drops in cc
-
-  -- a new key takes the place of the one that was dropped
-  pub put_for_other : found eq before key ≡ None → Drops eq before between dropped → length between + 1 ≡ length before → (had : Option V) → had ≡ found eq between key
-      → length after ≡ length between + (if is_some had then 0 else 1) → ((one : K) → found eq after one ≡ cond (eq key one) (Some value) (found eq between one))
-      → PutsForOther eq before after key value dropped
-  put_for_other none drops fewer had was number puts = record {
-    other = apart (eq key dropped) refl none drops.had;
-    had = drops.had;
-    values = λ one. puts one ∙ ap (λ o. cond (eq key one) (Some value) o) (drops.values one);
-    number = number_for_other none drops fewer had was number;
-  }
+  -- a new key was put in, and one of those before it was dropped
+  pub put_for_other : found eq before.entries key ≡ None → between.entries ≡ insert_entry eq before.entries key value → Updates eq before between key (Some value)
+      → Drops eq (length before.entries) between.entries after.entries dropped → length after.entries + 1 ≡ length between.entries
+      → PutsForOther eq before.entries after.entries key value dropped
+  put_for_other none put updates drops fewer =
+      let e : between.entries ≡ before.entries ++ (key, value) ∷ [] = put ∙ insert_entry-new eq before key value none in
+      let front : take (length before.entries) between.entries ≡ before.entries = ap (take (length before.entries)) e
+      ∙ take-append-le (length before.entries) before.entries ((key, value) ∷ []) (omega arith) ∙ take_all (length before.entries) before.entries (omega arith) in
+      let had : IsSome (found eq before.entries dropped) = subst (λ es. IsSome (found eq es dropped)) front drops.had in
+      let other : eq key dropped ≡ false = apart (eq key dropped) refl none had in
+      record {
+        other = other;
+        had = had;
+        values = λ one. drops.values one ∙ ap (λ o. cond (eq dropped one) None o) (updates.0 one)
+            ∙ sym (turned eq laws (eq key one) (eq dropped one) value (found eq before.entries one)
+            (λ e. laws.symm key one ∙ sym (laws.congr dropped one key e) ∙ laws.symm dropped key ∙ other));
+        number = omega (arith, ap length e, length-append before.entries ((key, value) ∷ []));
+      }

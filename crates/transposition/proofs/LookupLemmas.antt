@@ -124,7 +124,7 @@ module _ {K V : Type 0} (eq : K → K → Bool) (laws : IsEquivalence eq) where
   same_twice false true value e = cc
   same_twice false false value e = refl
 
-  turned : (b c : Bool) (value : V) (o : Option V) → (c ≡ true → b ≡ false) → cond b (Some value) (cond c None o) ≡ cond c None (cond b (Some value) o)
+  pub turned : (b c : Bool) (value : V) (o : Option V) → (c ≡ true → b ≡ false) → cond b (Some value) (cond c None o) ≡ cond c None (cond b (Some value) o)
   turned true true value o apart = let no = apart refl in cc
   turned true false value o apart = refl
   turned false true value o apart = refl

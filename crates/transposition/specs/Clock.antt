@@ -1,15 +1,16 @@
 -- Serves private contracts: the marks of a table's entries, and the hand that goes round them.
-use Rattle.std.specs.Prelude.{◌≡◌, ◌==◌, ℕ, ◌+◌, ◌-◌, Bool, true, false, List, length, slice_index_or, slice_set}
+use Rattle.std.specs.Prelude.{◌≡◌, ◌==◌, ℕ, ◌+◌, Bool, true, false, List, length, slice_index_or, slice_set, take}
 use Rattle.std.specs.Prelude.{IsSome, None, if◌then◌else◌}
 use Rattle.transposition.specs.Bounded.{found}
 
--- which places have a mark, and the place at which the hand stands
+-- which places have a mark, the place at which the hand stands, and how many more places there is room for
 pub record Marks : Type 0 where
   pub marks : List Bool
   pub hand : ℕ
+  pub room : ℕ
 
-abbrev pub marks_at : List Bool → ℕ → Marks
-marks_at marks hand = record { marks = marks; hand = hand }
+abbrev pub marks_at : List Bool → ℕ → ℕ → Marks
+marks_at marks hand room = record { marks = marks; hand = hand; room = room }
 
 -- the place that follows on the way round
 abbrev pub next_place : ℕ → ℕ → ℕ
@@ -18,7 +19,7 @@ next_place number place = if place + 1 == number then 0 else place + 1
 -- the hand clears the mark at its place and goes on
 abbrev pub passed_on : Marks → Marks
 passed_on clock =
-    marks_at (slice_set clock.marks clock.hand false) (next_place (length clock.marks) clock.hand)
+    marks_at (slice_set clock.marks clock.hand false) (next_place (length clock.marks) clock.hand) clock.room
 
 -- the place at which the hand stands has a mark
 abbrev pub IsMarked : Marks → Type 0
@@ -35,14 +36,7 @@ pub record StopsAt (before clock : Marks) (place : ℕ) : Type 0 where
   pub unmarked : IsMarked clock → ⊥
   pub here : place ≡ clock.hand
 
--- the last place's mark comes to the hand's place, the last place has none, and the hand goes on
-abbrev pub replaced : Marks → Marks
-replaced clock =
-    let last = length clock.marks - 1 in
-    marks_at (slice_set (slice_set clock.marks clock.hand (slice_index_or clock.marks last false)) last false)
-    (next_place (length clock.marks) clock.hand)
-
--- one key lost its entry, and each other key has what it had
-pub record Drops {K V : Type 0} (eq : K → K → Bool) (old new : List (K × V)) (dropped : K) : Type 0 where
-  pub had : IsSome (found eq old dropped)
+-- one key of the first entries lost its entry, and each other key has what it had
+pub record Drops {K V : Type 0} (eq : K → K → Bool) (first : ℕ) (old new : List (K × V)) (dropped : K) : Type 0 where
+  pub had : IsSome (found eq (take first old) dropped)
   pub values : (other : K) → found eq new other ≡ (if eq dropped other then None else found eq old other)

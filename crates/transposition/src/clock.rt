@@ -1,7 +1,7 @@
 //! The marks of a table's entries, and the hand that goes round them.
 
-ghost use Rattle.std.specs.Prelude.{◌≡◌, ◌<◌, ◌+◌, ◌-◌, [], ◌∷◌, ◌++◌, true, false, length, slice_set, OnOk, OnErr};
-ghost use Rattle.transposition.specs.Clock.{marks_at, StopsAt, replaced, next_place};
+ghost use Rattle.std.specs.Prelude.{◌≡◌, ◌↔◌, ◌<◌, ◌≤◌, ◌++◌, ◌∷◌, [], true, false, length, slice_set, IsTrue, OnOk};
+ghost use Rattle.transposition.specs.Clock.{StopsAt, next_place};
 
 use std::alloc::{AllocError, Global};
 use std::marker::Model;
@@ -14,12 +14,12 @@ pub(crate) struct Clock {
 }
 
 impl Model for Clock {
-    ghost use Rattle.std.specs.Prelude.{◌≤◌, ◌-◌, length};
+    ghost use Rattle.std.specs.Prelude.{◌≤◌, ◌-◌, length, vec_capacity};
     ghost use Rattle.transposition.specs.Clock.{Marks, marks_at};
 
     ghost Value = { Marks };
 
-    ghost view = { λ a. marks_at a.marks.items a.hand };
+    ghost view = { λ a. marks_at a.marks.items a.hand (vec_capacity a.marks - length a.marks.items) };
 
     ghost invariant = { λ a. a.hand ≤ length a.marks.items - 1 };
 }
@@ -27,7 +27,8 @@ impl Model for Clock {
 impl Clock {
     /// No places. Takes no memory.
     pub(crate) fn new(alloc: Global) -> Clock
-        ensures none { result ≡ marks_at [] 0 }
+        ensures none { result.marks ≡ [] }
+        ensures start { result.hand ≡ 0 }
     {
         Clock {
             marks: Vec::new(alloc),
@@ -35,19 +36,36 @@ impl Clock {
         }
     }
 
-    /// One more place, without a mark. Where memory is refused, the places stay.
-    pub(crate) fn add(&mut self) -> Result<(), AllocError>
-        ensures ok { OnOk result (self.new ≡ marks_at (self.old.marks ++ false ∷ []) self.old.hand) }
-        ensures err { OnErr result (self.new ≡ self.old) }
+    /// Whether there is room for one more place.
+    pub(crate) fn has_room(&self) -> bool
+        ensures { IsTrue result ↔ (0 < self.now.room) }
     {
-        self.marks.push(false)?;
-        Ok(())
+        self.marks.len() < self.marks.capacity()
+    }
+
+    /// Makes room for so many more places. Where memory is refused, the places stay.
+    pub(crate) fn reserve(&mut self, more: usize) -> Result<(), AllocError>
+        ensures ok { OnOk result (more ≤ self.new.room) }
+        ensures marks { self.new.marks ≡ self.old.marks }
+        ensures hand { self.new.hand ≡ self.old.hand }
+    {
+        self.marks.reserve_exact(more)
+    }
+
+    /// One more place, without a mark.
+    pub(crate) fn add(&mut self)
+        requires { 0 < self.old.room }
+        ensures marks { self.new.marks ≡ self.old.marks ++ false ∷ [] }
+        ensures hand { self.new.hand ≡ self.old.hand }
+    {
+        self.marks.push_reserved(false);
     }
 
     /// Marks a place.
     pub(crate) fn mark(&mut self, place: usize)
         requires { place < length self.old.marks }
-        ensures marked { self.new ≡ marks_at (slice_set self.old.marks place true) self.old.hand }
+        ensures marks { self.new.marks ≡ slice_set self.old.marks place true }
+        ensures hand { self.new.hand ≡ self.old.hand }
     {
         self.marks[place] = true;
     }
@@ -67,15 +85,12 @@ impl Clock {
         self.hand
     }
 
-    /// The place at which the hand stands goes to the last place's entry, and the last place to a new one, without a
-    /// mark; the hand goes on.
-    pub(crate) fn replace(&mut self)
+    /// The hand goes on to the next place.
+    pub(crate) fn pass(&mut self)
         requires { 0 < length self.old.marks }
-        ensures replaced { self.new ≡ replaced self.old }
+        ensures marks { self.new.marks ≡ self.old.marks }
+        ensures hand { self.new.hand ≡ next_place (length self.old.marks) self.old.hand }
     {
-        let last = self.marks.len() - 1;
-        self.marks[self.hand] = self.marks[last];
-        self.marks[last] = false;
         self.hand = following(self.marks.len(), self.hand);
     }
 }

@@ -1,6 +1,7 @@
 //! A table of bounded size in which a hand goes round and drops an entry that was not used of late.
 
-ghost use Rattle.std.specs.Prelude.{◌≡◌, ◌<◌, ◌≤◌, ◌+◌, [], IsSome, IsOk, IfOk, OnOk, OnErr, None, length};
+ghost use Rattle.std.specs.Prelude.{◌≡◌, ◌<◌, ◌≤◌, ◌+◌, ◌-◌, ◌*◌, ◌^◌, [], IsSome, IsOk, IfOk, IsTrue, OnOk, OnErr};
+ghost use Rattle.std.specs.Prelude.{None, length};
 ghost use Rattle.transposition.specs.Clock.{Drops};
 ghost use Rattle.indexmap.specs.IndexMap.{spare};
 ghost use Rattle.transposition.specs.Bounded.{bounded, found, IsBoundedMap, SameEntries, Puts, PutsForOther};
@@ -90,33 +91,72 @@ impl<K: Eq + Hash + Drop, V: Copy + Drop> ClockTable<K, V> {
         ensures err { OnErr result (SameEntries K.eq self.old.entries self.new.entries) }
         ensures capacity { self.new.capacity ≡ self.old.capacity }
     {
-        if self.map.contains_key(&key) {
-            self.map.insert(key, value).unwrap();
+        if !has_room(&self.map, &self.clock) {
+            if self.map.contains_key(&key) {
+                self.map.insert(key, value).unwrap();
+                return Ok(());
+            }
+            make_room(&mut self.map, &mut self.clock, self.capacity)?;
+        }
+        if self.map.insert(key, value).unwrap().is_some() {
             return Ok(());
         }
-        self.map.reserve(1)?;
-        if self.map.len() < self.capacity {
-            self.clock.add()?;
-            self.map.insert(key, value).unwrap();
-            return Ok(());
+        if self.map.len() <= self.capacity {
+            self.clock.add();
+        } else {
+            drop_one(&mut self.map, &mut self.clock);
         }
-        drop_one(&mut self.map, &mut self.clock);
-        self.map.insert(key, value).unwrap();
         Ok(())
     }
 }
 
-// Drops the entry at which the hand stops. The last entry takes its place, and the last mark is that of a new entry.
+// Whether there is room for one more entry and its mark.
+fn has_room<K: Eq + Hash, V>(map: &IndexMap<K, V>, clock: &Clock) -> bool
+    ensures entry { IsTrue result → 0 < spare map.now }
+    ensures mark { IsTrue result → 0 < clock.now.room }
+{
+    map.len() < map.capacity() && clock.has_room()
+}
+
+// Makes room for about three times as many entries, but for no more than one beyond the capacity.
+fn make_room<K: Eq + Hash, V>(
+    map: &mut IndexMap<K, V>,
+    clock: &mut Clock,
+    capacity: usize,
+) -> Result<(), AllocError>
+    requires { length map.old.entries ≤ capacity }
+    ensures entry { OnOk result (0 < spare map.new) }
+    ensures mark { OnOk result (0 < clock.new.room) }
+    ensures entries { map.new.entries ≡ map.old.entries }
+    ensures marks { clock.new.marks ≡ clock.old.marks }
+{
+    let more = more_room(map.len(), capacity);
+    map.reserve(more)?;
+    clock.reserve(more)
+}
+
+// How many entries to make room for, where there are so many.
+fn more_room(number: usize, capacity: usize) -> usize
+    requires within { number ≤ capacity }
+    requires low { number < 2 ^ 63 }
+    ensures some { 0 < result }
+    ensures within { result ≤ capacity - number + 1 }
+{
+    (2 * number)
+        .max(FIRST_ROOM)
+        .min((capacity - number).saturating_add(1))
+}
+
+// Drops the entry of one of the first places, at which the hand stops, and the last entry takes its place.
 fn drop_one<K: Eq + Hash + Drop, V: Drop>(map: &mut IndexMap<K, V>, clock: &mut Clock)
-    requires some { 0 < length map.old.entries }
-    requires marks { length clock.old.marks ≡ length map.old.entries }
-    ensures dropped { (dropped : K) × Drops K.eq map.old.entries map.new.entries dropped }
+    requires some { 0 < length clock.old.marks }
+    requires one_more { length map.old.entries ≡ length clock.old.marks + 1 }
+    ensures dropped { (dropped : K) × Drops K.eq (length clock.old.marks) map.old.entries map.new.entries dropped }
     ensures number { length map.new.entries + 1 ≡ length map.old.entries }
     ensures marks { length clock.new.marks ≡ length clock.old.marks }
-    ensures room { spare map.old ≤ spare map.new }
 {
     prove!(map.len() > 0);
     let place = clock.stop();
     map.swap_remove_index(place);
-    clock.replace();
+    clock.pass();
 }

@@ -8,13 +8,10 @@ ghost use Rattle.transposition.specs.Memo.{verdict_of};
 ghost use Rattle.transposition.specs.declared.verdict.Verdict.{Verdict};
 
 use crate::clock_table::ClockTable;
+use crate::key::Key;
 use crate::lru_table::LruTable;
 use crate::verdict::Verdict;
-use loads::PackedPosition;
 use std::alloc::AllocError;
-
-/// A position as a key: keys are equal exactly where the positions are.
-pub type Key = PackedPosition;
 
 /// A table of the verdicts of positions: a map of at most so many entries.
 pub trait Memo {
