@@ -5,3 +5,4 @@ pub mod PackLemmas
 pub mod PlacingLemmas
 pub mod RoomLemmas
 pub mod ContentsLemmas
+pub mod BestFitLemmas

@@ -5,15 +5,14 @@ ghost use Rattle.std.specs.Bool.{OnTrue};
 ghost use Rattle.items.specs.Multiset.{IsSize};
 ghost use Rattle.items.specs.Packable.{IsRoom, Packable};
 
-use crate::best_fit::{best_fit, descending, leaves};
+use crate::best_fit::{descending, fits_by_best_fit, room_by_best_fit};
 use crate::placing::place_all;
-use crate::reach::Reach;
 use items::{Game, Items};
 use std::alloc::{AllocError, Global};
 
 /// The greatest size of an item that may come next, so that the items still fit; 0 where none may, and
-/// where the items do not fit. Mostly best fit shows it at once; else the loads that the items reach do,
-/// or in games of five bins and more the placing of the items with one more. Fails only where memory runs out.
+/// where the items do not fit. Mostly best fit shows it at once, and takes no memory; else the items are placed
+/// exactly with one more, of each size from that on which best fit leaves. Fails only where memory runs out.
 pub fn room_of(alloc: Global, game: &Game, items: &Items) -> Result<u16, AllocError>
     ensures exact { IfOk result (IsRoom game.now items.now) }
 {
@@ -29,15 +28,11 @@ pub fn room_up_to(alloc: Global, game: &Game, items: &Items, most: u16) -> Resul
     if most == 0 {
         return Ok(0);
     }
-    let list = descending(alloc, items)?;
-    if leaves(alloc, game, list.as_slice(), most)? {
-        return Ok(most);
-    }
-    if game.m() < 5 {
-        let room = room_by_loads(alloc, game, list.as_slice())?;
+    let room = room_by_best_fit(game, items);
+    if room >= most {
         return Ok(room);
     }
-    room_by_placing(alloc, game, items, most)
+    room_by_placing(alloc, game, items, room, most)
 }
 
 /// Whether the items fit: whether they have an assignment. Fails only where memory runs out.
@@ -47,10 +42,10 @@ pub fn packable(alloc: Global, game: &Game, items: &Items) -> Result<bool, Alloc
     if items.largest() > game.g() {
         return Ok(false);
     }
-    let list = descending(alloc, items)?;
-    if fits_by_best_fit(alloc, game, list.as_slice())? {
+    if fits_by_best_fit(game, items) {
         return Ok(true);
     }
+    let list = descending(alloc, items)?;
     let fits = fits_by_placing(alloc, game, list.as_slice())?;
     Ok(fits)
 }
@@ -73,17 +68,6 @@ fn room_by_volume(game: &Game, items: &Items) -> u16
         .min(capacity)
 }
 
-// Whether best fit places the items; false says nothing of whether they fit.
-fn fits_by_best_fit(alloc: Global, game: &Game, list: &[u16]) -> Result<bool, AllocError>
-    requires { All (IsSize game.now.capacity) list.now }
-    ensures { IfOk result (λ fits. OnTrue fits (Packable game.now list.now)) }
-{
-    match best_fit(alloc, game, list)? {
-        Some(_bins) => Ok(true),
-        None => Ok(false),
-    }
-}
-
 // Whether a list of items fits.
 fn fits_by_placing(alloc: Global, game: &Game, list: &[u16]) -> Result<bool, AllocError>
     requires { All (IsSize game.now.capacity) list.now }
@@ -95,34 +79,29 @@ fn fits_by_placing(alloc: Global, game: &Game, list: &[u16]) -> Result<bool, All
     }
 }
 
-// The room, from the loads that are reached.
-fn room_by_loads(alloc: Global, game: &Game, list: &[u16]) -> Result<u16, AllocError>
-    requires { All (IsSize game.now.capacity) list.now }
-    ensures { IfOk result (IsRoom game.now list.now) }
-{
-    let mut reach = Reach::start(alloc, game)?;
-    for size in list {
-        let more = reach.add(*size)?;
-        reach = more;
-    }
-    Ok(reach.room())
-}
-
-// The room, from the greatest size on that the bound leaves, by placing the items with one more.
-fn room_by_placing(alloc: Global, game: &Game, items: &Items, most: u16) -> Result<u16, AllocError>
+// The room, from a size on that may come, or from 0, by placing the items with one more of each larger size.
+fn room_by_placing(
+    alloc: Global,
+    game: &Game,
+    items: &Items,
+    least: u16,
+    most: u16,
+) -> Result<u16, AllocError>
     requires sizes { All (IsSize game.now.capacity) items.now }
+    requires order { least ≤ most }
     requires within { most ≤ game.now.capacity }
     requires small { most ≤ 120 }
     requires total { sum items.now + most ≤ 1912 }
+    requires may_come { 1 ≤ least → Packable game.now (items.now ++ least ∷ []) }
     requires bound { (size : ℕ) → Packable game.now (items.now ++ size ∷ []) → size ≤ most }
     ensures { IfOk result (IsRoom game.now items.now) }
 {
-    for size in (1..=most).rev() {
-        if fits_with(alloc, game, items, size)? {
+    for size in least..most {
+        if !fits_with(alloc, game, items, size + 1)? {
             return Ok(size);
         }
     }
-    Ok(0)
+    Ok(most)
 }
 
 // Whether the items fit with one more.

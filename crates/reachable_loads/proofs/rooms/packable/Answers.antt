@@ -1,7 +1,5 @@
-use Rattle.std.proofs.Common.{refl, sym, subst, arith}
+use Rattle.std.proofs.Common.{sym, subst, arith}
 use Rattle.std.proofs.lemmas.Bool.{false≢true}
-use Rattle.std.specs.Bool.{OnTrue}
-use Rattle.items.specs.Packable.{Packable}
 use Rattle.items.specs.Multiset.{IsSize, Same}
 use Rattle.items.proofs.SameLemmas.{All-Same, Same-sym}
 use Rattle.packing_witness.proofs.PackableLemmas.{Packable-Same}
@@ -18,34 +16,26 @@ returns-then-largest-g c = record {
   );
 }
 
+pub fits_by_best_fit-requires : goal.fits_by_best_fit-requires
+fits_by_best_fit-requires c =
+    sizes_from_largest c.args.game.now c.args.items.now c.largest.ensures.multiset (omega (arith, c.if-largest-g.false, c.largest.ensures.value, c.g.ensures.value))
+
 -- the list has the items
 same : (c : After-as_slice) → Same c.as_slice.result.now c.args.items.now
 same c = subst (λ xs. Same xs c.args.items.now) (sym c.as_slice.ensures.value) c.in_ok-list.ensures
 
-pub fits_by_best_fit-requires : goal.fits_by_best_fit-requires
-fits_by_best_fit-requires c =
-    let b = goal.at.fits_by_best_fit-requires c in
-    let sizes = sizes_from_largest c.args.game.now c.args.items.now c.largest.ensures.multiset (omega (arith, c.if-largest-g.false, c.largest.ensures.value, c.g.ensures.value)) in
-    All-Same (IsSize c.args.game.now.capacity) c.args.items.now c.as_slice.result.now (Same-sym c.as_slice.result.now c.args.items.now (same b.After-as_slice)) sizes
-
-pub returns-then-branch : goal.returns-then-branch
-returns-then-branch c =
-    let b = goal.at.returns-then-branch c in
-    let p = subst (λ x. OnTrue x (Packable c.args.game.now c.as_slice.result.now)) c.if-branch.true c.in_ok-fits_by_best_fit.ensures in
-    record { exact = (λ t. Packable-Same c.args.game.now c.as_slice.result.now c.args.items.now (same b.After-as_slice) p, λ q. refl) }
-
 pub fits_by_placing-requires : goal.fits_by_placing-requires
 fits_by_placing-requires c =
-    let s : Same c.as_slice-2.result.now c.args.items.now = subst (λ xs. Same xs c.args.items.now) (sym c.as_slice-2.ensures.value) c.in_ok-list.ensures in
+    let s = same (goal.at.fits_by_placing-requires c).After-as_slice in
     let sizes = sizes_from_largest c.args.game.now c.args.items.now c.largest.ensures.multiset (omega (arith, c.if-largest-g.false, c.largest.ensures.value, c.g.ensures.value)) in
-    All-Same (IsSize c.args.game.now.capacity) c.args.items.now c.as_slice-2.result.now (Same-sym c.as_slice-2.result.now c.args.items.now s) sizes
+    All-Same (IsSize c.args.game.now.capacity) c.args.items.now c.as_slice.result.now (Same-sym c.as_slice.result.now c.args.items.now s) sizes
 
 pub returns : goal.returns
 returns c =
-    let s : Same c.as_slice-2.result.now c.args.items.now = subst (λ xs. Same xs c.args.items.now) (sym c.as_slice-2.ensures.value) c.in_ok-list.ensures in
+    let s = same (goal.at.returns c).After-as_slice in
     record {
       exact = (
-        λ t. Packable-Same c.args.game.now c.as_slice-2.result.now c.args.items.now s (c.in_ok-fits.ensures.0 t),
-        λ p. c.in_ok-fits.ensures.1 (Packable-Same c.args.game.now c.args.items.now c.as_slice-2.result.now (Same-sym c.as_slice-2.result.now c.args.items.now s) p),
+        λ t. Packable-Same c.args.game.now c.as_slice.result.now c.args.items.now s (c.in_ok-fits.ensures.0 t),
+        λ p. c.in_ok-fits.ensures.1 (Packable-Same c.args.game.now c.args.items.now c.as_slice.result.now (Same-sym c.as_slice.result.now c.args.items.now s) p),
       );
     }
