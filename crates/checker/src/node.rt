@@ -1,11 +1,11 @@
 //! Reading and judging a node of either side.
 
 ghost use Rattle.std.specs.Prelude.{◌≡◌, ◌==◌, ◌<◌, ◌≤◌, ◌+◌, None, Err, IfOk, IfErr};
-ghost use Rattle.std.specs.Prelude.{IfSome, IfNone, MatchResult, length, map};
+ghost use Rattle.std.specs.Prelude.{IfSome, IfNone, MatchOption, OnOk, length, map};
 ghost use Rattle.port_io.specs.Faults.{Rose};
 ghost use Rattle.items.specs.Multiset.{sizes_of};
 ghost use Rattle.strategy_text.specs.Spelling.{IsSpellableNode, most_nodes};
-ghost use Rattle.strategy_text.specs.Text.{AnyNode, end_line};
+ghost use Rattle.strategy_text.specs.Text.{AnyNode, end_line, items_of, loads_of};
 ghost use Rattle.checker.specs.Head.{SpellsUnder, MeetsRules, Breaks, position_of, IsNodeLine, IsBrokenNodeLine};
 ghost use Rattle.checker.specs.Progress.{ReadsNode, TakesNode, IsRefusedLine, IsBrokenBy};
 ghost use Rattle.checker.specs.Progress.{RefusesNext, NoRule, told_by, any_node};
@@ -15,8 +15,8 @@ use crate::fault::CheckFault;
 use crate::head::{Head, broken, next_text, syntax};
 use adversary_graph as adversary;
 use algorithm_graph as algorithm;
-use items::Sizes;
-use loads::{PackedPositions, Position};
+use items::laws::game_is_legal;
+use loads::PackedPositions;
 use port_io::{LineReader, Source};
 use std::alloc::{AllocError, Global};
 use strategy_text::{AdvNode, AlgNode, Rule, Side, parse_adversary, parse_algorithm};
@@ -56,28 +56,37 @@ fn parse_node(
     }
 }
 
-// Judges a node as the one that follows the earlier ones.
+// The loads and the items of a node.
+fn lists_of(node: &Node) -> (&[u16], &[u16])
+    ensures loads { result.0.now ≡ loads_of (any_node node.now) }
+    ensures items { result.1.now ≡ items_of (any_node node.now) }
+{
+    match node {
+        Node::Adversary(node) => (node.loads.as_slice(), node.items.as_slice()),
+        Node::Algorithm(node) => (node.loads.as_slice(), node.items.as_slice()),
+    }
+}
+
+// The first rule that a node breaks as the one that follows the earlier ones.
 fn judge_node(
     alloc: Global,
     head: &Head,
     earlier: &PackedPositions,
     last: bool,
     node: &Node,
-) -> Result<Result<Position, Rule>, AllocError>
+) -> Result<Option<Rule>, AllocError>
     requires spellable { IsSpellableNode head.now.format (any_node node.now) }
-    ensures exact { IfOk result (λ judged. MatchResult judged
-        (λ position. (position ≡ position_of (any_node node.now))
-        × MeetsRules (told_by head.now) earlier.now last (any_node node.now))
+    ensures exact { IfOk result (λ judged. MatchOption judged
+        (MeetsRules (told_by head.now) earlier.now last (any_node node.now))
         (Breaks (told_by head.now) earlier.now last (any_node node.now))) }
 {
     let game = head.game;
-    let sizes = Sizes::of_game(&game);
     match node {
         Node::Adversary(node) => {
-            let judged = adversary::judge(head.format, &game, &sizes, earlier, last, node);
+            let judged = adversary::node_fault(&game, head.format, earlier, last, node);
             Ok(judged)
         }
-        Node::Algorithm(node) => algorithm::judge(alloc, &game, &sizes, earlier, last, node),
+        Node::Algorithm(node) => algorithm::node_fault(alloc, &game, earlier, last, node),
     }
 }
 
@@ -93,24 +102,24 @@ fn next_node(alloc: Global, head: &Head, text: &[u8], number: u32) -> Result<Nod
     }
 }
 
-// The position of a node that follows the earlier ones; a node that breaks a rule is refused.
-fn next_position(
+// Sees that a node follows the earlier ones; one that breaks a rule is refused.
+fn see_follows(
     alloc: Global,
     head: &Head,
     earlier: &PackedPositions,
     number: u32,
     node: &Node,
-) -> Result<Position, CheckFault>
+) -> Result<(), CheckFault>
     requires number { number ≡ length earlier.now }
     requires most { number < most_nodes }
     requires spellable { IsSpellableNode head.now.format (any_node node.now) }
-    ensures ok { IfOk result (λ position. (position ≡ position_of (any_node node.now)) × MeetsRules
-        (told_by head.now) earlier.now (length earlier.now + 1 == head.now.count) (any_node node.now)) }
+    ensures ok { OnOk result (MeetsRules (told_by head.now) earlier.now (length earlier.now + 1 == head.now.count)
+        (any_node node.now)) }
     ensures err { IfErr result (IsBrokenBy (told_by head.now) earlier.now (5 + number) (any_node node.now)) }
 {
     match judge_node(alloc, head, earlier, number + 1 == head.count, node)? {
-        Ok(position) => Ok(position),
-        Err(rule) => Err(broken(5 + u64::from(number), rule)),
+        Some(rule) => Err(broken(5 + u64::from(number), rule)),
+        None => Ok(()),
     }
 }
 
@@ -129,8 +138,10 @@ fn take_node(
 {
     let number = earlier.len() as u32;
     let node = next_node(alloc, head, text, number)?;
-    let position = next_position(alloc, head, earlier, number, &node)?;
-    earlier.push(&position.loads, &position.items)?;
+    see_follows(alloc, head, earlier, number, &node)?;
+    game_is_legal(&head.game);
+    let (loads, items) = lists_of(&node);
+    earlier.push_lists(loads, items)?;
     Ok(node)
 }
 

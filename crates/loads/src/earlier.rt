@@ -1,12 +1,14 @@
 //! Lists that say which position an earlier node has.
 
-ghost use Rattle.std.specs.Prelude.{◌≡◌, ◌↔◌, List, IsTrue, length};
+ghost use Rattle.std.specs.Prelude.{◌≡◌, ◌↔◌, ◌+◌, ◌≤◌, List, IsTrue, length, sum};
+ghost use Rattle.items.specs.Multiset.{IsMultiset, IsSize, put_ascending};
 ghost use Rattle.loads.specs.declared.position.Position.{Position};
 ghost use Rattle.loads.specs.Position.{position, StandsAt};
 
+use crate::item_list::items_with;
 use crate::position::Positions;
 use crate::sorted_loads::Loads;
-use items::Items;
+use items::{Items, MOST_SIZE, MOST_VOLUME};
 
 /// The positions of the earlier nodes of a strategy, by the nodes' numbers, counted from 0.
 pub trait EarlierPositions {
@@ -21,6 +23,14 @@ pub trait EarlierPositions {
     /// linear in the position.
     fn is_at(&self, i: usize, loads: &Loads, items: &Items) -> bool
         ensures { IsTrue result ↔ StandsAt (positions self.now) i (position loads.now items.now) };
+
+    /// Whether there is a position of this number and it has these loads, and these items with one more of size `s`.
+    /// Takes no memory; the cost is linear in the position.
+    fn is_put_at(&self, i: usize, loads: &Loads, items: &[u16], s: u16) -> bool
+        requires items { IsMultiset MOST_SIZE items.now }
+        requires size { IsSize MOST_SIZE s }
+        requires fits { sum items.now + s ≤ MOST_VOLUME }
+        ensures { IsTrue result ↔ StandsAt (positions self.now) i (position loads.now (put_ascending s items.now)) };
 }
 
 impl EarlierPositions for Positions {
@@ -35,5 +45,9 @@ impl EarlierPositions for Positions {
             Some(position) => position.loads.same(loads) && position.items.same(items),
             None => false,
         }
+    }
+
+    fn is_put_at(&self, i: usize, loads: &Loads, items: &[u16], s: u16) -> bool {
+        self.is_at(i, loads, &items_with(items, s))
     }
 }

@@ -4,6 +4,7 @@
 mod bins;
 mod bytes;
 mod earlier;
+mod item_list;
 pub mod laws;
 mod packed;
 mod packed_list;
@@ -12,6 +13,7 @@ mod sorted_loads;
 
 pub use bins::{bin_with, same_up_to_renaming};
 pub use earlier::EarlierPositions;
+pub use item_list::are_items_of;
 pub use packed::PackedPosition;
 pub use packed_list::PackedPositions;
 pub use position::{Position, Positions};
