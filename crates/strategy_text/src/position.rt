@@ -1,6 +1,7 @@
 //! The parts that the lines of both sides begin with: the node's number, its loads and its items.
 
-ghost use Rattle.std.specs.Prelude.{◌≡◌, IfOk, MatchBool, Some, None, codes};
+ghost use Rattle.std.specs.Prelude.{◌≡◌, IfOk, false, MatchBool, Some, None, codes};
+ghost use Rattle.strategy_text.specs.Words.{has_space};
 ghost use Rattle.strategy_text.specs.Reading.{Reads, numbers_at, list_at, numbered_at, labelled_at, position_at};
 
 use crate::stop::Stop;
@@ -13,9 +14,11 @@ fn numbers(alloc: Global, words: &mut Words) -> Result<Nums, AllocError>
     ensures { IfOk result (λ list. numbers_at words.old ≡ (list, words.new)) }
 {
     let mut list = Sequence::new(alloc);
-    while let Some(number) = words.size() {
+    let mut left = words.copy();
+    while let Some(number) = left.size() {
         list.push(number)?;
     }
+    *words = left;
     Ok(list)
 }
 
@@ -47,6 +50,7 @@ fn is_numbered(words: &mut Words, number: u32) -> bool
 /// A list after a word.
 #[tactic(auto, unfolding(crate::specs::Reading::labelled_at))]
 fn labelled(alloc: Global, words: &mut Words, label: &[u8]) -> Result<Nums, Stop>
+    requires { has_space label.now ≡ false }
     ensures { Reads result words.new (labelled_at label.now words.old) }
 {
     if !words.accept(label) {
