@@ -348,10 +348,7 @@ fn leads_to_child<E: EarlierPositions>(
         return true;
     };
     game_is_legal(game);
-    let Some(after) = loads.place(game, placement.load, size) else {
-        return false;
-    };
-    earlier.is_put_at(child as usize, &after, items, size)
+    earlier.is_after(child as usize, loads, items, placement.load, size)
 }
 
 // Whether all bins are empty and there are no items.

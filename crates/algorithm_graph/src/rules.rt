@@ -296,8 +296,7 @@ fn leads_to_child<E: EarlierPositions>(
         ↔ LeadsOn (E.positions earlier.now) (position loads.now items.now) entry.now }
 {
     game_is_legal(game);
-    let after = loads.place(game, entry.load, entry.size).unwrap();
-    earlier.is_put_at(entry.to as usize, &after, items, entry.size)
+    earlier.is_after(entry.to as usize, loads, items, entry.load, entry.size)
 }
 
 // Whether all bins are empty and there are no items.

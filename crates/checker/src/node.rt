@@ -19,7 +19,7 @@ use items::laws::game_is_legal;
 use loads::PackedPositions;
 use port_io::{LineReader, Source};
 use std::alloc::{AllocError, Global};
-use strategy_text::{AdvNode, AlgNode, Rule, Side, parse_adversary, parse_algorithm};
+use strategy_text::{AdvNode, AlgNode, Rule, Side, Spare, parse_adversary_in, parse_algorithm_in};
 
 // A node of either side.
 #[derive(Drop)]
@@ -28,12 +28,21 @@ pub(crate) enum Node {
     Algorithm(AlgNode),
 }
 
+// Keeps the lists of a node that is no longer needed.
+pub(crate) fn set_aside(spare: &mut Spare, node: Node) {
+    match node {
+        Node::Adversary(node) => spare.keep_adversary(node),
+        Node::Algorithm(node) => spare.keep_algorithm(node),
+    }
+}
+
 // The node of the head's format and side that a line spells.
 fn parse_node(
     alloc: Global,
     head: &Head,
     line: &[u8],
     number: u32,
+    spare: &mut Spare,
 ) -> Result<Option<Node>, AllocError>
     ensures spelled { IfOk result (λ read. IfSome read (λ node. SpellsUnder (told_by head.now) number line.now
         (any_node node))) }
@@ -42,13 +51,13 @@ fn parse_node(
 {
     match head.side {
         Side::Adversary => {
-            let Some(node) = parse_adversary(alloc, head.format, line, number)? else {
+            let Some(node) = parse_adversary_in(alloc, head.format, line, number, spare)? else {
                 return Ok(None);
             };
             Ok(Some(Node::Adversary(node)))
         }
         Side::Algorithm => {
-            let Some(node) = parse_algorithm(alloc, head.format, line, number)? else {
+            let Some(node) = parse_algorithm_in(alloc, head.format, line, number, spare)? else {
                 return Ok(None);
             };
             Ok(Some(Node::Algorithm(node)))
@@ -91,12 +100,18 @@ fn judge_node(
 }
 
 // The node of this number that a line spells; a line that spells none is refused.
-fn next_node(alloc: Global, head: &Head, text: &[u8], number: u32) -> Result<Node, CheckFault>
+fn next_node(
+    alloc: Global,
+    head: &Head,
+    text: &[u8],
+    number: u32,
+    spare: &mut Spare,
+) -> Result<Node, CheckFault>
     ensures ok { IfOk result (λ node. SpellsUnder (told_by head.now) number text.now (any_node node)) }
     ensures err { IfErr result (λ fault. IsRefusedLine (5 + number) (IsNodeLine
         (told_by head.now) number) NoRule fault text.now) }
 {
-    match parse_node(alloc, head, text, number)? {
+    match parse_node(alloc, head, text, number, spare)? {
         Some(node) => Ok(node),
         None => Err(syntax(5 + u64::from(number))),
     }
@@ -129,6 +144,7 @@ fn take_node(
     head: &Head,
     earlier: &mut PackedPositions,
     text: &[u8],
+    spare: &mut Spare,
 ) -> Result<Node, CheckFault>
     requires few { length earlier.old < head.now.count }
     requires most { head.now.count ≤ most_nodes }
@@ -137,7 +153,7 @@ fn take_node(
         (length earlier.old)) (IsBrokenNodeLine (told_by head.now) earlier.old) fault text.now) }
 {
     let number = earlier.len() as u32;
-    let node = next_node(alloc, head, text, number)?;
+    let node = next_node(alloc, head, text, number, spare)?;
     see_follows(alloc, head, earlier, number, &node)?;
     game_is_legal(&head.game);
     let (loads, items) = lists_of(&node);
@@ -152,6 +168,7 @@ pub(crate) fn read_node<S: Source>(
     source: &mut S,
     head: &Head,
     earlier: &mut PackedPositions,
+    spare: &mut Spare,
 ) -> Result<Node, CheckFault>
     requires open_still { lines.old.ending ≡ None }
     requires few { length earlier.old < head.now.count }
@@ -165,5 +182,5 @@ pub(crate) fn read_node<S: Source>(
         (S.left source.new)) }
 {
     next_text(lines, source, 5 + earlier.len() as u64)?;
-    take_node(alloc, head, earlier, lines.text())
+    take_node(alloc, head, earlier, lines.text(), spare)
 }

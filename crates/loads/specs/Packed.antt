@@ -51,3 +51,9 @@ pub record IsPlaceOf (x : ℕ) (xs : List ℕ) (place : ℕ) : Type 0 where
   pub within : place ≤ length xs
   pub below : (k : ℕ) → k < place → slice_index xs k < x
   pub from : place < length xs → x ≤ slice_index xs place
+
+-- the place at which a load that grew is put into descending loads
+pub record IsPlaceOfGrown (grown : ℕ) (loads : List ℕ) (place : ℕ) : Type 0 where
+  pub within : place < length loads
+  pub above : (k : ℕ) → k < place → grown < slice_index loads k
+  pub from : slice_index loads place ≤ grown

@@ -1,7 +1,8 @@
 //! Lists that say which position an earlier node has.
 
-ghost use Rattle.std.specs.Prelude.{◌≡◌, ◌↔◌, ◌+◌, ◌≤◌, List, IsTrue, length, sum};
-ghost use Rattle.items.specs.Multiset.{IsMultiset, IsSize, put_ascending};
+ghost use Rattle.std.specs.Prelude.{◌≡◌, ◌↔◌, ◌+◌, ◌*◌, ◌<◌, ◌≤◌, List, Contains, IsTrue, length, sum};
+ghost use Rattle.items.specs.Multiset.{IsMultiset, IsSize};
+ghost use Rattle.loads.specs.After.{after};
 ghost use Rattle.loads.specs.declared.position.Position.{Position};
 ghost use Rattle.loads.specs.Position.{position, StandsAt};
 
@@ -24,13 +25,15 @@ pub trait EarlierPositions {
     fn is_at(&self, i: usize, loads: &Loads, items: &Items) -> bool
         ensures { IsTrue result ↔ StandsAt (positions self.now) i (position loads.now items.now) };
 
-    /// Whether there is a position of this number and it has these loads, and these items with one more of size `s`.
-    /// Takes no memory; the cost is linear in the position.
-    fn is_put_at(&self, i: usize, loads: &Loads, items: &[u16], s: u16) -> bool
+    /// Whether there is a position of this number, and it is the one after an item of size `s` went to a bin of this
+    /// load. Takes no memory; the cost is linear in the position.
+    fn is_after(&self, i: usize, loads: &Loads, items: &[u16], load: u16, s: u16) -> bool
         requires items { IsMultiset MOST_SIZE items.now }
         requires size { IsSize MOST_SIZE s }
         requires fits { sum items.now + s ≤ MOST_VOLUME }
-        ensures { IsTrue result ↔ StandsAt (positions self.now) i (position loads.now (put_ascending s items.now)) };
+        requires member { Contains loads.now load }
+        requires below { load + s < 2 * MOST_SIZE }
+        ensures { IsTrue result ↔ StandsAt (positions self.now) i (after (position loads.now items.now) load s) };
 }
 
 impl EarlierPositions for Positions {
@@ -47,7 +50,10 @@ impl EarlierPositions for Positions {
         }
     }
 
-    fn is_put_at(&self, i: usize, loads: &Loads, items: &[u16], s: u16) -> bool {
-        self.is_at(i, loads, &items_with(items, s))
+    fn is_after(&self, i: usize, loads: &Loads, items: &[u16], load: u16, s: u16) -> bool {
+        match loads.after(load, s) {
+            Some(loads) => self.is_at(i, &loads, &items_with(items, s)),
+            None => false,
+        }
     }
 }

@@ -6,7 +6,7 @@ ghost use Rattle.loads.specs.Loads.{AreLoads};
 ghost use Rattle.loads.specs.Position.{position};
 ghost use Rattle.loads.specs.Packed.{ArePositionBytes, AreCut, LeadTo, position_in, positions_in};
 
-use crate::bytes::{pack, position_of, put_position, stand_for, stand_for_put};
+use crate::bytes::{pack, position_of, put_position, stand_for, stand_for_after};
 use crate::earlier::EarlierPositions;
 use crate::position::Position;
 use crate::sorted_loads::Loads;
@@ -106,12 +106,12 @@ impl EarlierPositions for PackedPositions {
         i < ends.len() && stand_for(piece(self.bytes.as_slice(), ends, i), loads, items)
     }
 
-    fn is_put_at(&self, i: usize, loads: &Loads, items: &[u16], s: u16) -> bool {
+    fn is_after(&self, i: usize, loads: &Loads, items: &[u16], load: u16, s: u16) -> bool {
         let ends = self.ends.as_slice();
         if i >= ends.len() {
             return false;
         }
-        stand_for_put(piece(self.bytes.as_slice(), ends, i), loads, items, s)
+        stand_for_after(piece(self.bytes.as_slice(), ends, i), loads, items, load, s)
     }
 }
 

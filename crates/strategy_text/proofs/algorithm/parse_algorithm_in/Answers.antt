@@ -1,7 +1,7 @@
 use Rattle.std.proofs.Common.{sym, ap, ◌∙◌, arith}
 use Rattle.strategy_text.specs.Reading.{algorithm_at}
 use Rattle.strategy_text.proofs.NodeLines.{algorithm_line_takes, algorithm_refused}
-use Rattle.strategy_text.proofs.algorithm.parse_algorithm.Goals as goal
+use Rattle.strategy_text.proofs.algorithm.parse_algorithm_in.Goals as goal
 
 pub returns-in-Ok-clause-spelled : goal.returns-in-Ok-clause-spelled
 returns-in-Ok-clause-spelled c =

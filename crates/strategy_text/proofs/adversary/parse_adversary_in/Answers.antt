@@ -1,7 +1,7 @@
 use Rattle.std.proofs.Common.{sym, ap, ◌∙◌, arith}
 use Rattle.strategy_text.specs.Reading.{adversary_at}
 use Rattle.strategy_text.proofs.NodeLines.{adversary_line_takes, adversary_refused}
-use Rattle.strategy_text.proofs.adversary.parse_adversary.Goals as goal
+use Rattle.strategy_text.proofs.adversary.parse_adversary_in.Goals as goal
 
 pub returns-in-Ok-clause-spelled : goal.returns-in-Ok-clause-spelled
 returns-in-Ok-clause-spelled c =
