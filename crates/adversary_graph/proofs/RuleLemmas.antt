@@ -1,30 +1,34 @@
--- What the rules of a node rest on: sizes, sums of loads, items put in at their places, and totals of packings.
+-- What the rules of a node rest on: items of loads, distinct loads, and totals of packings.
 use Rattle.std.proofs.Common.{◌≡◌, ℕ, ◌+◌, ◌*◌, ◌<◌, ◌≤◌, List, [], ◌∷◌, ◌++◌, length, get_or, arith, refl, ap, zero, suc, replicate, sum, Contains, mul-le-mul}
+use Rattle.std.proofs.Common.{Bool, Option, Some, None, inr}
 use Rattle.std.specs.List.{All}
+use Rattle.std.specs.Prelude.{MatchOption}
+use Rattle.loads.specs.declared.position.Position.{Position}
+use Rattle.strategy_text.specs.Rules.{AllMet}
+use Rattle.strategy_text.specs.declared.node.AdvNode.{AdvNode}
+use Rattle.strategy_text.specs.declared.node.Format.{Format}
+use Rattle.strategy_text.specs.declared.rule.Rule.{Rule}
+use Rattle.adversary_graph.specs.Judging.{BreaksPastItems}
+use Rattle.adversary_graph.specs.Rules.{Breaks, Meets, MeetsRules, rules_past_items}
 use Rattle.std.proofs.lemmas.List.Elements.{All-weaker, All-contains_itself, All-get_or}
-use Rattle.std.proofs.lemmas.List.Sums.{sum_by-cons}
 use Rattle.items.specs.Game.{GameNumbers, IsGame}
-use Rattle.items.specs.Multiset.{put_ascending, put_times, count, Same}
-use Rattle.items.proofs.MultisetLemmas.{count-append, count-put_ascending, sum-put_ascending}
+use Rattle.items.specs.Multiset.{IsMultiset, IsSize}
 use Rattle.loads.specs.Descending.{distinct}
 use Rattle.loads.proofs.DistinctLemmas.{Contains-from_distinct}
-use Rattle.adversary_graph.specs.Judging.{put_all}
+use Rattle.loads.proofs.LoadsLemmas.{multiset_from_items}
+use Rattle.loads.specs.Loads.{IsLoads}
+use Rattle.loads.specs.Position.{AreItemsOf}
 
--- numbers put in at their places
-pub sum-put_all : (ys xs : List ℕ) → sum (put_all ys xs) ≡ sum ys + sum xs
-sum-put_all [] xs = omega arith
-sum-put_all (y ∷ ys) xs = omega (arith, sum-put_ascending y (put_all ys xs), sum-put_all ys xs, sum_by-cons (λ x. x) y ys)
-
-pub count-put_all : (x : ℕ) (ys xs : List ℕ) → count x (put_all ys xs) ≡ count x ys + count x xs
-count-put_all x [] xs = omega arith
-count-put_all x (y ∷ ys) xs = omega (arith, count-put_ascending x y (put_all ys xs), count-put_all x ys xs)
-
-pub put_all-replicate : (n x : ℕ) (xs : List ℕ) → put_times n x xs ≡ put_all (replicate n x) xs
-put_all-replicate zero x xs = refl
-put_all-replicate (suc n) x xs = ap (put_ascending x) (put_all-replicate n x xs)
-
-pub Same-put_all : (ys xs : List ℕ) → Same (xs ++ ys) (put_all ys xs)
-Same-put_all ys xs = λ x. omega (arith, count-append x xs ys, count-put_all x ys xs)
+-- items of a game's loads are a multiset
+pub multiset_of_loads : (game : GameNumbers) (sizes loads items : List ℕ) → IsGame game → All (IsSize game.capacity) sizes → IsLoads game loads
+    → AreItemsOf sizes loads items → IsMultiset 120 items
+multiset_of_loads game sizes loads items g s l a =
+    let m = multiset_from_items game sizes loads items g s l a in
+    record {
+      ascending = m.ascending;
+      sizes = All-weaker (IsSize game.capacity) (IsSize 120) (λ x h. record { low = h.low; high = omega (arith, h.high, g.capacity.high) }) items m.sizes;
+      total = m.total;
+    }
 
 -- each distinct load is one of the loads
 pub distinct_are_loads : (loads : List ℕ) → All (Contains loads) (distinct loads)
@@ -38,3 +42,11 @@ placed_load loads placed k d e l = rw e (All-get_or (Contains loads) (distinct l
 -- the bins of a game hold at most 960 together
 pub game_volume : (game : GameNumbers) → IsGame game → game.bins * game.capacity ≤ 960
 game_volume game g = mul-le-mul g.bins.high g.capacity.high
+
+-- the rules past `items` of a node with loads and items of the game
+pub past_items : (format : Format) (game : GameNumbers) (sizes : List ℕ) (earlier : List Position) (last : Bool) (node : AdvNode) (fault : Option Rule)
+    → IsLoads game node.loads → AreItemsOf sizes node.loads node.items
+    → MatchOption fault (AllMet (Meets format game sizes earlier last node) rules_past_items) (BreaksPastItems format game sizes earlier last node)
+    → MatchOption fault (MeetsRules format game sizes earlier last node) (Breaks format game sizes earlier last node)
+past_items format game sizes earlier last node None loads items m = (loads, (items, m))
+past_items format game sizes earlier last node (Some rule) loads items b = (b.0, b.1, inr (loads, inr (items, b.2)))

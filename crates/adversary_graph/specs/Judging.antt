@@ -1,8 +1,7 @@
 -- What the private contracts of judging a node cite; nothing here has to be believed.
-use Rattle.std.specs.Prelude.{◌≡◌, ℕ, ◌+◌, ◌<◌, Bool, List, [], ◌∷◌, Option, sum, MatchOption}
-use Rattle.items.specs.declared.limits.TheConstants.{MOST_VOLUME}
+use Rattle.std.specs.Prelude.{◌≡◌, ℕ, Bool, List}
 use Rattle.items.specs.Game.{GameNumbers}
-use Rattle.items.specs.Multiset.{put_ascending, IsMultiset}
+use Rattle.items.specs.Multiset.{IsMultiset}
 use Rattle.loads.specs.Loads.{IsLoads}
 use Rattle.loads.specs.After.{after}
 use Rattle.loads.specs.declared.position.Position.{Position}
@@ -18,16 +17,6 @@ use Rattle.adversary_graph.specs.Rules.{Meets, LeadsTo, rules_past_items}
 -- the node of this position that takes this step
 abbrev pub node_at : Position → Step → AdvNode
 node_at position step = record { loads = position.loads; items = position.items; step = step }
-
--- each number of a list put into an ascending list at its place
-abbrev pub put_all : List ℕ → List ℕ → List ℕ
-put_all [] xs = xs
-put_all (y ∷ ys) xs = put_ascending y (put_all ys xs)
-
--- the items with more items, as a multiset; none where their total is above the limit
-abbrev pub AreItems : List ℕ → List ℕ → Option (List ℕ) → Type 0
-AreItems items more all =
-    MatchOption all (MOST_VOLUME < sum items + sum more) (λ made. made ≡ put_all more items)
 
 -- the first rule past `items` that the node breaks
 abbrev pub BreaksPastItems : Format → GameNumbers → List ℕ → List Position → Bool → AdvNode → Rule → Type 0

@@ -175,7 +175,7 @@ fn positions_of(
 }
 
 // The position of a node that has loads and items of the game. Takes no memory.
-fn position_of(game: &Game, node: &AdvNode) -> Position
+pub(crate) fn position_of(game: &Game, node: &AdvNode) -> Position
     requires { HasPosition game.now node.now }
     ensures { result ≡ position_of node.now }
 {

@@ -2,22 +2,23 @@
 
 ghost use Rattle.std.specs.Prelude.{◌≡◌, ◌<◌, ◌↔◌, ◌+◌, ◌-◌, ◌/◌, ◌*◌, ◌≤◌, ◌∷◌, [], ◌++◌, All, IsTrue, MatchOption};
 ghost use Rattle.std.specs.Prelude.{MatchResult, Contains, Some, length, sum, map};
-ghost use Rattle.items.specs.Multiset.{sizes_of, put_ascending, IsSize, IsMultiset};
+ghost use Rattle.items.specs.Multiset.{sizes_of, IsSize, IsMultiset};
 ghost use Rattle.items.specs.Packable.{IsPacking};
 ghost use Rattle.loads.specs.After.{after};
 ghost use Rattle.loads.specs.Descending.{distinct};
 ghost use Rattle.loads.specs.Loads.{IsLoads};
-ghost use Rattle.loads.specs.Position.{AreItemsOf, IsEmptyPosition};
+ghost use Rattle.loads.specs.Position.{AreItemsOf, IsEmptyPosition, position};
 ghost use Rattle.strategy_text.specs.Rules.{AllMet, IsFirstBroken};
 ghost use Rattle.adversary_graph.specs.Nodes.{position_of, sent_size, sent_items, placements_of, IsOfFormat};
 ghost use Rattle.adversary_graph.specs.Rules.{MeetsRules, Breaks, Meets, rules_past_items, most_below_target};
 ghost use Rattle.adversary_graph.specs.Rules.{IsLongEnough, IsPacked, PlacesEachLoad, IsOverAtTarget};
-ghost use Rattle.adversary_graph.specs.Judging.{node_at, AreItems, BreaksPastItems, LeadsOn};
+ghost use Rattle.adversary_graph.specs.Judging.{node_at, BreaksPastItems, LeadsOn};
 
+use crate::pool::position_of;
 use crate::step::{is_packing_asked, packing_of, sent_number, sent_size};
 use items::laws::game_is_legal;
-use items::{Game, Items, MOST_SIZE, MOST_VOLUME, Sizes};
-use loads::{EarlierPositions, Loads, Position};
+use items::{Game, MOST_SIZE, MOST_VOLUME, Sizes};
+use loads::{EarlierPositions, Loads, Position, are_items_of};
 use packing_witness::Packing;
 use strategy_text::{AdvNode, Format, Placement, Rule, Step, Then};
 
@@ -39,17 +40,12 @@ pub fn judge<E: EarlierPositions>(
         × MeetsRules format game.now sizes.now (E.positions earlier.now) last node.now)
         (Breaks format game.now sizes.now (E.positions earlier.now) last node.now) }
 {
-    let loads = node.loads.as_slice();
-    let Some(loads) = Loads::from_slice(node.loads.allocator(), game, loads) else {
-        return Err(Rule::Loads);
-    };
-    let Some(items) = items_of(game, sizes, &loads, node.items.as_slice()) else {
-        return Err(Rule::Items);
-    };
-    let position = Position { loads, items };
-    match fault_past_items(format, game, sizes, earlier, last, &position, &node.step) {
+    match first_fault(format, game, sizes, earlier, last, node) {
         Some(rule) => Err(rule),
-        None => Ok(position),
+        None => {
+            game_is_legal(game);
+            Ok(position_of(game, node))
+        }
     }
 }
 
@@ -68,40 +64,35 @@ pub fn node_fault<E: EarlierPositions>(
         (MeetsRules format game.now (sizes_of game.now) (E.positions earlier.now) last node.now)
         (Breaks format game.now (sizes_of game.now) (E.positions earlier.now) last node.now) }
 {
-    match judge(format, game, &Sizes::of_game(game), earlier, last, node) {
-        Ok(_) => None,
-        Err(rule) => Some(rule),
-    }
+    first_fault(format, game, &Sizes::of_game(game), earlier, last, node)
 }
 
-// The items as a multiset; None exactly where they are not items of these loads.
-fn items_of(game: &Game, sizes: &Sizes, loads: &Loads, items: &[u16]) -> Option<Items>
+// The first rule that a node breaks as the node that follows the earlier ones.
+fn first_fault<E: EarlierPositions>(
+    format: Format,
+    game: &Game,
+    sizes: &Sizes,
+    earlier: &E,
+    last: bool,
+    node: &AdvNode,
+) -> Option<Rule>
+    requires form { IsOfFormat format node.now.step }
     requires sizes { All (IsSize game.now.capacity) sizes.now }
-    requires of_game { IsLoads game.now loads.now }
     ensures exact { MatchOption result
-        (¬ AreItemsOf sizes.now loads.now items.now)
-        (λ made. (made ≡ items.now) × AreItemsOf sizes.now loads.now items.now) }
+        (MeetsRules format game.now sizes.now (E.positions earlier.now) last node.now)
+        (Breaks format game.now sizes.now (E.positions earlier.now) last node.now) }
 {
-    game_is_legal(game);
-    let Some(made) = Items::from_slice(game, items) else {
-        return None;
+    let loads = node.loads.as_slice();
+    let Some(loads) = Loads::from_slice(node.loads.allocator(), game, loads) else {
+        return Some(Rule::Loads);
     };
-    if are_allowed(sizes, items) && u32::from(made.volume()) == total_of(loads.as_slice()) {
-        Some(made)
-    } else {
-        None
+    let items = node.items.as_slice();
+    if !are_items_of(sizes, &loads, items) {
+        return Some(Rule::Items);
     }
-}
-
-fn are_allowed(sizes: &Sizes, items: &[u16]) -> bool
-    ensures { IsTrue result ↔ All (Contains sizes.now) items.now }
-{
-    for item in items {
-        if !sizes.contains(*item) {
-            return false;
-        }
-    }
-    true
+    fault_past_items(
+        format, game, sizes, earlier, last, &loads, items, &node.step,
+    )
 }
 
 fn total_of(loads: &[u16]) -> u32
@@ -111,20 +102,21 @@ fn total_of(loads: &[u16]) -> u32
     loads.iter().map(|load| u32::from(*load)).sum()
 }
 
-// The first rule past `items` that a node breaks which takes this step at the position.
+// The first rule past `items` that a node breaks which takes this step at the position of these loads and items.
 fn fault_past_items<E: EarlierPositions>(
     format: Format,
     game: &Game,
     sizes: &Sizes,
     earlier: &E,
     last: bool,
-    position: &Position,
+    loads: &Loads,
+    items: &[u16],
     step: &Step,
 ) -> Option<Rule>
     requires sizes { All (IsSize game.now.capacity) sizes.now }
-    requires loads { IsLoads game.now position.now.loads }
-    requires items { AreItemsOf sizes.now position.now.loads position.now.items }
-    ensures exact { let node = node_at position.now step.now in MatchOption result
+    requires loads { IsLoads game.now loads.now }
+    requires items { AreItemsOf sizes.now loads.now items.now }
+    ensures exact { let node = node_at (position loads.now items.now) step.now in MatchOption result
         (AllMet (Meets format game.now sizes.now (E.positions earlier.now) last node) rules_past_items)
         (BreaksPastItems format game.now sizes.now (E.positions earlier.now) last node) }
 {
@@ -132,23 +124,22 @@ fn fault_past_items<E: EarlierPositions>(
     if !sizes.contains(sent_size(step)) {
         return Some(Rule::Send);
     }
-    if !is_long_enough(game, &position.loads, step) {
+    if !is_long_enough(game, loads, step) {
         return Some(Rule::Burst);
     }
-    let all = all_items(&position.items, step);
-    if !is_packed(format, game, position, step, &all) {
+    if !is_packed(format, game, loads, items, step) {
         return Some(Rule::Pack);
     }
-    if !places_each_load(&position.loads, step) {
+    if !places_each_load(loads, step) {
         return Some(Rule::Placements);
     }
     if !is_over_at_target(game, step) {
         return Some(Rule::Over);
     }
-    if !leads_to_children(game, earlier, position, step, &all) {
+    if !leads_to_children(game, earlier, loads, items, step) {
         return Some(Rule::Child);
     }
-    if last && !is_empty(position) {
+    if last && !is_root(loads, items) {
         return Some(Rule::Root);
     }
     None
@@ -189,47 +180,43 @@ fn most_on_load(game: &Game, size: u16, load: u16) -> u16
     (game.t() - 1 - load) / size
 }
 
-// The items with all that the step sends; None exactly where their total is above the limit of a multiset.
-fn all_items(items: &Items, step: &Step) -> Option<Items>
-    requires { IsSize MOST_SIZE (sent_size step.now) }
-    ensures { AreItems items.now (sent_items step.now) result }
-{
-    let size = sent_size(step);
-    let number = sent_number(step);
-    if u32::from(items.volume()) + u32::from(number) * u32::from(size) > u32::from(MOST_VOLUME) {
-        return None;
-    }
-    Some(items.add_times(size, number))
-}
-
 // Whether a packing is shown exactly where it is asked for, and packs the items with all that the step sends.
-fn is_packed(
-    format: Format,
-    game: &Game,
-    position: &Position,
-    step: &Step,
-    all: &Option<Items>,
-) -> bool
-    requires { AreItems position.now.items (sent_items step.now) all.now }
-    ensures { IsTrue result ↔ IsPacked game.now format (node_at position.now step.now) }
+fn is_packed(format: Format, game: &Game, loads: &Loads, items: &[u16], step: &Step) -> bool
+    requires total { sum items.now ≡ sum loads.now }
+    requires items { IsMultiset MOST_SIZE items.now }
+    requires size { IsSize MOST_SIZE (sent_size step.now) }
+    ensures { IsTrue result ↔ IsPacked game.now format (node_at (position loads.now items.now) step.now) }
 {
     let asked = is_packing_asked(format, step);
     match packing_of(step) {
-        Some(pack) => asked && packs(game, pack, position, step, all),
+        Some(pack) => asked && packs(game, pack, loads, items, step),
         None => !asked,
     }
 }
 
 // Whether the bins are a packing of the items with all that the step sends.
-fn packs(game: &Game, pack: &Packing, position: &Position, step: &Step, all: &Option<Items>) -> bool
-    requires { AreItems position.now.items (sent_items step.now) all.now }
-    ensures { IsTrue result ↔ IsPacking game.now pack.now (position.now.items ++ sent_items step.now) }
+fn packs(game: &Game, pack: &Packing, loads: &Loads, items: &[u16], step: &Step) -> bool
+    requires total { sum items.now ≡ sum loads.now }
+    requires items { IsMultiset MOST_SIZE items.now }
+    requires size { IsSize MOST_SIZE (sent_size step.now) }
+    ensures exact { IsTrue result ↔ IsPacking game.now pack.now (items.now ++ sent_items step.now) }
 {
     game_is_legal(game);
-    match all {
-        Some(all) => pack.holds(game, all),
-        None => false,
+    let size = sent_size(step);
+    let number = sent_number(step);
+    let total = total_of(loads.as_slice()) + total_sent(number, size);
+    if total > u32::from(MOST_VOLUME) {
+        return false;
     }
+    pack.holds_list(game, items, size, number)
+}
+
+// The total of so many items of one size.
+fn total_sent(number: u16, size: u16) -> u32
+    ensures value { result ≡ number * size }
+    ensures small { result ≤ 65535 * 65535 }
+{
+    u32::from(number) * u32::from(size)
 }
 
 // Whether the placements of a sending node have its different loads, descending.
@@ -292,24 +279,25 @@ fn ends_at_target(game: &Game, size: u16, placement: &Placement) -> bool
 fn leads_to_children<E: EarlierPositions>(
     game: &Game,
     earlier: &E,
-    position: &Position,
+    loads: &Loads,
+    items: &[u16],
     step: &Step,
-    all: &Option<Items>,
 ) -> bool
-    requires loads { IsLoads game.now position.now.loads }
-    requires total { sum position.now.items ≡ sum position.now.loads }
-    requires all { AreItems position.now.items (sent_items step.now) all.now }
-    requires placed { PlacesEachLoad position.now.loads step.now }
+    requires loads { IsLoads game.now loads.now }
+    requires total { sum items.now ≡ sum loads.now }
+    requires items { IsMultiset MOST_SIZE items.now }
+    requires size { IsSize MOST_SIZE (sent_size step.now) }
+    requires placed { PlacesEachLoad loads.now step.now }
     requires over { All (IsOverAtTarget game.now (sent_size step.now)) (placements_of step.now) }
-    ensures { IsTrue result
-        ↔ All (LeadsOn (E.positions earlier.now) position.now (sent_size step.now)) (placements_of step.now) }
+    ensures { IsTrue result ↔ All (LeadsOn (E.positions earlier.now) (position loads.now items.now)
+        (sent_size step.now)) (placements_of step.now) }
 {
     match step {
         Step::Send {
             size,
             placements,
             ..
-        } => { lead_to_children(game, earlier, position, *size, placements.as_slice(), all) }
+        } => lead_to_children(game, earlier, loads, items, *size, placements.as_slice()),
         Step::Burst { .. } => true,
     }
 }
@@ -317,20 +305,22 @@ fn leads_to_children<E: EarlierPositions>(
 fn lead_to_children<E: EarlierPositions>(
     game: &Game,
     earlier: &E,
-    position: &Position,
+    loads: &Loads,
+    items: &[u16],
     size: u16,
     placements: &[Placement],
-    all: &Option<Items>,
 ) -> bool
-    requires loads { IsLoads game.now position.now.loads }
-    requires total { sum position.now.items ≡ sum position.now.loads }
-    requires all { AreItems position.now.items (size ∷ []) all.now }
-    requires placed { map (λ placement. placement.load) placements.now ≡ distinct position.now.loads }
+    requires loads { IsLoads game.now loads.now }
+    requires total { sum items.now ≡ sum loads.now }
+    requires items { IsMultiset MOST_SIZE items.now }
+    requires size { IsSize MOST_SIZE size }
+    requires placed { map (λ placement. placement.load) placements.now ≡ distinct loads.now }
     requires over { All (IsOverAtTarget game.now size) placements.now }
-    ensures exact { IsTrue result ↔ All (LeadsOn (E.positions earlier.now) position.now size) placements.now }
+    ensures exact { IsTrue result
+        ↔ All (LeadsOn (E.positions earlier.now) (position loads.now items.now) size) placements.now }
 {
     for placement in placements {
-        if !leads_to_child(game, earlier, position, size, placement, all) {
+        if !leads_to_child(game, earlier, loads, items, size, placement) {
             return false;
         }
     }
@@ -340,32 +330,35 @@ fn lead_to_children<E: EarlierPositions>(
 fn leads_to_child<E: EarlierPositions>(
     game: &Game,
     earlier: &E,
-    position: &Position,
+    loads: &Loads,
+    items: &[u16],
     size: u16,
     placement: &Placement,
-    all: &Option<Items>,
 ) -> bool
-    requires loads { IsLoads game.now position.now.loads }
-    requires total { sum position.now.items ≡ sum position.now.loads }
-    requires all { AreItems position.now.items (size ∷ []) all.now }
-    requires placed { Contains position.now.loads placement.now.load }
+    requires loads { IsLoads game.now loads.now }
+    requires total { sum items.now ≡ sum loads.now }
+    requires items { IsMultiset MOST_SIZE items.now }
+    requires size { IsSize MOST_SIZE size }
+    requires placed { Contains loads.now placement.now.load }
     requires over { IsOverAtTarget game.now size placement.now }
-    ensures exact { IsTrue result ↔ LeadsOn (E.positions earlier.now) position.now size placement.now }
+    ensures exact { IsTrue result
+        ↔ LeadsOn (E.positions earlier.now) (position loads.now items.now) size placement.now }
 {
     let Then::To(child) = placement.next else {
         return true;
     };
     game_is_legal(game);
-    let Some(loads) = position.loads.place(game, placement.load, size) else {
-        return false;
-    };
-    let Some(items) = all else {
-        return false;
-    };
-    earlier.is_at(child as usize, &loads, items)
+    earlier.is_after(child as usize, loads, items, placement.load, size)
 }
 
 // Whether all bins are empty and there are no items.
+fn is_root(loads: &Loads, items: &[u16]) -> bool
+    ensures exact { IsTrue result ↔ IsEmptyPosition (position loads.now items.now) }
+{
+    items.is_empty() && loads.as_slice().iter().all(|load| *load == 0)
+}
+
+// Whether all bins of a position are empty and there are no items.
 pub fn is_empty(position: &Position) -> bool
     ensures exact { IsTrue result ↔ IsEmptyPosition position.now }
 {

@@ -2,9 +2,9 @@
 
 ghost use Rattle.std.specs.Prelude.{◌≡◌, ◌↔◌, ◌++◌, ◌≤◌, ◌<◌, IsTrue, All, Contains, MatchOption, MatchResult};
 ghost use Rattle.std.specs.Prelude.{IfOk, length, slice_get, Some, sum, take, ℕ};
-ghost use Rattle.items.specs.Multiset.{IsSize, sizes_of};
+ghost use Rattle.items.specs.Multiset.{IsMultiset, IsSize, sizes_of};
 ghost use Rattle.loads.specs.Loads.{IsLoads};
-ghost use Rattle.loads.specs.Position.{AreItemsOf, IsEmptyPosition};
+ghost use Rattle.loads.specs.Position.{AreItemsOf, IsEmptyPosition, position};
 ghost use Rattle.strategy_text.specs.Rules.{AllMet};
 ghost use Rattle.algorithm_graph.specs.Nodes.{position_of, entries_of};
 ghost use Rattle.algorithm_graph.specs.Rules.{MeetsRules, Breaks, Meets, NamesLoad, rules_past_items};
@@ -12,9 +12,11 @@ ghost use Rattle.algorithm_graph.specs.Rules.{FinishesIfSaid, BigFinishesIfSaid,
 ghost use Rattle.algorithm_graph.specs.Judging.{node_at, sizes_in, sizes_up_to, if_one_of, BreaksPastItems};
 ghost use Rattle.algorithm_graph.specs.Judging.{HaveRoom, HasSize, LeadsOn};
 
+use crate::pool::position_of;
 use good_situations::{big_finishes, finishes};
-use items::{Game, Items, Sizes};
-use loads::{EarlierPositions, Loads, Position};
+use items::laws::game_is_legal;
+use items::{Game, Items, MOST_SIZE, Sizes};
+use loads::{EarlierPositions, Loads, Position, are_items_of};
 use reachable_loads::Reach;
 use std::alloc::{AllocError, Global};
 use strategy_text::{Act, AlgNode, Entry, Rule};
@@ -37,17 +39,12 @@ pub fn judge<E: EarlierPositions>(
         × MeetsRules game.now sizes.now (E.positions earlier.now) last node.now)
         (Breaks game.now sizes.now (E.positions earlier.now) last node.now)) }
 {
-    let loads = node.loads.as_slice();
-    let Some(loads) = Loads::from_slice(alloc, game, loads) else {
-        return Ok(Err(Rule::Loads));
-    };
-    let Some(items) = items_of(game, sizes, &loads, node.items.as_slice()) else {
-        return Ok(Err(Rule::Items));
-    };
-    let position = Position { loads, items };
-    match fault_past_items(alloc, game, sizes, earlier, last, &position, &node.act)? {
+    match first_fault(alloc, game, sizes, earlier, last, node)? {
         Some(rule) => Ok(Err(rule)),
-        None => Ok(Ok(position)),
+        None => {
+            game_is_legal(game);
+            Ok(Ok(position_of(game, node)))
+        }
     }
 }
 
@@ -64,104 +61,95 @@ pub fn node_fault<E: EarlierPositions>(
         (MeetsRules game.now (sizes_of game.now) (E.positions earlier.now) last node.now)
         (Breaks game.now (sizes_of game.now) (E.positions earlier.now) last node.now)) }
 {
-    match judge(alloc, game, &Sizes::of_game(game), earlier, last, node)? {
-        Ok(_) => Ok(None),
-        Err(rule) => Ok(Some(rule)),
-    }
+    first_fault(alloc, game, &Sizes::of_game(game), earlier, last, node)
 }
 
-// The items as a multiset; None exactly where they are not items of these loads.
-fn items_of(game: &Game, sizes: &Sizes, loads: &Loads, items: &[u16]) -> Option<Items>
+// The first rule that a node breaks as the node that follows the earlier ones.
+fn first_fault<E: EarlierPositions>(
+    alloc: Global,
+    game: &Game,
+    sizes: &Sizes,
+    earlier: &E,
+    last: bool,
+    node: &AlgNode,
+) -> Result<Option<Rule>, AllocError>
     requires sizes { All (IsSize game.now.capacity) sizes.now }
-    requires of_game { IsLoads game.now loads.now }
-    ensures exact { MatchOption result
-        (¬ AreItemsOf sizes.now loads.now items.now)
-        (λ made. (made ≡ items.now) × AreItemsOf sizes.now loads.now items.now) }
+    ensures exact { IfOk result (λ fault. MatchOption fault
+        (MeetsRules game.now sizes.now (E.positions earlier.now) last node.now)
+        (Breaks game.now sizes.now (E.positions earlier.now) last node.now)) }
 {
-    let _capacity = game.g();
-    let Some(made) = Items::from_slice(game, items) else {
-        return None;
+    let loads = node.loads.as_slice();
+    let Some(loads) = Loads::from_slice(alloc, game, loads) else {
+        return Ok(Some(Rule::Loads));
     };
-    if are_allowed(sizes, items) && u32::from(made.volume()) == total_of(loads.as_slice()) {
-        Some(made)
-    } else {
-        None
+    let items = node.items.as_slice();
+    if !are_items_of(sizes, &loads, items) {
+        return Ok(Some(Rule::Items));
     }
+    fault_past_items(alloc, game, sizes, earlier, last, &loads, items, &node.act)
 }
 
-fn are_allowed(sizes: &Sizes, items: &[u16]) -> bool
-    ensures { IsTrue result ↔ All (Contains sizes.now) items.now }
-{
-    for item in items {
-        if !sizes.contains(*item) {
-            return false;
-        }
-    }
-    true
-}
-
-fn total_of(loads: &[u16]) -> u32
-    requires { length loads.now ≤ 8 }
-    ensures { result ≡ sum loads.now }
-{
-    loads.iter().map(|load| u32::from(*load)).sum()
-}
-
-// The first rule past `items` that a node breaks which does this at the position.
+// The first rule past `items` that a node breaks which does this at the position of these loads and items.
 fn fault_past_items<E: EarlierPositions>(
     alloc: Global,
     game: &Game,
     sizes: &Sizes,
     earlier: &E,
     last: bool,
-    position: &Position,
+    loads: &Loads,
+    items: &[u16],
     act: &Act,
 ) -> Result<Option<Rule>, AllocError>
     requires sizes { All (IsSize game.now.capacity) sizes.now }
-    requires loads { IsLoads game.now position.now.loads }
-    requires items { AreItemsOf sizes.now position.now.loads position.now.items }
-    ensures exact { let node = node_at position.now act.now in IfOk result (λ fault. MatchOption fault
+    requires loads { IsLoads game.now loads.now }
+    requires items { AreItemsOf sizes.now loads.now items.now }
+    ensures exact { let node = node_at (position loads.now items.now) act.now in IfOk result (λ fault. MatchOption fault
         (AllMet (Meets game.now sizes.now (E.positions earlier.now) last node) rules_past_items)
         (BreaksPastItems game.now sizes.now (E.positions earlier.now) last node)) }
 {
-    if !finishes_if_said(game, position, act) {
+    game_is_legal(game);
+    if !finishes_if_said(game, loads, items, act) {
         return Ok(Some(Rule::Finish));
     }
-    if !big_finishes_if_said(game, position, act) {
+    if !big_finishes_if_said(game, loads, items, act) {
         return Ok(Some(Rule::Big));
     }
-    if !replies_if_said(alloc, game, sizes, position, act)? {
+    if !replies_if_said(alloc, game, sizes, loads, items, act)? {
         return Ok(Some(Rule::Replies));
     }
     let entries = entries_of(act);
-    if !name_loads(game, &position.loads, entries) {
+    if !name_loads(game, loads, entries) {
         return Ok(Some(Rule::Reply));
     }
-    if !lead_to_children(game, earlier, position, entries) {
+    if !lead_to_children(game, earlier, loads, items, entries) {
         return Ok(Some(Rule::Child));
     }
-    if last && !is_empty(position) {
+    if last && !is_root(loads, items) {
         return Ok(Some(Rule::Root));
     }
     Ok(None)
 }
 
-fn finishes_if_said(game: &Game, position: &Position, act: &Act) -> bool
-    ensures { IsTrue result ↔ FinishesIfSaid game.now (node_at position.now act.now) act.now }
+fn finishes_if_said(game: &Game, loads: &Loads, items: &[u16], act: &Act) -> bool
+    ensures { IsTrue result ↔ FinishesIfSaid game.now (node_at (position loads.now items.now) act.now) act.now }
 {
     match act {
-        Act::Finish => finishes(game, &position.loads),
+        Act::Finish => finishes(game, loads),
         Act::Big(_) => true,
         Act::Reply(_) => true,
     }
 }
 
-fn big_finishes_if_said(game: &Game, position: &Position, act: &Act) -> bool
-    ensures { IsTrue result ↔ BigFinishesIfSaid game.now (node_at position.now act.now) act.now }
+fn big_finishes_if_said(game: &Game, loads: &Loads, items: &[u16], act: &Act) -> bool
+    requires { IsMultiset game.now.capacity items.now }
+    ensures { IsTrue result ↔ BigFinishesIfSaid game.now (node_at (position loads.now items.now) act.now) act.now }
 {
     match act {
         Act::Finish => true,
-        Act::Big(b) => big_finishes(game, &position.loads, &position.items, *b),
+        Act::Big(b) => {
+            let items = Items::from_slice(game, items).unwrap();
+            big_finishes(game, loads, &items, *b)
+        }
         Act::Reply(_) => true,
     }
 }
@@ -171,31 +159,31 @@ fn replies_if_said(
     alloc: Global,
     game: &Game,
     sizes: &Sizes,
-    position: &Position,
+    loads: &Loads,
+    items: &[u16],
     act: &Act,
 ) -> Result<bool, AllocError>
-    requires { All (IsSize game.now.capacity) position.now.items }
+    requires { All (IsSize game.now.capacity) items.now }
     ensures { IfOk result (λ met. IsTrue met
-        ↔ RepliesIfSaid game.now sizes.now (node_at position.now act.now) act.now) }
+        ↔ RepliesIfSaid game.now sizes.now (node_at (position loads.now items.now) act.now) act.now) }
 {
     match act {
         Act::Finish => Ok(true),
         Act::Big(_) => Ok(true),
         Act::Reply(entries) => {
-            let room = room_after(alloc, game, &position.items)?;
+            let room = room_after(alloc, game, items)?;
             Ok(are_sizes_up_to(sizes, room, entries.as_slice()))
         }
     }
 }
 
 // The greatest size of an item with which the items are packable, and 0 where there is none.
-fn room_after(alloc: Global, game: &Game, items: &Items) -> Result<u16, AllocError>
+fn room_after(alloc: Global, game: &Game, items: &[u16]) -> Result<u16, AllocError>
     requires { All (IsSize game.now.capacity) items.now }
     ensures { IfOk result (HaveRoom game.now items.now) }
 {
-    let list = items.list(alloc)?;
     let mut reach = Reach::start(alloc, game)?;
-    for item in list.as_slice() {
+    for item in items {
         let more = reach.add(*item)?;
         reach = more;
     }
@@ -272,17 +260,20 @@ fn has_load(loads: &[u16], load: u16) -> bool
 fn lead_to_children<E: EarlierPositions>(
     game: &Game,
     earlier: &E,
-    position: &Position,
+    loads: &Loads,
+    items: &[u16],
     entries: &[Entry],
 ) -> bool
-    requires loads { IsLoads game.now position.now.loads }
-    requires total { sum position.now.items ≡ sum position.now.loads }
+    requires loads { IsLoads game.now loads.now }
+    requires total { sum items.now ≡ sum loads.now }
+    requires items { IsMultiset MOST_SIZE items.now }
     requires sizes { All (HasSize game.now) entries.now }
-    requires named { All (NamesLoad game.now position.now.loads) entries.now }
-    ensures exact { IsTrue result ↔ All (LeadsOn (E.positions earlier.now) position.now) entries.now }
+    requires named { All (NamesLoad game.now loads.now) entries.now }
+    ensures exact { IsTrue result
+        ↔ All (LeadsOn (E.positions earlier.now) (position loads.now items.now)) entries.now }
 {
     for entry in entries {
-        if !leads_to_child(game, earlier, position, entry) {
+        if !leads_to_child(game, earlier, loads, items, entry) {
             return false;
         }
     }
@@ -292,19 +283,27 @@ fn lead_to_children<E: EarlierPositions>(
 fn leads_to_child<E: EarlierPositions>(
     game: &Game,
     earlier: &E,
-    position: &Position,
+    loads: &Loads,
+    items: &[u16],
     entry: &Entry,
 ) -> bool
-    requires loads { IsLoads game.now position.now.loads }
-    requires total { sum position.now.items ≡ sum position.now.loads }
+    requires loads { IsLoads game.now loads.now }
+    requires total { sum items.now ≡ sum loads.now }
+    requires items { IsMultiset MOST_SIZE items.now }
     requires size { HasSize game.now entry.now }
-    requires named { NamesLoad game.now position.now.loads entry.now }
-    ensures exact { IsTrue result ↔ LeadsOn (E.positions earlier.now) position.now entry.now }
+    requires named { NamesLoad game.now loads.now entry.now }
+    ensures exact { IsTrue result
+        ↔ LeadsOn (E.positions earlier.now) (position loads.now items.now) entry.now }
 {
-    let _capacity = game.g();
-    let loads = position.loads.place(game, entry.load, entry.size).unwrap();
-    let items = position.items.add(entry.size);
-    earlier.is_at(entry.to as usize, &loads, &items)
+    game_is_legal(game);
+    earlier.is_after(entry.to as usize, loads, items, entry.load, entry.size)
+}
+
+// Whether all bins are empty and there are no items.
+fn is_root(loads: &Loads, items: &[u16]) -> bool
+    ensures exact { IsTrue result ↔ IsEmptyPosition (position loads.now items.now) }
+{
+    items.is_empty() && loads.as_slice().iter().all(|load| *load == 0)
 }
 
 pub fn is_empty(position: &Position) -> bool

@@ -8,12 +8,14 @@ use Rattle.std.proofs.lemmas.List.{length-map, length_push, map_push, append-nil
 use Rattle.std.proofs.lemmas.Option.{slice_get_within, slice_get-get_or, get_or_from_slice_get, none-some}
 use Rattle.std.proofs.lemmas.Bool.{cases_lt}
 use Rattle.port_io.specs.Lines.{ReaderState}
-use Rattle.items.specs.Multiset.{IsSize}
+use Rattle.items.specs.Game.{GameNumbers, IsGame}
+use Rattle.items.specs.Multiset.{IsMultiset, IsSize}
+use Rattle.loads.proofs.LoadsLemmas.{multiset_from_items}
 use Rattle.items.proofs.SizesLemmas.{size_from_Contains}
 use Rattle.loads.specs.declared.position.Position.{Position}
 use Rattle.strategy_text.specs.Rules.{AllMet, IsFirstBroken}
 use Rattle.strategy_text.specs.Spelling.{most_child}
-use Rattle.strategy_text.specs.Text.{AnyNode, of_adversary, of_algorithm, node_line, node_lines}
+use Rattle.strategy_text.specs.Text.{AnyNode, of_adversary, of_algorithm, items_of, node_line, node_lines}
 use Rattle.strategy_text.specs.declared.rule.Rule.{Rule}
 use Rattle.strategy_text.proofs.NodesSame.{line_tells}
 use Rattle.adversary_graph.specs.NodeRules as adversary_rules
@@ -56,6 +58,21 @@ broken_same head earlier last (of_adversary node) r s a b =
     a.1 ∙ ap adversary_rules.rule_of (first_broken_same (adversary.Meets head.format head.game head.sizes earlier last node) adversary.node_rules a.0 b.0 a.2 b.2) ∙ sym b.1
 broken_same head earlier last (of_algorithm node) r s a b =
     a.1 ∙ ap algorithm.rule_of (first_broken_same (algorithm.Meets head.game head.sizes earlier last node) algorithm.node_rules a.0 b.0 a.2 b.2) ∙ sym b.1
+
+-- the items of a node that meets its rules are a multiset
+multiset_of_game : (game : GameNumbers) (items : List ℕ) → IsGame game → IsMultiset game.capacity items → IsMultiset 120 items
+multiset_of_game game items g m = record {
+  ascending = m.ascending;
+  sizes = All-weaker (IsSize game.capacity) (IsSize 120) (λ x h. record { low = h.low; high = omega (arith, h.high, g.capacity.high) }) items m.sizes;
+  total = m.total;
+}
+
+pub items_are_a_multiset : (head : Head) (earlier : List Position) (last : Bool) (node : AnyNode) → IsGame head.game → All (IsSize head.game.capacity) head.sizes
+    → MeetsRules head earlier last node → IsMultiset 120 (items_of node)
+items_are_a_multiset head earlier last (of_adversary node) g s m =
+    multiset_of_game head.game node.items g (multiset_from_items head.game head.sizes node.loads node.items g s m.0 m.1.0)
+items_are_a_multiset head earlier last (of_algorithm node) g s m =
+    multiset_of_game head.game node.items g (multiset_from_items head.game head.sizes node.loads node.items g s m.0 m.1.0)
 
 -- ---- nodes in their lines
 

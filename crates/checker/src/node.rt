@@ -1,11 +1,11 @@
 //! Reading and judging a node of either side.
 
 ghost use Rattle.std.specs.Prelude.{◌≡◌, ◌==◌, ◌<◌, ◌≤◌, ◌+◌, None, Err, IfOk, IfErr};
-ghost use Rattle.std.specs.Prelude.{IfSome, IfNone, MatchResult, length, map};
+ghost use Rattle.std.specs.Prelude.{IfSome, IfNone, MatchOption, OnOk, length, map};
 ghost use Rattle.port_io.specs.Faults.{Rose};
 ghost use Rattle.items.specs.Multiset.{sizes_of};
 ghost use Rattle.strategy_text.specs.Spelling.{IsSpellableNode, most_nodes};
-ghost use Rattle.strategy_text.specs.Text.{AnyNode, end_line};
+ghost use Rattle.strategy_text.specs.Text.{AnyNode, end_line, items_of, loads_of};
 ghost use Rattle.checker.specs.Head.{SpellsUnder, MeetsRules, Breaks, position_of, IsNodeLine, IsBrokenNodeLine};
 ghost use Rattle.checker.specs.Progress.{ReadsNode, TakesNode, IsRefusedLine, IsBrokenBy};
 ghost use Rattle.checker.specs.Progress.{RefusesNext, NoRule, told_by, any_node};
@@ -15,11 +15,11 @@ use crate::fault::CheckFault;
 use crate::head::{Head, broken, next_text, syntax};
 use adversary_graph as adversary;
 use algorithm_graph as algorithm;
-use items::Sizes;
-use loads::{PackedPositions, Position};
+use items::laws::game_is_legal;
+use loads::PackedPositions;
 use port_io::{LineReader, Source};
 use std::alloc::{AllocError, Global};
-use strategy_text::{AdvNode, AlgNode, Rule, Side, parse_adversary, parse_algorithm};
+use strategy_text::{AdvNode, AlgNode, Rule, Side, Spare, parse_adversary_in, parse_algorithm_in};
 
 // A node of either side.
 #[derive(Drop)]
@@ -28,12 +28,21 @@ pub(crate) enum Node {
     Algorithm(AlgNode),
 }
 
+// Keeps the lists of a node that is no longer needed.
+pub(crate) fn set_aside(spare: &mut Spare, node: Node) {
+    match node {
+        Node::Adversary(node) => spare.keep_adversary(node),
+        Node::Algorithm(node) => spare.keep_algorithm(node),
+    }
+}
+
 // The node of the head's format and side that a line spells.
 fn parse_node(
     alloc: Global,
     head: &Head,
     line: &[u8],
     number: u32,
+    spare: &mut Spare,
 ) -> Result<Option<Node>, AllocError>
     ensures spelled { IfOk result (λ read. IfSome read (λ node. SpellsUnder (told_by head.now) number line.now
         (any_node node))) }
@@ -42,13 +51,13 @@ fn parse_node(
 {
     match head.side {
         Side::Adversary => {
-            let Some(node) = parse_adversary(alloc, head.format, line, number)? else {
+            let Some(node) = parse_adversary_in(alloc, head.format, line, number, spare)? else {
                 return Ok(None);
             };
             Ok(Some(Node::Adversary(node)))
         }
         Side::Algorithm => {
-            let Some(node) = parse_algorithm(alloc, head.format, line, number)? else {
+            let Some(node) = parse_algorithm_in(alloc, head.format, line, number, spare)? else {
                 return Ok(None);
             };
             Ok(Some(Node::Algorithm(node)))
@@ -56,61 +65,76 @@ fn parse_node(
     }
 }
 
-// Judges a node as the one that follows the earlier ones.
+// The loads and the items of a node.
+fn lists_of(node: &Node) -> (&[u16], &[u16])
+    ensures loads { result.0.now ≡ loads_of (any_node node.now) }
+    ensures items { result.1.now ≡ items_of (any_node node.now) }
+{
+    match node {
+        Node::Adversary(node) => (node.loads.as_slice(), node.items.as_slice()),
+        Node::Algorithm(node) => (node.loads.as_slice(), node.items.as_slice()),
+    }
+}
+
+// The first rule that a node breaks as the one that follows the earlier ones.
 fn judge_node(
     alloc: Global,
     head: &Head,
     earlier: &PackedPositions,
     last: bool,
     node: &Node,
-) -> Result<Result<Position, Rule>, AllocError>
+) -> Result<Option<Rule>, AllocError>
     requires spellable { IsSpellableNode head.now.format (any_node node.now) }
-    ensures exact { IfOk result (λ judged. MatchResult judged
-        (λ position. (position ≡ position_of (any_node node.now))
-        × MeetsRules (told_by head.now) earlier.now last (any_node node.now))
+    ensures exact { IfOk result (λ judged. MatchOption judged
+        (MeetsRules (told_by head.now) earlier.now last (any_node node.now))
         (Breaks (told_by head.now) earlier.now last (any_node node.now))) }
 {
     let game = head.game;
-    let sizes = Sizes::of_game(&game);
     match node {
         Node::Adversary(node) => {
-            let judged = adversary::judge(head.format, &game, &sizes, earlier, last, node);
+            let judged = adversary::node_fault(&game, head.format, earlier, last, node);
             Ok(judged)
         }
-        Node::Algorithm(node) => algorithm::judge(alloc, &game, &sizes, earlier, last, node),
+        Node::Algorithm(node) => algorithm::node_fault(alloc, &game, earlier, last, node),
     }
 }
 
 // The node of this number that a line spells; a line that spells none is refused.
-fn next_node(alloc: Global, head: &Head, text: &[u8], number: u32) -> Result<Node, CheckFault>
+fn next_node(
+    alloc: Global,
+    head: &Head,
+    text: &[u8],
+    number: u32,
+    spare: &mut Spare,
+) -> Result<Node, CheckFault>
     ensures ok { IfOk result (λ node. SpellsUnder (told_by head.now) number text.now (any_node node)) }
     ensures err { IfErr result (λ fault. IsRefusedLine (5 + number) (IsNodeLine
         (told_by head.now) number) NoRule fault text.now) }
 {
-    match parse_node(alloc, head, text, number)? {
+    match parse_node(alloc, head, text, number, spare)? {
         Some(node) => Ok(node),
         None => Err(syntax(5 + u64::from(number))),
     }
 }
 
-// The position of a node that follows the earlier ones; a node that breaks a rule is refused.
-fn next_position(
+// Sees that a node follows the earlier ones; one that breaks a rule is refused.
+fn see_follows(
     alloc: Global,
     head: &Head,
     earlier: &PackedPositions,
     number: u32,
     node: &Node,
-) -> Result<Position, CheckFault>
+) -> Result<(), CheckFault>
     requires number { number ≡ length earlier.now }
     requires most { number < most_nodes }
     requires spellable { IsSpellableNode head.now.format (any_node node.now) }
-    ensures ok { IfOk result (λ position. (position ≡ position_of (any_node node.now)) × MeetsRules
-        (told_by head.now) earlier.now (length earlier.now + 1 == head.now.count) (any_node node.now)) }
+    ensures ok { OnOk result (MeetsRules (told_by head.now) earlier.now (length earlier.now + 1 == head.now.count)
+        (any_node node.now)) }
     ensures err { IfErr result (IsBrokenBy (told_by head.now) earlier.now (5 + number) (any_node node.now)) }
 {
     match judge_node(alloc, head, earlier, number + 1 == head.count, node)? {
-        Ok(position) => Ok(position),
-        Err(rule) => Err(broken(5 + u64::from(number), rule)),
+        Some(rule) => Err(broken(5 + u64::from(number), rule)),
+        None => Ok(()),
     }
 }
 
@@ -120,6 +144,7 @@ fn take_node(
     head: &Head,
     earlier: &mut PackedPositions,
     text: &[u8],
+    spare: &mut Spare,
 ) -> Result<Node, CheckFault>
     requires few { length earlier.old < head.now.count }
     requires most { head.now.count ≤ most_nodes }
@@ -128,9 +153,11 @@ fn take_node(
         (length earlier.old)) (IsBrokenNodeLine (told_by head.now) earlier.old) fault text.now) }
 {
     let number = earlier.len() as u32;
-    let node = next_node(alloc, head, text, number)?;
-    let position = next_position(alloc, head, earlier, number, &node)?;
-    earlier.push(&position.loads, &position.items)?;
+    let node = next_node(alloc, head, text, number, spare)?;
+    see_follows(alloc, head, earlier, number, &node)?;
+    game_is_legal(&head.game);
+    let (loads, items) = lists_of(&node);
+    earlier.push_lists(loads, items)?;
     Ok(node)
 }
 
@@ -141,6 +168,7 @@ pub(crate) fn read_node<S: Source>(
     source: &mut S,
     head: &Head,
     earlier: &mut PackedPositions,
+    spare: &mut Spare,
 ) -> Result<Node, CheckFault>
     requires open_still { lines.old.ending ≡ None }
     requires few { length earlier.old < head.now.count }
@@ -154,5 +182,5 @@ pub(crate) fn read_node<S: Source>(
         (S.left source.new)) }
 {
     next_text(lines, source, 5 + earlier.len() as u64)?;
-    take_node(alloc, head, earlier, lines.text())
+    take_node(alloc, head, earlier, lines.text(), spare)
 }

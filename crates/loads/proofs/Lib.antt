@@ -3,3 +3,4 @@ pub mod CountLemmas
 pub mod DistinctLemmas
 pub mod LoadsLemmas
 pub mod PackedLemmas
+pub mod ItemListLemmas

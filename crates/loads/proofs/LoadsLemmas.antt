@@ -1,6 +1,6 @@
 -- Loads after an item.
-use Rattle.std.proofs.Common.{◌≡◌, ℕ, zero, suc, ◌+◌, ◌*◌, ◌<◌, ◌≤◌, true, List, [], ◌∷◌, leb, refl, inl, inr, length, get_or, set, cond, eqb, sum, arith, sym, ap, ◌∙◌}
-use Rattle.std.specs.Prelude.{All, Contains, insert, remove, position, unwrap_or, nat_le}
+use Rattle.std.proofs.Common.{◌≡◌, ℕ, zero, suc, ◌+◌, ◌*◌, ◌<◌, ◌≤◌, true, List, [], ◌∷◌, leb, refl, inl, inr, length, get_or, set, cond, eqb, sum, arith, sym, ap, ◌∙◌, subst, Option, Some, None}
+use Rattle.std.specs.Prelude.{All, Contains, IfSome, MatchOption, insert, remove, position, unwrap_or, nat_le}
 use Rattle.std.proofs.lemmas.List.{get_or_default}
 use Rattle.std.specs.List.{sum_by}
 use Rattle.std.proofs.lemmas.List.Sums.{sum_by-set, sum_by-le}
@@ -47,6 +47,18 @@ IsLoads-after game loads load size h member below = record {
   one_each = omega (arith, h.one_each, length-put (load + size) (take_out load loads), length-take_out load loads member);
   descending = IsDescending-put (load + size) (take_out load loads) (IsDescending-take_out load loads h.descending);
   below_target = All-put (λ held. held < game.target) (load + size) (take_out load loads) below (All-take_out (λ held. held < game.target) load loads h.below_target);
+}
+
+pub legal_after : (game : GameNumbers) (loads : List ℕ) (load size : ℕ) (found : Option (List ℕ)) → IsLoads game loads → load + size < game.target
+    → MatchOption found (¬ Contains loads load) (λ after. Contains loads load × (after ≡ loads_after loads load size)) → IfSome found (IsLoads game)
+legal_after game loads load size None l below m = tt
+legal_after game loads load size (Some after) l below m = subst (IsLoads game) (sym m.1) (IsLoads-after game loads load size l m.0 below)
+
+pub AreLoads-after : (loads : List ℕ) (load size : ℕ) → AreLoads loads → Contains loads load → load + size < 240 → AreLoads (loads_after loads load size)
+AreLoads-after loads load size h member below = record {
+  few = omega (arith, h.few, length-put (load + size) (take_out load loads), length-take_out load loads member);
+  descending = IsDescending-put (load + size) (take_out load loads) (IsDescending-take_out load loads h.descending);
+  below = All-put (λ held. held < 240) (load + size) (take_out load loads) below (All-take_out (λ held. held < 240) load loads h.below);
 }
 
 -- taking one such load out and putting the load with the item in at its place

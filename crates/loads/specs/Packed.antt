@@ -1,6 +1,6 @@
 -- Serves private contracts: how packed positions lie in memory.
-use Rattle.std.specs.Prelude.{◌≡◌, ◌==◌, ◌&&◌, Bool, ℕ, ◌≤◌, List, [], ◌∷◌, ◌++◌, All, length, map, take}
-use Rattle.std.specs.Prelude.{drop, slice_range}
+use Rattle.std.specs.Prelude.{◌≡◌, ◌==◌, ◌&&◌, Bool, ℕ, ◌<◌, ◌≤◌, List, [], ◌∷◌, ◌++◌, All, length, map, take}
+use Rattle.std.specs.Prelude.{drop, slice_index, slice_range}
 use Rattle.std.specs.Cmp.Lexicographic.{pointwise}
 use Rattle.items.specs.declared.limits.TheConstants.{MOST_SIZE}
 use Rattle.items.specs.Multiset.{IsMultiset}
@@ -45,3 +45,15 @@ pub record AreCut (bytes ends : List ℕ) : Type 0 where
 -- the positions whose bytes stand one after another
 abbrev pub positions_in : List ℕ → List ℕ → List Position
 positions_in bytes ends = map position_in (pieces bytes 0 ends)
+
+-- the place at which a number is put into an ascending list
+pub record IsPlaceOf (x : ℕ) (xs : List ℕ) (place : ℕ) : Type 0 where
+  pub within : place ≤ length xs
+  pub below : (k : ℕ) → k < place → slice_index xs k < x
+  pub from : place < length xs → x ≤ slice_index xs place
+
+-- the place at which a load that grew is put into descending loads
+pub record IsPlaceOfGrown (grown : ℕ) (loads : List ℕ) (place : ℕ) : Type 0 where
+  pub within : place < length loads
+  pub above : (k : ℕ) → k < place → grown < slice_index loads k
+  pub from : slice_index loads place ≤ grown

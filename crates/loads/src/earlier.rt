@@ -1,12 +1,15 @@
 //! Lists that say which position an earlier node has.
 
-ghost use Rattle.std.specs.Prelude.{◌≡◌, ◌↔◌, List, IsTrue, length};
+ghost use Rattle.std.specs.Prelude.{◌≡◌, ◌↔◌, ◌+◌, ◌*◌, ◌<◌, ◌≤◌, List, Contains, IsTrue, length, sum};
+ghost use Rattle.items.specs.Multiset.{IsMultiset, IsSize};
+ghost use Rattle.loads.specs.After.{after};
 ghost use Rattle.loads.specs.declared.position.Position.{Position};
 ghost use Rattle.loads.specs.Position.{position, StandsAt};
 
+use crate::item_list::items_with;
 use crate::position::Positions;
 use crate::sorted_loads::Loads;
-use items::Items;
+use items::{Items, MOST_SIZE, MOST_VOLUME};
 
 /// The positions of the earlier nodes of a strategy, by the nodes' numbers, counted from 0.
 pub trait EarlierPositions {
@@ -21,6 +24,16 @@ pub trait EarlierPositions {
     /// linear in the position.
     fn is_at(&self, i: usize, loads: &Loads, items: &Items) -> bool
         ensures { IsTrue result ↔ StandsAt (positions self.now) i (position loads.now items.now) };
+
+    /// Whether there is a position of this number, and it is the one after an item of size `s` went to a bin of this
+    /// load. Takes no memory; the cost is linear in the position.
+    fn is_after(&self, i: usize, loads: &Loads, items: &[u16], load: u16, s: u16) -> bool
+        requires items { IsMultiset MOST_SIZE items.now }
+        requires size { IsSize MOST_SIZE s }
+        requires fits { sum items.now + s ≤ MOST_VOLUME }
+        requires member { Contains loads.now load }
+        requires below { load + s < 2 * MOST_SIZE }
+        ensures { IsTrue result ↔ StandsAt (positions self.now) i (after (position loads.now items.now) load s) };
 }
 
 impl EarlierPositions for Positions {
@@ -33,6 +46,13 @@ impl EarlierPositions for Positions {
     fn is_at(&self, i: usize, loads: &Loads, items: &Items) -> bool {
         match self.get(i) {
             Some(position) => position.loads.same(loads) && position.items.same(items),
+            None => false,
+        }
+    }
+
+    fn is_after(&self, i: usize, loads: &Loads, items: &[u16], load: u16, s: u16) -> bool {
+        match loads.after(load, s) {
+            Some(loads) => self.is_at(i, &loads, &items_with(items, s)),
             None => false,
         }
     }

@@ -1,14 +1,16 @@
 //! Lists of packed positions in one piece of memory.
 
 ghost use Rattle.std.specs.Prelude.{◌≡◌, ◌++◌, ◌∷◌, ◌<◌, ◌≤◌, [], length, slice_get, slice_index, OnOk, OnErr};
+ghost use Rattle.items.specs.Multiset.{IsMultiset};
+ghost use Rattle.loads.specs.Loads.{AreLoads};
 ghost use Rattle.loads.specs.Position.{position};
 ghost use Rattle.loads.specs.Packed.{ArePositionBytes, AreCut, LeadTo, position_in, positions_in};
 
-use crate::bytes::{pack, position_of, stand_for};
+use crate::bytes::{pack, position_of, put_position, stand_for, stand_for_after};
 use crate::earlier::EarlierPositions;
 use crate::position::Position;
 use crate::sorted_loads::Loads;
-use items::Items;
+use items::{Items, MOST_SIZE};
 use std::alloc::{AllocError, Global};
 use std::marker::Model;
 
@@ -75,6 +77,21 @@ impl PackedPositions {
         self.ends.push_reserved(self.bytes.len());
         Ok(())
     }
+
+    /// Puts the position of these loads and items, each given as a list, at the end. Where memory is refused, the list
+    /// stays as it was.
+    pub fn push_lists(&mut self, loads: &[u16], items: &[u16]) -> Result<(), AllocError>
+        requires loads { AreLoads loads.now }
+        requires items { IsMultiset MOST_SIZE items.now }
+        ensures ok { OnOk result (self.new ≡ self.old ++ position loads.now items.now ∷ []) }
+        ensures err { OnErr result (self.new ≡ self.old) }
+    {
+        self.ends.reserve(1)?;
+        self.bytes.reserve(1 + loads.len() + items.len())?;
+        put_position(&mut self.bytes, loads, items);
+        self.ends.push_reserved(self.bytes.len());
+        Ok(())
+    }
 }
 
 impl EarlierPositions for PackedPositions {
@@ -87,6 +104,14 @@ impl EarlierPositions for PackedPositions {
     fn is_at(&self, i: usize, loads: &Loads, items: &Items) -> bool {
         let ends = self.ends.as_slice();
         i < ends.len() && stand_for(piece(self.bytes.as_slice(), ends, i), loads, items)
+    }
+
+    fn is_after(&self, i: usize, loads: &Loads, items: &[u16], load: u16, s: u16) -> bool {
+        let ends = self.ends.as_slice();
+        if i >= ends.len() {
+            return false;
+        }
+        stand_for_after(piece(self.bytes.as_slice(), ends, i), loads, items, load, s)
     }
 }
 

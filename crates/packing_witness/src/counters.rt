@@ -1,11 +1,11 @@
 //! Counters of what is left of a multiset of items while bins are taken out of it.
 
-ghost use Rattle.std.specs.Prelude.{◌≡◌, ◌↔◌, ℕ, ◌≤◌, slice_index, All, IsTrue};
+ghost use Rattle.std.specs.Prelude.{◌≡◌, ◌↔◌, ℕ, ◌+◌, ◌*◌, ◌≤◌, ◌++◌, slice_index, All, IsTrue, length, replicate, sum};
 ghost use Rattle.std.specs.Bool.{OnTrue, OnFalse};
-ghost use Rattle.items.specs.Multiset.{count};
+ghost use Rattle.items.specs.Multiset.{IsSize, count};
 ghost use Rattle.packing_witness.specs.Counters.{TakesOut, CannotTakeOut, Empties};
 
-use items::{Items, MOST_SIZE, Nums};
+use items::{Items, MOST_SIZE, MOST_VOLUME, Nums};
 
 /// A counter for each size, and one for 0.
 pub const COUNTERS: usize = MOST_SIZE as usize + 1;
@@ -56,7 +56,30 @@ pub fn empties(left: &mut [u16; COUNTERS], bins: &[Nums], most: u16) -> bool
 }
 
 fn all_zero(counters: &[u16]) -> bool
+    requires { length counters.now ≤ COUNTERS }
     ensures { IsTrue result ↔ All (λ n. n ≡ 0) counters.now }
 {
-    counters.iter().all(|n| *n == 0)
+    total(counters) == 0
+}
+
+fn total(counters: &[u16]) -> u32
+    requires { length counters.now ≤ COUNTERS }
+    ensures { result ≡ sum counters.now }
+{
+    counters.iter().map(|n| u32::from(*n)).sum()
+}
+
+/// The counters of a list of items and `n` more of size `s`.
+pub fn counters_with(items: &[u16], s: u16, n: u16) -> [u16; COUNTERS]
+    requires items { All (IsSize MOST_SIZE) items.now }
+    requires size { IsSize MOST_SIZE s }
+    requires fits { sum items.now + n * s ≤ MOST_VOLUME }
+    ensures value { (size : ℕ) → slice_index result size ≡ count size (items.now ++ replicate n s) }
+{
+    let mut counters = [0; COUNTERS];
+    for item in items {
+        counters[*item as usize] += 1;
+    }
+    counters[s as usize] += n;
+    counters
 }

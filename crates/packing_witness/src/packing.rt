@@ -1,12 +1,14 @@
 //! Packings of items into bins.
 
-ghost use Rattle.std.specs.Prelude.{◌≡◌, ◌↔◌, [], ◌∷◌, ◌++◌, IsTrue, OnOk, OnErr, IfOk};
+ghost use Rattle.std.specs.Prelude.{◌≡◌, ◌↔◌, ◌+◌, ◌*◌, ◌≤◌, [], ◌∷◌, ◌++◌, IsTrue, OnOk, OnErr, IfOk};
+ghost use Rattle.std.specs.Prelude.{All, replicate, sum};
+ghost use Rattle.items.specs.Multiset.{IsSize};
 ghost use Rattle.items.specs.Packable.{IsPacking};
 ghost use Rattle.packing_witness.specs.Edits.{without, scaled, CanScale};
 
-use crate::counters::{counters_of, empties};
+use crate::counters::{counters_of, counters_with, empties};
 use crate::edits::{first_out, times};
-use items::{Game, Items, Nums, Sequence};
+use items::{Game, Items, MOST_SIZE, MOST_VOLUME, Nums, Sequence};
 use std::alloc::{AllocError, Global};
 use std::marker::Model;
 
@@ -97,6 +99,21 @@ impl Packing {
     {
         self.lists.len() == usize::from(game.m())
             && empties(&mut counters_of(items), self.lists.as_slice(), game.g())
+    }
+
+    /// Whether this is a packing of a list of items together with `n` more of size `s`. Takes no memory.
+    pub fn holds_list(&self, game: &Game, items: &[u16], s: u16, n: u16) -> bool
+        requires items { All (IsSize MOST_SIZE) items.now }
+        requires size { IsSize MOST_SIZE s }
+        requires fits { sum items.now + n * s ≤ MOST_VOLUME }
+        ensures exact { IsTrue result ↔ IsPacking game.now self.now (items.now ++ replicate n s) }
+    {
+        usize::from(game.m()) == self.lists.len()
+            && empties(
+                &mut counters_with(items, s, n),
+                self.lists.as_slice(),
+                game.g(),
+            )
     }
 
     // Puts copies of bins at the end. Where memory is refused, some of them may have been put there.

@@ -1,4 +1,4 @@
-pub mod Split
+pub mod FirstWord
 pub mod Numerals
 pub mod Lines
 pub mod Steps

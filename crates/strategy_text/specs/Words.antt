@@ -1,5 +1,5 @@
 -- Reading a line word by word. These definitions serve private contracts alone.
-use Rattle.std.specs.Prelude.{ℕ, ◌+◌, ◌-◌, ◌*◌, ◌&&◌, ◌==◌, nat_le, List, [], ◌∷◌, Option, Some, None, if◌then◌else◌}
+use Rattle.std.specs.Prelude.{ℕ, ◌+◌, ◌-◌, ◌*◌, ◌&&◌, ◌||◌, ◌==◌, Bool, false, nat_le, List, [], ◌∷◌, Option, Some, None, if◌then◌else◌}
 use Rattle.std.specs.Char.{is_ascii_digit}
 use Rattle.std.specs.Option.{option_map}
 use Rattle.std.specs.List.{slice_split}
@@ -10,10 +10,20 @@ abbrev pub words_left : Option (List ℕ) → List (List ℕ)
 words_left None = []
 words_left (Some bytes) = slice_split (λ b. b == 32) bytes
 
--- the next word before those of what is left after it, or no word
-abbrev pub words_from : Option (List ℕ) → Option (List ℕ) → List (List ℕ)
-words_from None rest = []
-words_from (Some word) rest = word ∷ words_left rest
+-- the bytes before the first space
+abbrev pub first_word : List ℕ → List ℕ
+first_word [] = []
+first_word (c ∷ cs) = if c == 32 then [] else c ∷ first_word cs
+
+-- what is left after the first space
+abbrev pub left_after : List ℕ → Option (List ℕ)
+left_after [] = None
+left_after (c ∷ cs) = if c == 32 then Some cs else left_after cs
+
+-- some byte is a space
+abbrev pub has_space : List ℕ → Bool
+has_space [] = false
+has_space (c ∷ cs) = (c == 32) || has_space cs
 
 -- the number up to a limit that digits and the number before them spell
 abbrev pub digits_after : ℕ → ℕ → List ℕ → Option ℕ

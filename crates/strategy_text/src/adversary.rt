@@ -11,6 +11,7 @@ ghost use Rattle.strategy_text.specs.Reading.{burst_at, step_at, adversary_at};
 
 use crate::node::{AdvNode, Format, Placement, Placements, Step, Then};
 use crate::position::{list, position};
+use crate::spare::Spare;
 use crate::stop::{LINE_BYTES, Stop};
 use crate::words::Words;
 use items::{Nums, Sequence};
@@ -157,10 +158,16 @@ fn step(alloc: Global, format: Format, words: &mut Words) -> Result<Step, Stop>
 
 /// A node of the adversary of this number.
 #[tactic(auto, unfolding(crate::specs::Reading::adversary_at))]
-fn adversary(alloc: Global, format: Format, words: &mut Words, number: u32) -> Result<AdvNode, Stop>
+fn adversary(
+    alloc: Global,
+    format: Format,
+    words: &mut Words,
+    number: u32,
+    spare: &mut Spare,
+) -> Result<AdvNode, Stop>
     ensures { Gives result (adversary_at format number words.old) }
 {
-    let (loads, items) = position(alloc, words, number)?;
+    let (loads, items) = position(words, number, spare)?;
     let step = step(alloc, format, words)?;
     if !words.is_at_end() {
         return Err(Stop::Form);
@@ -182,10 +189,26 @@ pub fn parse_adversary(
     ensures refused { IfOk result (λ read.
         IfNone read ((node : AdvNode) → SpellsNode format number line.now (of_adversary node) → ⊥)) }
 {
+    parse_adversary_in(alloc, format, line, number, &mut Spare::new(alloc))
+}
+
+/// What [`parse_adversary`] gives, with the loads and the items in lists that are used again.
+pub fn parse_adversary_in(
+    alloc: Global,
+    format: Format,
+    line: &[u8],
+    number: u32,
+    spare: &mut Spare,
+) -> Result<Option<AdvNode>, AllocError>
+    ensures spelled { IfOk result (λ read.
+        IfSome read (λ node. SpellsNode format number line.now (of_adversary node))) }
+    ensures refused { IfOk result (λ read.
+        IfNone read ((node : AdvNode) → SpellsNode format number line.now (of_adversary node) → ⊥)) }
+{
     if line.len() > LINE_BYTES {
         return Ok(None);
     }
-    match adversary(alloc, format, &mut Words::new(line), number) {
+    match adversary(alloc, format, &mut Words::new(line), number, spare) {
         Ok(node) => Ok(Some(node)),
         Err(Stop::Form) => Ok(None),
         Err(Stop::Memory) => Err(AllocError),

@@ -9,6 +9,7 @@ ghost use Rattle.strategy_text.specs.Reading.{reply_at, act_at, algorithm_at};
 
 use crate::node::{Act, AlgNode, Entries, Entry, Format};
 use crate::position::position;
+use crate::spare::Spare;
 use crate::stop::{LINE_BYTES, Stop};
 use crate::words::Words;
 use items::Sequence;
@@ -100,10 +101,16 @@ fn act(alloc: Global, format: Format, words: &mut Words) -> Result<Act, Stop>
 
 /// A node of the algorithm of this number.
 #[tactic(auto, unfolding(crate::specs::Reading::algorithm_at))]
-fn algorithm(alloc: Global, format: Format, words: &mut Words, number: u32) -> Result<AlgNode, Stop>
+fn algorithm(
+    alloc: Global,
+    format: Format,
+    words: &mut Words,
+    number: u32,
+    spare: &mut Spare,
+) -> Result<AlgNode, Stop>
     ensures { Gives result (algorithm_at format number words.old) }
 {
-    let (loads, items) = position(alloc, words, number)?;
+    let (loads, items) = position(words, number, spare)?;
     let act = act(alloc, format, words)?;
     if !words.is_at_end() {
         return Err(Stop::Form);
@@ -125,10 +132,26 @@ pub fn parse_algorithm(
     ensures refused { IfOk result (λ read.
         IfNone read ((node : AlgNode) → SpellsNode format number line.now (of_algorithm node) → ⊥)) }
 {
+    parse_algorithm_in(alloc, format, line, number, &mut Spare::new(alloc))
+}
+
+/// What [`parse_algorithm`] gives, with the loads and the items in lists that are used again.
+pub fn parse_algorithm_in(
+    alloc: Global,
+    format: Format,
+    line: &[u8],
+    number: u32,
+    spare: &mut Spare,
+) -> Result<Option<AlgNode>, AllocError>
+    ensures spelled { IfOk result (λ read.
+        IfSome read (λ node. SpellsNode format number line.now (of_algorithm node))) }
+    ensures refused { IfOk result (λ read.
+        IfNone read ((node : AlgNode) → SpellsNode format number line.now (of_algorithm node) → ⊥)) }
+{
     if line.len() > LINE_BYTES {
         return Ok(None);
     }
-    match algorithm(alloc, format, &mut Words::new(line), number) {
+    match algorithm(alloc, format, &mut Words::new(line), number, spare) {
         Ok(node) => Ok(Some(node)),
         Err(Stop::Form) => Ok(None),
         Err(Stop::Memory) => Err(AllocError),

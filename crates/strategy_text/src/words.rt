@@ -1,52 +1,42 @@
 //! The words of a line, from left to right.
 
-ghost use Rattle.std.specs.Prelude.{◌≡◌, ◌≤◌, ◌==◌, ◌∷◌, Some, length, MatchBool, MatchOption, IfSome, position};
+ghost use Rattle.std.specs.Prelude.{◌≡◌, ◌<◌, ◌≤◌, ◌==◌, ◌+◌, ◌↔◌, [], IsTrue, None, Some, false, drop, length};
+ghost use Rattle.std.specs.Prelude.{slice_index, MatchBool, MatchOption, IfSome};
 ghost use Rattle.std.specs.Option.{option_copied};
-ghost use Rattle.strategy_text.specs.Words.{words_left, digits_after, number_of, after, number_at};
+ghost use Rattle.strategy_text.specs.Words.{words_left, digits_after, number_of, after, number_at, first_word, left_after};
+ghost use Rattle.strategy_text.specs.Words.{has_space};
 
 use std::marker::Model;
 
-/// What is left of a line, read word by word. The next word is kept, so each word is cut once.
+/// What is left of a line, read word by word: nothing after its last word. Each byte is read once.
 #[derive(Drop)]
 pub(crate) struct Words<'a> {
-    next: Option<&'a [u8]>,
     rest: Option<&'a [u8]>,
 }
 
 impl<'a> Model for Words<'a> {
     ghost use Rattle.std.specs.Prelude.{ℕ, List};
     ghost use Rattle.std.specs.Option.{option_copied};
-    ghost use Rattle.strategy_text.specs.Words.{words_from};
+    ghost use Rattle.strategy_text.specs.Words.{words_left};
 
     ghost Value = { List (List ℕ) };
 
-    ghost view = { λ a. words_from (option_copied a.next) (option_copied a.rest) };
+    ghost view = { λ a. words_left (option_copied a.rest) };
 }
 
-/// The place of the first space.
-fn space(bytes: &[u8]) -> Option<usize>
-    ensures { result ≡ position (λ b. b == 32) bytes.now }
-{
-    bytes.iter().position(|b| *b == b' ')
-}
-
-/// The first word, and what is left after it.
-fn first_word(bytes: &[u8]) -> (&[u8], Option<&[u8]>)
-    ensures { words_left (Some bytes.now) ≡ result.0.now ∷ words_left (option_copied result.1) }
-{
-    match space(bytes) {
-        None => (bytes, None),
-        Some(i) => (&bytes[..i], Some(&bytes[i + 1..])),
-    }
-}
-
-/// The value of decimal digits that is at most a limit.
-fn digits(word: &[u8], high: u32) -> Option<u32>
-    ensures exact { result ≡ digits_after high 0 word.now }
-    ensures low { IfSome result (λ n. n ≤ high) }
+/// The value of the decimal digits that are the first word, and the word's length; None where it has another byte, or
+/// its value is above a limit.
+fn digits(bytes: &[u8], high: u32) -> Option<(u32, usize)>
+    ensures exact { MatchOption result
+        (digits_after high 0 (first_word bytes.now) ≡ None)
+        (λ x. (digits_after high 0 (first_word bytes.now) ≡ Some x.0) × (x.1 ≡ length (first_word bytes.now))) }
+    ensures low { IfSome result (λ x. x.0 ≤ high) }
 {
     let mut value = 0;
-    for b in word {
+    for (i, b) in bytes.iter().enumerate() {
+        if *b == b' ' {
+            return Some((value as u32, i));
+        }
         if !b.is_ascii_digit() {
             return None;
         }
@@ -55,69 +45,116 @@ fn digits(word: &[u8], high: u32) -> Option<u32>
             return None;
         }
     }
-    Some(value as u32)
+    Some((value as u32, bytes.len()))
 }
 
-/// The number up to a limit that a word spells: digits without a leading zero.
-#[tactic(auto, unfolding(crate::specs::Words::number_of))]
-fn number_of(word: &[u8], high: u32) -> Option<u32>
-    ensures exact { result ≡ number_of high word.now }
-    ensures low { IfSome result (λ n. n ≤ high) }
+/// The number up to a limit that the first word spells, in digits without a leading zero, and the word's length.
+fn first_number(bytes: &[u8], high: u32) -> Option<(u32, usize)>
+    ensures exact { MatchOption result
+        (number_of high (first_word bytes.now) ≡ None)
+        (λ x. (number_of high (first_word bytes.now) ≡ Some x.0) × (x.1 ≡ length (first_word bytes.now))) }
+    ensures low { IfSome result (λ x. x.0 ≤ high) }
 {
-    match word {
-        [] => None,
-        [b'0', _, ..] => None,
-        _ => digits(word, high),
+    let Some((n, end)) = digits(bytes, high) else {
+        return None;
+    };
+    if end == 0 {
+        return None;
+    }
+    if is_led_by_zero(bytes, end) {
+        return None;
+    }
+    Some((n, end))
+}
+
+/// Whether a word of this length, with which the bytes begin, has a zero before other bytes.
+fn is_led_by_zero(bytes: &[u8], end: usize) -> bool
+    requires { end ≤ length bytes.now }
+    ensures { IsTrue result ↔ (1 < end) × (slice_index bytes.now 0 ≡ 48) }
+{
+    end > 1 && bytes[0] == b'0'
+}
+
+/// Whether the first word is this one.
+fn is_first(bytes: &[u8], word: &[u8]) -> bool
+    requires { has_space word.now ≡ false }
+    ensures exact { IsTrue result ↔ (first_word bytes.now ≡ word.now) }
+{
+    if bytes.len() < word.len() {
+        return false;
+    }
+    for (i, b) in word.iter().enumerate() {
+        if bytes[i] != *b {
+            return false;
+        }
+    }
+    is_word_end(bytes, word.len())
+}
+
+/// Whether a word ends at this place.
+fn is_word_end(bytes: &[u8], end: usize) -> bool
+    requires { end ≤ length bytes.now }
+    ensures exact { IsTrue result ↔ (first_word (drop end bytes.now) ≡ []) }
+{
+    if end == bytes.len() {
+        return true;
+    }
+    bytes[end] == b' '
+}
+
+/// What is left after the first word, which has this length.
+fn past_first(bytes: &[u8], end: usize) -> Option<&[u8]>
+    requires { end ≡ length (first_word bytes.now) }
+    ensures { option_copied result ≡ left_after bytes.now }
+{
+    if end < bytes.len() {
+        Some(&bytes[end + 1..])
+    } else {
+        None
     }
 }
 
 impl<'a> Words<'a> {
-    /// The words of what is left of a line, of which nothing is left after its last word.
-    fn of_rest(rest: Option<&'a [u8]>) -> Self
-        ensures { result ≡ words_left (option_copied rest.entry) }
-    {
-        let Some(bytes) = rest else {
-            return Words {
-                next: None,
-                rest: None,
-            };
-        };
-        let (first, rest) = first_word(bytes);
-        Words {
-            next: Some(first),
-            rest,
-        }
-    }
-
     /// The words of a line.
     pub(crate) fn new(line: &'a [u8]) -> Self
         ensures { result ≡ words_left (Some line.now) }
     {
-        Words::of_rest(Some(line))
+        Words { rest: Some(line) }
+    }
+
+    /// The same words.
+    pub(crate) fn copy(&self) -> Words<'a>
+        ensures { result ≡ self.now }
+    {
+        Words { rest: self.rest }
     }
 
     /// Whether no word is left.
     pub(crate) fn is_at_end(&self) -> bool
         ensures { result ≡ (length self.now == 0) }
     {
-        self.next.is_none()
+        match self.rest {
+            None => true,
+            Some(_) => false,
+        }
     }
 
     /// Takes the next word if it is this one.
     #[tactic(auto, unfolding(crate::specs::Words::after))]
     pub(crate) fn accept(&mut self, word: &[u8]) -> bool
+        requires { has_space word.now ≡ false }
         ensures { MatchBool result
             (after word.now self.old ≡ Some self.new)
             ((after word.now self.old ≡ None) × (self.new ≡ self.old)) }
     {
-        let Some(next) = self.next else {
+        let Some(bytes) = self.rest else {
             return false;
         };
-        if next == word {
-            *self = Words::of_rest(self.rest);
-            return true;
+        if !is_first(bytes, word) {
+            return false;
         }
-        false
+        self.rest = past_first(bytes, word.len());
+        true
     }
 
     /// Takes the next word if it is a number up to a limit.
@@ -128,8 +165,13 @@ impl<'a> Words<'a> {
             (λ n. number_at high self.old ≡ Some (n, self.new)) }
         ensures low { IfSome result (λ n. n ≤ high) }
     {
-        let n = number_of(self.next?, high)?;
-        *self = Words::of_rest(self.rest);
+        let Some(bytes) = self.rest else {
+            return None;
+        };
+        let Some((n, end)) = first_number(bytes, high) else {
+            return None;
+        };
+        self.rest = past_first(bytes, end);
         Some(n)
     }
 

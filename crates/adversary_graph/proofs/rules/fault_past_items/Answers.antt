@@ -3,6 +3,7 @@ use Rattle.std.proofs.lemmas.Bool.{false≢true}
 use Rattle.items.specs.Multiset.{IsSize}
 use Rattle.adversary_graph.specs.NodeRules as the
 use Rattle.std.proofs.lemmas.List.Elements.{All-contains}
+use Rattle.adversary_graph.proofs.RuleLemmas.{multiset_of_loads}
 use Rattle.adversary_graph.proofs.rules.fault_past_items.Goals as goal
 
 pub returns-then-not-contains : goal.returns-then-not-contains
@@ -13,12 +14,6 @@ pub returns-then-not-is_long_enough : goal.returns-then-not-is_long_enough
 returns-then-not-is_long_enough g c =
     let send = rw c.sent_size.ensures at (c.if-not-contains.ensures.exact.0 refl) in
     record { exact = (the.burst, refl, inr (send, inl (refl, λ h. false≢true (c.if-not-is_long_enough.ensures.1 h)))) }
-
-pub all_items-all-requires : goal.all_items-all-requires
-all_items-all-requires g c =
-    let send = rw c.sent_size.ensures at (c.if-not-contains.ensures.exact.0 refl) in
-    let size = All-contains (IsSize c.args.game.now.capacity) c.args.sizes.now _ c.requires.sizes send in
-    record { low = size.low; high = omega (arith, size.high, c.game_is_legal.ensures.capacity.high) }
 
 pub returns-then-not-is_packed : goal.returns-then-not-is_packed
 returns-then-not-is_packed g c =
@@ -50,8 +45,8 @@ returns-then-not-leads_to_children g c =
     let over = c.if-not-is_over_at_target.ensures.0 refl in
     record { exact = (the.child, refl, inr (send, inr (burst, inr (pack, inr (placements, inr (over, inl (refl, λ h. false≢true (c.if-not-leads_to_children.ensures.1 h)))))))) }
 
-pub returns-then-not-is_empty : goal.returns-then-not-is_empty
-returns-then-not-is_empty g c =
+pub returns-then-not-is_root : goal.returns-then-not-is_root
+returns-then-not-is_root g c =
     let send = rw c.sent_size.ensures at (c.if-not-contains.ensures.exact.0 refl) in
     let burst = c.if-not-is_long_enough.ensures.0 refl in
     let pack = c.if-not-is_packed.ensures.0 refl in
@@ -76,7 +71,7 @@ returns-then-not-is_empty g c =
                     child,
                     inl (
                       refl,
-                      λ h. false≢true (c.if-not-is_empty.ensures.exact.1 (h c.if-last.true)),
+                      λ h. false≢true (c.if-not-is_root.ensures.exact.1 (h c.if-last.true)),
                     ),
                   ),
                 ),
@@ -86,3 +81,23 @@ returns-then-not-is_empty g c =
         ),
       );
     }
+
+pub is_packed-requires-clause-items : goal.is_packed-requires-clause-items
+is_packed-requires-clause-items g c =
+    multiset_of_loads c.args.game.now c.args.sizes.now c.args.loads.now c.args.items.now c.game_is_legal.ensures c.requires.sizes c.requires.loads c.requires.items
+
+pub leads_to_children-requires-clause-items : goal.leads_to_children-requires-clause-items
+leads_to_children-requires-clause-items g c =
+    multiset_of_loads c.args.game.now c.args.sizes.now c.args.loads.now c.args.items.now c.game_is_legal.ensures c.requires.sizes c.requires.loads c.requires.items
+
+pub is_packed-requires-clause-size : goal.is_packed-requires-clause-size
+is_packed-requires-clause-size g c =
+    let send = rw c.sent_size.ensures at (c.if-not-contains.ensures.exact.0 refl) in
+    let size = All-contains (IsSize c.args.game.now.capacity) c.args.sizes.now _ c.requires.sizes send in
+    record { low = size.low; high = omega (arith, size.high, c.game_is_legal.ensures.capacity.high) }
+
+pub leads_to_children-requires-clause-size : goal.leads_to_children-requires-clause-size
+leads_to_children-requires-clause-size g c =
+    let send = rw c.sent_size.ensures at (c.if-not-contains.ensures.exact.0 refl) in
+    let size = All-contains (IsSize c.args.game.now.capacity) c.args.sizes.now _ c.requires.sizes send in
+    record { low = size.low; high = omega (arith, size.high, c.game_is_legal.ensures.capacity.high) }

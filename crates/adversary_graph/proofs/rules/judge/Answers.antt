@@ -1,40 +1,8 @@
-use Rattle.std.proofs.Common.{inl, inr, refl}
-use Rattle.adversary_graph.specs.NodeRules as the
+use Rattle.loads.proofs.LoadsLemmas.{multiset_from_items}
 use Rattle.adversary_graph.proofs.rules.judge.Goals as goal
 
-pub returns-in_default : goal.returns-in_default
-returns-in_default g c =
-    record { exact = (the.loads, refl, inl (refl, λ h. c.in_default.ensures.exact (rw c.as_slice-loads.ensures.value h))) }
-
-pub returns-in_default-items_of : goal.returns-in_default-items_of
-returns-in_default-items_of g c =
-    let loads = rw c.as_slice-loads.ensures.value at c.in-Some.ensures.exact.1 in
-    record {
-      exact = (
-        the.items,
-        refl,
-        inr (
-          loads,
-          inl (
-            refl,
-            λ h. c.in_default-items_of.ensures.exact (rw (
-              c.in-Some.ensures.exact.0,
-              c.as_slice-loads.ensures.value,
-              c.as_slice.ensures.value,
-            ) h),
-          ),
-        ),
-      );
-    }
-
-pub returns-in-Some-fault_past_items : goal.returns-in-Some-fault_past_items
-returns-in-Some-fault_past_items g c =
-    let loads = rw c.as_slice-loads.ensures.value at c.in-Some.ensures.exact.1 in
-    let items = rw (c.in-Some.ensures.exact.0, c.as_slice-loads.ensures.value, c.as_slice.ensures.value) at c.in-Some-items_of.ensures.exact.1 in
-    let past = rw (
-      c.in-Some-items_of.ensures.exact.0,
-      c.in-Some.ensures.exact.0,
-      c.as_slice-loads.ensures.value,
-      c.as_slice.ensures.value,
-    ) at c.in-Some-fault_past_items.ensures.exact in
-    record { exact = (past.0, past.1, inr (loads, inr (items, past.2))) }
+pub position_of-requires : goal.position_of-requires
+position_of-requires g c =
+    let node = c.args.node.now in
+    let m = c.in-None.ensures.exact in
+    record { loads = m.0; items = multiset_from_items c.args.game.now c.args.sizes.now node.loads node.items c.game_is_legal.ensures c.requires.sizes m.0 m.1.0 }

@@ -11,7 +11,7 @@ leads_to_child-requires-clause-placed g c =
     let i = c.loop-placement.placement-index in
     let within : i < length (map (λ (placement : Placement). placement.load) places) = omega (arith, length-map places (λ (placement : Placement). placement.load)) in
     rw (get_or-map (λ (placement : Placement). placement.load) places i (record { load = 0; next = Over }) 0 c.loop-placement-test.true) at
-    (placed_load c.args.position.now.loads _ i 0 c.requires.placed within)
+    (placed_load c.args.loads.now _ i 0 c.requires.placed within)
 
 pub returns : goal.returns
 returns g c =

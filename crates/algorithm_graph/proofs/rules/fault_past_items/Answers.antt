@@ -1,14 +1,16 @@
 use Rattle.std.proofs.Common.{inl, inr, refl, sym, ◌∙◌, subst, List}
 use Rattle.std.specs.List.{All}
 use Rattle.std.specs.Prelude.{IsTrue}
-use Rattle.loads.specs.Position.{IsEmptyPosition}
+use Rattle.loads.specs.Position.{IsEmptyPosition, position}
 use Rattle.std.proofs.lemmas.Bool.{false≢true}
 use Rattle.strategy_text.specs.declared.node.Entry.{Entry}
 use Rattle.algorithm_graph.specs.Judging.{node_at, LeadsOn, HasSize}
 use Rattle.algorithm_graph.specs.Rules.{NamesLoad}
 use Rattle.algorithm_graph.specs.Rules as the
 use Rattle.algorithm_graph.proofs.SizesLemmas.{entries_of_have_sizes}
-use Rattle.algorithm_graph.proofs.rules.fault_past_items.Goals.{else-last-via-then-last+else-not-is_empty, else-last-via-else-last}
+use Rattle.algorithm_graph.proofs.rules.fault_past_items.Goals.{else-last-via-then-last+else-not-is_root, else-last-via-else-last}
+use Rattle.loads.proofs.LoadsLemmas.{multiset_from_items}
+use Rattle.algorithm_graph.proofs.RuleLemmas.{multiset_of_loads}
 use Rattle.algorithm_graph.proofs.rules.fault_past_items.Goals as goal
 
 pub returns-then-not-finishes_if_said : goal.returns-then-not-finishes_if_said
@@ -45,7 +47,7 @@ returns-then-not-name_loads g c =
                 refl,
                 λ h.
                     false≢true (c.if-not-name_loads.ensures.1
-                    (subst (λ (es : List Entry). All (NamesLoad c.args.game.now c.args.position.now.loads) es) (sym c.entries_of-entries.ensures) h)),
+                    (subst (λ (es : List Entry). All (NamesLoad c.args.game.now c.args.loads.now) es) (sym c.entries_of-entries.ensures) h)),
               ),
             ),
           ),
@@ -59,7 +61,7 @@ returns-then-not-lead_to_children g c =
     let big = c.if-not-big_finishes_if_said.ensures.0 refl in
     let replies = c.in_ok-replies_if_said.ensures.0 c.if-not-branch.false in
     let reply =
-    subst (λ (es : List Entry). All (NamesLoad c.args.game.now c.args.position.now.loads) es) c.entries_of-entries.ensures
+    subst (λ (es : List Entry). All (NamesLoad c.args.game.now c.args.loads.now) es) c.entries_of-entries.ensures
     (c.if-not-name_loads.ensures.0 refl) in
     record {
       exact = (
@@ -77,7 +79,7 @@ returns-then-not-lead_to_children g c =
                   refl,
                   λ h.
                       false≢true (c.if-not-lead_to_children.ensures.exact.1
-                      (subst (λ (es : List Entry). All (LeadsOn (g.E.EarlierPositions.positions c.args.earlier.now) c.args.position.now) es)
+                      (subst (λ (es : List Entry). All (LeadsOn (g.E.EarlierPositions.positions c.args.earlier.now) (position c.args.loads.now c.args.items.now)) es)
                       (sym c.entries_of-entries.ensures) h)),
                 ),
               ),
@@ -87,16 +89,16 @@ returns-then-not-lead_to_children g c =
       );
     }
 
-pub returns-then-not-is_empty : goal.returns-then-not-is_empty
-returns-then-not-is_empty g c =
+pub returns-then-not-is_root : goal.returns-then-not-is_root
+returns-then-not-is_root g c =
     let finish = c.if-not-finishes_if_said.ensures.0 refl in
     let big = c.if-not-big_finishes_if_said.ensures.0 refl in
     let replies = c.in_ok-replies_if_said.ensures.0 c.if-not-branch.false in
     let reply =
-    subst (λ (es : List Entry). All (NamesLoad c.args.game.now c.args.position.now.loads) es) c.entries_of-entries.ensures
+    subst (λ (es : List Entry). All (NamesLoad c.args.game.now c.args.loads.now) es) c.entries_of-entries.ensures
     (c.if-not-name_loads.ensures.0 refl) in
     let child =
-    subst (λ (es : List Entry). All (LeadsOn (g.E.EarlierPositions.positions c.args.earlier.now) c.args.position.now) es)
+    subst (λ (es : List Entry). All (LeadsOn (g.E.EarlierPositions.positions c.args.earlier.now) (position c.args.loads.now c.args.items.now)) es)
     c.entries_of-entries.ensures (c.if-not-lead_to_children.ensures.exact.0 refl) in
     record {
       exact = (
@@ -115,7 +117,7 @@ returns-then-not-is_empty g c =
                   inl (
                     refl,
                     λ h.
-                        false≢true (c.if-not-is_empty.ensures.exact.1 (h c.if-last.true)),
+                        false≢true (c.if-not-is_root.ensures.exact.1 (h c.if-last.true)),
                   ),
                 ),
               ),
@@ -129,7 +131,7 @@ pub lead_to_children-requires-clause-sizes : goal.lead_to_children-requires-clau
 lead_to_children-requires-clause-sizes g c =
     let replies = c.in_ok-replies_if_said.ensures.0 c.if-not-branch.false in
     subst (λ (es : List Entry). All (HasSize c.args.game.now) es) (sym c.entries_of-entries.ensures)
-    (entries_of_have_sizes c.args.game.now c.args.sizes.now (node_at c.args.position.now c.args.act.now) c.args.act.now c.requires.sizes replies)
+    (entries_of_have_sizes c.args.game.now c.args.sizes.now (node_at (position c.args.loads.now c.args.items.now) c.args.act.now) c.args.act.now c.requires.sizes replies)
 
 pub lead_to_children-requires-clause-named : goal.lead_to_children-requires-clause-named
 lead_to_children-requires-clause-named g c = c.if-not-name_loads.ensures.0 refl
@@ -140,13 +142,25 @@ returns g c =
     let big = c.if-not-big_finishes_if_said.ensures.0 refl in
     let replies = c.in_ok-replies_if_said.ensures.0 c.if-not-branch.false in
     let reply =
-    subst (λ (es : List Entry). All (NamesLoad c.args.game.now c.args.position.now.loads) es) c.entries_of-entries.ensures
+    subst (λ (es : List Entry). All (NamesLoad c.args.game.now c.args.loads.now) es) c.entries_of-entries.ensures
     (c.if-not-name_loads.ensures.0 refl) in
     let child =
-    subst (λ (es : List Entry). All (LeadsOn (g.E.EarlierPositions.positions c.args.earlier.now) c.args.position.now) es)
+    subst (λ (es : List Entry). All (LeadsOn (g.E.EarlierPositions.positions c.args.earlier.now) (position c.args.loads.now c.args.items.now)) es)
     c.entries_of-entries.ensures (c.if-not-lead_to_children.ensures.exact.0 refl) in
-    let root = elim c.else-last.branch as (λ _. IsTrue c.args.last → IsEmptyPosition c.args.position.now) [
-      | else-last-via-then-last+else-not-is_empty w ↦ λ _. w.is_empty.ensures.exact.0 w.if-not-is_empty.false
+    let root = elim c.else-last.branch as (λ _. IsTrue c.args.last → IsEmptyPosition (position c.args.loads.now c.args.items.now)) [
+      | else-last-via-then-last+else-not-is_root w ↦ λ _. w.is_root.ensures.exact.0 w.if-not-is_root.false
       | else-last-via-else-last w ↦ λ h. absurd (false≢true (sym w.if-last.false ∙ h))
     ] in
     record { exact = (finish, (big, (replies, (reply, (child, (root, tt)))))) }
+
+pub big_finishes_if_said-requires : goal.big_finishes_if_said-requires
+big_finishes_if_said-requires g c =
+    multiset_from_items c.args.game.now c.args.sizes.now c.args.loads.now c.args.items.now c.game_is_legal.ensures c.requires.sizes c.requires.loads c.requires.items
+
+pub replies_if_said-requires : goal.replies_if_said-requires
+replies_if_said-requires g c =
+    (multiset_from_items c.args.game.now c.args.sizes.now c.args.loads.now c.args.items.now c.game_is_legal.ensures c.requires.sizes c.requires.loads c.requires.items).sizes
+
+pub lead_to_children-requires-clause-items : goal.lead_to_children-requires-clause-items
+lead_to_children-requires-clause-items g c =
+    multiset_of_loads c.args.game.now c.args.sizes.now c.args.loads.now c.args.items.now c.game_is_legal.ensures c.requires.sizes c.requires.loads c.requires.items

@@ -1,4 +1,5 @@
 use Rattle.std.proofs.Common.{sym, ap, ◌∙◌, subst}
+use Rattle.loads.specs.Position.{position}
 use Rattle.algorithm_graph.specs.Rules.{RepliesIfSaid}
 use Rattle.algorithm_graph.specs.Judging.{node_at, sizes_in}
 use Rattle.algorithm_graph.proofs.SizesLemmas.{replies_from_sizes, sizes_from_replies}
@@ -8,11 +9,11 @@ pub returns-in_ok-room-in-Reply : goal.returns-in_ok-room-in-Reply
 returns-in_ok-room-in-Reply c =
     let game = c.args.game.now in
     let sizes = c.args.sizes.now in
-    let items = c.args.position.now.items in
+    let items = c.args.items.now in
     let entries = c.in-Reply.entries in
     let room = c.in_ok-room-in-Reply.room in
     let law = c.in_ok-room-in-Reply.ensures in
-    let node = node_at c.args.position.now c.args.act.now in (
+    let node = node_at (position c.args.loads.now c.args.items.now) c.args.act.now in (
       λ h. subst (RepliesIfSaid game sizes node) (sym c.in-Reply.is)
           (replies_from_sizes game sizes items entries room law (ap sizes_in (sym c.as_slice.ensures.value) ∙ c.are_sizes_up_to.ensures.0 h)),
       λ r. c.are_sizes_up_to.ensures.1 (ap sizes_in c.as_slice.ensures.value

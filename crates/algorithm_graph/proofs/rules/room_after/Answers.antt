@@ -7,6 +7,6 @@ use Rattle.algorithm_graph.proofs.rules.room_after.Goals as goal
 pub returns : goal.returns
 returns c =
     let items = c.args.items.now in
-    let all = take_all c.loop-item.item-index items (omega (arith, ap length c.as_slice-item-items.ensures.value, ap length c.in_ok-list.ensures.ok)) in
+    let all = take_all c.loop-item.item-index items (omega arith) in
     let is : c.loop-item.reach ≡ sent c.args.game.now items = c.loop-item.invariant ∙ ap (sent c.args.game.now) all in
     subst (λ (s : ItemsSent). HaveRoom s.game s.items c.room.result) is c.room.ensures.law

@@ -1,6 +1,9 @@
-use Rattle.std.proofs.Common.{◌≡◌, ◌≤◌, drop}
-use Rattle.strategy_text.specs.Words.{digits_after}
+use Rattle.std.proofs.Common.{◌≤◌, drop}
+use Rattle.strategy_text.proofs.FirstWord.{DigitsUpTo}
 use Rattle.strategy_text.proofs.words.digits.Given as goal
 
-abbrev pub invariant-loop-b : goal.invariant-loop-b
-invariant-loop-b l = (digits_after l.high l.value (drop l.b-index l.word) ≡ digits_after l.high 0 l.word) × (l.value ≤ l.high)
+abbrev pub invariant-loop-i : goal.invariant-loop-i
+invariant-loop-i l = record {
+  so_far : DigitsUpTo l.high l.value l.i (drop l.i l.bytes) l.bytes;
+  small : l.value ≤ l.high;
+}
