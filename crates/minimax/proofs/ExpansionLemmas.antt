@@ -1,8 +1,8 @@
 -- That there are no more nodes than visits, along the parts of an expansion.
-use Rattle.std.proofs.Common.{◌≡◌, ℕ, ◌+◌, ◌-◌, ◌<◌, ◌≤◌, Some, List, [], ◌∷◌, ◌++◌, refl, sym, ap, subst, inl, inr, arith}
+use Rattle.std.proofs.Common.{◌≡◌, ℕ, ◌+◌, ◌-◌, ◌<◌, ◌≤◌, Some, List, [], ◌∷◌, ◌++◌, length, refl, sym, ap, subst, inl, inr, arith}
 use Rattle.std.specs.Prelude.{All, IsTrue}
 use Rattle.std.proofs.lemmas.Bool.{cases_lt}
-use Rattle.std.proofs.lemmas.List.Elements.{All-push, All-weaker, All-contains}
+use Rattle.std.proofs.lemmas.List.Elements.{All-push, All-weaker}
 use Rattle.items.specs.Game.{GameNumbers, IsGame}
 use Rattle.items.specs.Packable.{Packable}
 use Rattle.good_situations.specs.Finish.{Finishes}
@@ -17,50 +17,54 @@ use Rattle.transposition.specs.Bounded.{SameEntries}
 use Rattle.transposition.specs.Memo.{verdict_of}
 use Rattle.transposition.specs.declared.verdict.Verdict.{Verdict}
 use Rattle.transposition.specs.declared.verdict.Verdict.TheVariants.{Adversary, Algorithm, Held}
-use Rattle.minimax.specs.Naming.{PutsNamed}
-use Rattle.minimax.specs.State.{HasTried, IsNoWin, IsPlayable, IsTold, PutsOnly, PutsWin, Tells, allowed_by, kept_of, reached_by}
+use Rattle.minimax.specs.State.{HasTried, IsNoWin, IsPlayable, IsTold, KeepsReply, PutsOnly, PutsWin, Tells, allowed_by, kept_of, reached_by}
 use Rattle.minimax.specs.declared.expanding.Search.{Search}
 use Rattle.minimax.specs.declared.expanding.Tried.TheVariants.{Answered}
 use Rattle.minimax.specs.declared.expanding.Weighed.TheVariants.{NoReply}
 use Rattle.minimax.specs.declared.table.Told.{Told}
 use Rattle.minimax.specs.Serving.{AreTried, IsBehind, IsEntryServed, IsFirstServed, IsServed, IsServedAt, IsServedBy, IsServedFor, IsSizeTried, IsSkipped}
-use Rattle.minimax.specs.Serving.{IsTriedBefore, KeepsServing, KeepsServingTold, Serving, led_to, taken_by}
+use Rattle.minimax.specs.Serving.{IsTriedBefore, KeepsServing, KeepsServingTold, led_to, taken_by}
 use Rattle.minimax.specs.declared.finish_nodes.TheConstants.{FINISHES}
 use Rattle.minimax.proofs.FinishLemmas.{IsNeverWon-finish}
-use Rattle.minimax.proofs.NamingLemmas.{Stays-all}
 use Rattle.minimax.proofs.PlayableLemmas.{IsPlayable-after}
-use Rattle.minimax.proofs.ServingLemmas.{AreUnder-counted, AreUnder-reply, AreUnder-win, IsBehind-less, IsBehind-put, IsBehind-same}
-use Rattle.minimax.proofs.ServingLemmas.{Serving-refl, serves_all, serves_finish}
+use Rattle.minimax.proofs.ServingLemmas.{AreServed-put, AreServed-reply, AreServed-same, IsBehind-less, Serving-refl, serves_finish}
+use Rattle.minimax.specs.declared.replies.Reply.{Reply}
+use Rattle.std.proofs.lemmas.List.{length_push}
 
 -- ---- the parts of an expansion
 
 -- a visit, a decision, and the verdict put
-pub serves_expanded : (game : GameNumbers) (s0 s2 : Search) (meter : Metered) (next : Visit) (position : Position) (e0 e1 e2 e3 : List (Position × Verdict)) (verdict : Verdict)
-    → meter ≡ counted s0.meter next → SameEntries are_equal e0 e1
-    → KeepsServing game 1 (record s0 { meter = meter }) e1 s2 e2 (λ later. IsServedBy game later s2 position verdict) → PutsOnly e2 e3 position verdict
-    → KeepsServing game 0 s0 e0 s2 e3 (λ later. IsServedBy game later s2 position verdict)
+pub serves_expanded : (game : GameNumbers) (s0 s2 : Search) (meter : Metered) (next : Visit) (position : Position) (e0 e1 e2 e3 : List (Position × Verdict))
+    (verdict : Verdict) → meter ≡ counted s0.meter next → SameEntries are_equal e0 e1
+    → KeepsServing game 1 (record s0 { meter = meter }) e1 s2 e2 (λ later. IsServedBy game later position verdict) → PutsOnly e2 e3 position verdict
+    → KeepsServing game 0 s0 e0 s2 e3 (λ later. IsServedBy game later position verdict)
 serves_expanded game s0 s2 meter next position e0 e1 e2 e3 verdict e same serves puts spare unnamed behind =
-    let before = IsBehind-same game spare unnamed s0 e0 e1 same (IsBehind-less game (0 + spare) spare unnamed s0 e0 (omega arith) behind) in
-    let h = serves spare unnamed (AreUnder-counted spare unnamed s0.meter meter next s0.wins.nodes s0.replies.nodes s0.finishes e before.0, before.1) in
-    record { later = h.later; behind = IsBehind-put game spare h.later s2 e2 e3 position verdict puts h.more h.behind; keeps = h.keeps; more = h.more }
+    let one : meter.count ≡ s0.meter.count + 1 = ap (λ m. m.count) e in
+    let h = serves spare unnamed (omega (arith, behind.0, one), AreServed-same game unnamed s0.replies e0 e1 same behind.1) in
+    record {
+      later = h.later;
+      behind = (h.behind.0, AreServed-put game h.later s2.replies e2 e3 position verdict puts h.more h.behind.1);
+      keeps = h.keeps;
+      more = h.more;
+    }
 
 -- a visit of a position that finishes
-pub serves_finished : (game : GameNumbers) (s0 : Search) (meter : Metered) (next : Visit) (position : Position) (e0 e1 e2 : List (Position × Verdict)) → meter ≡ counted s0.meter next
-    → SameEntries are_equal e0 e1 → PutsOnly e1 e2 position (Algorithm FINISHES)
-    → KeepsServing game 0 s0 e0 (record s0 { meter = meter }) e2 (λ later. IsServedBy game later s0 position (Algorithm FINISHES))
+pub serves_finished : (game : GameNumbers) (s0 : Search) (meter : Metered) (next : Visit) (position : Position) (e0 e1 e2 : List (Position × Verdict))
+    → meter ≡ counted s0.meter next → SameEntries are_equal e0 e1 → PutsOnly e1 e2 position (Algorithm FINISHES)
+    → KeepsServing game 0 s0 e0 (record s0 { meter = meter }) e2 (λ later. IsServedBy game later position (Algorithm FINISHES))
 serves_finished game s0 meter next position e0 e1 e2 e same puts spare unnamed behind =
-    let before = IsBehind-same game spare unnamed s0 e0 e1 same (IsBehind-less game (0 + spare) spare unnamed s0 e0 (omega arith) behind) in
+    let one : meter.count ≡ s0.meter.count + 1 = ap (λ m. m.count) e in
     let h = serves_finish game spare unnamed (record s0 { meter = meter }) e1 e2 position puts
-    (AreUnder-counted spare unnamed s0.meter meter next s0.wins.nodes s0.replies.nodes s0.finishes e before.0, before.1) in
+    (omega (arith, behind.0, one), AreServed-same game unnamed s0.replies e0 e1 same behind.1) in
     record { later = h.later; behind = h.behind; keeps = h.keeps; more = h.more }
 
 -- the table told the verdict
-pub serves_known : (game : GameNumbers) (s : Search) (position : Position) (old new : List (Position × Verdict)) (verdict : Verdict) → verdict_of old position ≡ Some verdict
-    → SameEntries are_equal old new → KeepsServing game 0 s old s new (λ later. IsServedBy game later s position verdict)
+pub serves_known : (game : GameNumbers) (s : Search) (position : Position) (old new : List (Position × Verdict)) (verdict : Verdict)
+    → verdict_of old position ≡ Some verdict → SameEntries are_equal old new
+    → KeepsServing game 0 s old s new (λ later. IsServedBy game later position verdict)
 serves_known game s position old new verdict told same spare unnamed behind =
-    let before = IsBehind-less game (0 + spare) spare unnamed s old (omega arith) behind in
-    Serving-refl game spare unnamed s new (λ later. IsServedBy game later s position verdict) (IsBehind-same game spare unnamed s old new same before)
-    (behind.1 position verdict told)
+    Serving-refl game spare unnamed s new (λ later. IsServedBy game later position verdict)
+    (omega (arith, behind.0), AreServed-same game unnamed s.replies old new same behind.1) (behind.1.known position verdict told)
 
 -- nothing was done
 pub serves_nothing : (game : GameNumbers) (took : ℕ) (s : Search) (entries : List (Position × Verdict)) (More : List Position → Type 0) → ((later : List Position) → More later)
@@ -69,15 +73,15 @@ serves_nothing game took s entries More m spare unnamed behind =
     Serving-refl game spare unnamed s entries More (IsBehind-less game (took + spare) spare unnamed s entries (omega arith) behind) (m unnamed)
 
 -- what a verdict after an item says
-pub served_at : (game : GameNumbers) (unnamed : List Position) (s : Search) (position child : Position) (size load : ℕ) (verdict : Verdict) → child ≡ after position load size
-    → IsServedBy game unnamed s child verdict → IsServedAt game unnamed s position size load (reached_by verdict)
-served_at game unnamed s position child size load (Adversary number) e h = tt
-served_at game unnamed s position child size load (Algorithm number) e h = subst (λ q. IsServedBy game unnamed s q (Algorithm number)) e h
-served_at game unnamed s position child size load (Held held) e h = subst (λ q. IsServedBy game unnamed s q (Held held)) e h
+pub served_at : (game : GameNumbers) (unnamed : List Position) (position child : Position) (size load : ℕ) (verdict : Verdict) → child ≡ after position load size
+    → IsServedBy game unnamed child verdict → IsServedAt game unnamed position size load (reached_by verdict)
+served_at game unnamed position child size load (Adversary number) e h = tt
+served_at game unnamed position child size load (Algorithm number) e h = subst (λ q. IsServedBy game unnamed q (Algorithm number)) e h
+served_at game unnamed position child size load (Held held) e h = subst (λ q. IsServedBy game unnamed q (Held held)) e h
 
 -- an answer at a position that finishes tells so
 finish_served : (game : GameNumbers) (pass : ℕ) (unnamed : List Position) (s : Search) (position : Position) (verdict : Verdict) → IsNoWin verdict
-    → Tells game pass s position verdict → Finishes game position.loads → IsServedBy game unnamed s position verdict → IsServed unnamed s position
+    → Tells game pass s position verdict → Finishes game position.loads → IsServedBy game unnamed position verdict → IsServed unnamed position
 finish_served game pass unnamed s position (Adversary number) nothing t finishes served = absurd nothing
 finish_served game pass unnamed s position (Algorithm number) nothing t finishes served = elim t.says [
   | inl node ↦ absurd (node.unfinished finishes)
@@ -88,27 +92,27 @@ finish_served game pass unnamed s position (Held held) nothing t finishes served
 -- where a size was answered, the first load below the target is served
 pub first_served : (game : GameNumbers) (pass : ℕ) (unnamed : List Position) (s : Search) (position : Position) (size load : ℕ) (verdict : Verdict) → IsGame game
     → IsPlayable game position → Packable game (position.items ++ size ∷ []) → HasTried game pass s position size (Answered load verdict)
-    → IsServedBy game unnamed s (after position load size) verdict → IsFirstServed game unnamed s position size
+    → IsServedBy game unnamed (after position load size) verdict → IsFirstServed game unnamed position size
 first_served game pass unnamed s position size load verdict g playable may (has_load, below, nothing, tells, above) served first_load first finishes =
     let next : Position = after position first_load size in
     let never = IsNeverWon-finish game next g (IsPlayable-after game position first_load size playable first.has_load first.below may) finishes in
     elim (cases_lt first_load load) [
       | inl lower ↦ absurd (omega (arith, first.larger load has_load lower, below))
       | inr up ↦ elim (cases_lt load first_load) [
-          | inl larger ↦ absurd (never (allowed_by game pass) (above first_load first.has_load larger first.below))
-          | inr down ↦
-              let same : load ≡ first_load = omega (arith, up, down) in
-              finish_served game pass unnamed s next verdict nothing (subst (λ l. Tells game pass s (after position l size) verdict) same tells) finishes
-              (subst (λ l. IsServedBy game unnamed s (after position l size) verdict) same served)
-        ]
+        | inl larger ↦ absurd (never (allowed_by game pass) (above first_load first.has_load larger first.below))
+        | inr down ↦
+            let same : load ≡ first_load = omega (arith, up, down) in
+            finish_served game pass unnamed s next verdict nothing (subst (λ l. Tells game pass s (after position l size) verdict) same tells) finishes
+            (subst (λ l. IsServedBy game unnamed (after position l size) verdict) same served)
+      ]
     ]
 
 -- a size that was answered
 pub serves_kept : (game : GameNumbers) (pass : ℕ) (told : Told) (s0 s1 : Search) (position : Position) (size load : ℕ) (e0 e1 : List (Position × Verdict)) (verdict : Verdict)
-    → ((later : List Position) → IsServedBy game later s1 (after position load size) verdict → IsFirstServed game later s1 position size)
-    → KeepsServing game 0 s0 e0 s1 e1 (λ later. IsServedBy game later s1 (after position load size) verdict)
+    → ((later : List Position) → IsServedBy game later (after position load size) verdict → IsFirstServed game later position size)
+    → KeepsServing game 0 s0 e0 s1 e1 (λ later. IsServedBy game later (after position load size) verdict)
     → KeepsServingTold game told position (taken_by (kept_of size load verdict)) s0 e0 s1 e1
-        (λ later. IsServedFor game pass later s1 position size (kept_of size load verdict))
+    (λ later. IsServedFor game pass later position size (kept_of size load verdict))
 serves_kept game pass told s0 s1 position size load e0 e1 (Adversary number) first f spare unnamed behind tried =
     let h = f spare unnamed behind in
     record { later = h.later; behind = h.behind; keeps = h.keeps; more = λ allowed. first h.later h.more }
@@ -123,7 +127,7 @@ serves_kept game pass told s0 s1 position size load e0 e1 (Held held) first f sp
 pub serves_skipped : (game : GameNumbers) (pass : ℕ) (told : Told) (s : Search) (position : Position) (size load : ℕ) (entries : List (Position × Verdict))
     → Packable game (position.items ++ size ∷ []) → IsSkipped game told position size load
     → KeepsServingTold game told position 0 s entries s entries
-        (λ later. IsServedFor game pass later s position size (kept_of size load (Algorithm FINISHES)))
+    (λ later. IsServedFor game pass later position size (kept_of size load (Algorithm FINISHES)))
 serves_skipped game pass told s position size load entries may skipped spare unnamed behind tried =
     let first = tried skipped.pass skipped.earlier size skipped.allowed may in
     Serving-refl game spare unnamed s entries _ (IsBehind-less game (0 + spare) spare unnamed s entries (omega arith) behind)
@@ -132,7 +136,7 @@ serves_skipped game pass told s position size load entries may skipped spare unn
 -- a size that the pass does not allow
 pub serves_not_allowed : (game : GameNumbers) (pass : ℕ) (told : Told) (s : Search) (position : Position) (size : ℕ) (entries : List (Position × Verdict))
     → (IsTrue (allowed_by game pass position.items size) → ⊥)
-    → KeepsServingTold game told position 0 s entries s entries (λ later. IsServedFor game pass later s position size NoReply)
+    → KeepsServingTold game told position 0 s entries s entries (λ later. IsServedFor game pass later position size NoReply)
 serves_not_allowed game pass told s position size entries none spare unnamed behind tried =
     Serving-refl game spare unnamed s entries _ (IsBehind-less game (0 + spare) spare unnamed s entries (omega arith) behind) (λ allowed. absurd (none allowed))
 
@@ -144,7 +148,7 @@ serves_won game told s0 s1 wins position number e0 e1 M puts f spare unnamed beh
     let h = f (1 + spare) unnamed (IsBehind-less game (1 + spare) (0 + (1 + spare)) unnamed s0 e0 (omega arith) behind) in
     record {
       later = h.later;
-      behind = (AreUnder-win spare h.later s1.meter s1.wins wins s1.replies.nodes s1.finishes position number puts h.behind.0, h.behind.1);
+      behind = (omega (arith, h.behind.0, ap (λ (w : adversary_pools.Pool). length w.nodes) puts.pool, length_push s1.wins.nodes puts.node), h.behind.1);
       keeps = h.keeps;
       more = tt;
     }
@@ -159,8 +163,8 @@ serves_more game s0 s1 e0 e1 M N n f spare unnamed behind =
 -- a size after others, of a position that is tried out as the table told
 pub serves_size : (game : GameNumbers) (told : Told) (position : Position) (took : ℕ) (s0 s1 s2 : Search) (e0 e1 e2 : List (Position × Verdict))
     (M N O : List Position → Type 0) → KeepsServing game 0 s0 e0 s1 e1 M → KeepsServingTold game told position took s1 e1 s2 e2 N
-    → ((later : List Position) → M later → IsTriedBefore game told later s1 position)
-    → ((before later : List Position) → ((p : Position) → IsServed before s1 p → IsServed later s2 p) → M before → N later → O later)
+    → ((later : List Position) → M later → IsTriedBefore game told later position)
+    → ((before later : List Position) → ((p : Position) → IsServed before p → IsServed later p) → M before → N later → O later)
     → KeepsServing game took s0 e0 s2 e2 O
 serves_size game told position took s0 s1 s2 e0 e1 e2 M N O f g tried join spare unnamed behind =
     let first = f (took + spare) unnamed (IsBehind-less game (took + spare) (0 + (took + spare)) unnamed s0 e0 (omega arith) behind) in
@@ -174,60 +178,56 @@ serves_size game told position took s0 s1 s2 e0 e1 e2 M N O f g tried join spare
 
 -- what the table told holds of each list
 pub tried_before : (game : GameNumbers) (pass spare : ℕ) (told : Told) (unnamed : List Position) (s : Search) (position : Position) (entries : List (Position × Verdict))
-    → IsTold pass (verdict_of entries position) told → IsBehind game spare unnamed s entries → IsTriedBefore game told unnamed s position
+    → IsTold pass (verdict_of entries position) told → IsBehind game spare unnamed s entries → IsTriedBefore game told unnamed position
 tried_before game pass spare told unnamed s position entries is behind k e =
     let held = subst (IsTold pass (verdict_of entries position)) e is in
-    (behind.1 position (Held k) held.0).1 k refl
+    (behind.1.known position (Held k) held.0).1 k refl
 
-pub tried_still : (game : GameNumbers) (told : Told) (before later : List Position) (s1 s2 : Search) (position : Position)
-    → ((p : Position) → IsServed before s1 p → IsServed later s2 p) → IsTriedBefore game told before s1 position → IsTriedBefore game told later s2 position
-tried_still game told before later s1 s2 position keeps tried k e size allowed may load first finishes =
+pub tried_still : (game : GameNumbers) (told : Told) (before later : List Position) (position : Position)
+    → ((p : Position) → IsServed before p → IsServed later p) → IsTriedBefore game told before position → IsTriedBefore game told later position
+tried_still game told before later position keeps tried k e size allowed may load first finishes =
     keeps (after position load size) (tried k e size allowed may load first finishes)
 
 -- one more size was tried
-pub sizes_tried : (game : GameNumbers) (pass room tried : ℕ) (before later : List Position) (s1 s2 : Search) (position : Position) → tried < room
-    → ((p : Position) → IsServed before s1 p → IsServed later s2 p) → AreTried game pass (room - tried) room before s1 position
-    → IsSizeTried game pass later s2 position (room - tried) → AreTried game pass (room - (tried + 1)) room later s2 position
-sizes_tried game pass room tried before later s1 s2 position l keeps all here size above within allowed load first finishes = elim (cases_lt (room - tried) size) [
+pub sizes_tried : (game : GameNumbers) (pass room tried : ℕ) (before later : List Position) (position : Position) → tried < room
+    → ((p : Position) → IsServed before p → IsServed later p) → AreTried game pass (room - tried) room before position
+    → IsSizeTried game pass later position (room - tried) → AreTried game pass (room - (tried + 1)) room later position
+sizes_tried game pass room tried before later position l keeps all here size above within allowed load first finishes = elim (cases_lt (room - tried) size) [
   | inl larger ↦ keeps (after position load size) (all size larger within allowed load first finishes)
   | inr small ↦
       let same : room - tried ≡ size = omega (arith, above, small, l) in
-      subst (λ n. IsSizeTried game pass later s2 position n) same here allowed load first finishes
+      subst (λ n. IsSizeTried game pass later position n) same here allowed load first finishes
 ]
 
 -- entries that are served still are, and one more is
-pub entries_served : (before later : List Position) (s1 s2 : Search) (position : Position) (entries more : List Entry) (entry : Entry)
-    → ((p : Position) → IsServed before s1 p → IsServed later s2 p) → All (IsEntryServed before s1 position) entries → IsEntryServed later s2 position entry
-    → more ≡ entries ++ entry ∷ [] → All (IsEntryServed later s2 position) more
-entries_served before later s1 s2 position entries more entry keeps all one is =
-    subst (All (IsEntryServed later s2 position)) (sym is)
-    (All-push (IsEntryServed later s2 position) entries entry
-    (All-weaker (IsEntryServed before s1 position) (IsEntryServed later s2 position) (λ e h f. keeps (led_to position e) (h f)) entries all) one)
+pub entries_served : (before later : List Position) (position : Position) (entries more : List Entry) (entry : Entry)
+    → ((p : Position) → IsServed before p → IsServed later p) → All (IsEntryServed before position) entries → IsEntryServed later position entry
+    → more ≡ entries ++ entry ∷ [] → All (IsEntryServed later position) more
+entries_served before later position entries more entry keeps all one is =
+    subst (All (IsEntryServed later position)) (sym is)
+    (All-push (IsEntryServed later position) entries entry
+    (All-weaker (IsEntryServed before position) (IsEntryServed later position) (λ e h f. keeps (led_to position e) (h f)) entries all) one)
 
--- the reply to all sizes
-pub serves_replied : (game : GameNumbers) (s0 s1 s2 : Search) (position : Position) (entries : List Entry) (number : ℕ) (e0 e1 : List (Position × Verdict))
-    (M : List Position → Type 0) → PutsNamed game s1 s2 position entries number → s1.meter.count ≤ most_nodes
-    → KeepsServing game 0 s0 e0 s1 e1 M → ((later : List Position) → M later → All (IsEntryServed later s1 position) entries)
-    → KeepsServing game 1 s0 e0 s2 e1 (λ later. IsServedBy game later s2 position (Algorithm number))
-serves_replied game s0 s1 s2 position entries number e0 e1 M puts limit f each spare unnamed behind =
-    let between = puts.between in
-    let first = f (1 + spare) unnamed (IsBehind-less game (1 + spare) (0 + (1 + spare)) unnamed s0 e0 (omega arith) behind) in
-    let second = serves_all game position entries s1 between puts.all (1 + spare) first.later e1 first.behind
-    (λ entry c. All-contains (IsEntryServed first.later s1 position) entries entry (each first.later first.more) c) in
-    let few : number < FINISHES =
-    omega (arith, second.behind.0.few, ap (λ m. m.count) (Stays-all game position entries s1 between puts.all).meter, limit, puts.puts.is_last) in
-    let third = AreUnder-reply spare second.later between.meter between.wins.nodes between.replies s2.replies between.finishes position number puts.puts second.behind.0 in
-    let back : (t : Search) → t ≡ record between { replies = s2.replies } → Serving game spare unnamed s0 t e1 (λ later. IsServedBy game later t position (Algorithm number)) =
-    λ t e. subst (λ u. Serving game spare unnamed s0 u e1 (λ later. IsServedBy game later u position (Algorithm number))) (sym e) (record {
-      later = second.later;
-      behind = (third, second.behind.1);
-      keeps = λ p h. second.keeps p (first.keeps p h);
+-- the replies to all sizes
+pub serves_replied : (game : GameNumbers) (s0 s1 : Search) (replies : List Reply) (position : Position) (entries : List Entry) (number : ℕ)
+    (e0 e1 : List (Position × Verdict)) (M : List Position → Type 0) → KeepsReply s1.replies replies position entries number → s1.meter.count ≤ most_nodes
+    → KeepsServing game 0 s0 e0 s1 e1 M → ((later : List Position) → M later → All (IsEntryServed later position) entries)
+    → KeepsServing game 1 s0 e0 (record s1 { replies = replies }) e1 (λ later. IsServedBy game later position (Algorithm number))
+serves_replied game s0 s1 replies position entries number e0 e1 M keeps limit f each spare unnamed behind =
+    let h = f (1 + spare) unnamed (IsBehind-less game (1 + spare) (0 + (1 + spare)) unnamed s0 e0 (omega arith) behind) in
+    let few : number < FINISHES = omega (arith, h.behind.0, limit, keeps.is_last) in
+    record {
+      later = h.later;
+      behind = (
+        omega (arith, h.behind.0, ap (λ (rs : List Reply). length rs) keeps.list, length_push s1.replies keeps.reply),
+        AreServed-reply game h.later s1.replies replies e1 position entries number keeps (each h.later h.more) h.behind.1,
+      );
+      keeps = h.keeps;
       more = (
         λ told. absurd (let same : number ≡ FINISHES = algorithm_number told in omega (arith, same, few)),
         λ k told. absurd (let no : Algorithm number ≡ Held k = told in cc),
       );
-    }) in
-    back s2 puts.same
+    }
   where
     algorithm_number : {a b : ℕ} → Algorithm a ≡ Algorithm b → a ≡ b
     algorithm_number e = cc

@@ -12,3 +12,4 @@ pub mod RoomLemmas
 pub mod ServingLemmas
 pub mod ExpansionLemmas
 pub mod NamingLemmas
+pub mod WritingLemmas

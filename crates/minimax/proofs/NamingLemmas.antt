@@ -1,166 +1,227 @@
--- The nodes of positions that finish, which are put where a reply leads to them.
-use Rattle.std.proofs.Common.{◌≡◌, ℕ, ◌+◌, ◌<◌, List, [], ◌∷◌, ◌++◌, length, map, take, get_or, refl, sym, ap, ◌∙◌, subst, inl, inr, arith}
-use Rattle.std.specs.Prelude.{All, Contains}
-use Rattle.std.proofs.lemmas.Option.{none-some}
-use Rattle.std.proofs.lemmas.List.{append-nil, map-append, take_more}
+-- The nodes to which replies lead, and those of positions that finish, which are put where a reply leads to them.
+use Rattle.std.proofs.Common.{◌≡◌, ℕ, ◌+◌, ◌<◌, ◌⊎◌, Bool, true, false, Option, Some, List, [], ◌∷◌, ◌++◌, length, map, take, get_or}
+use Rattle.std.proofs.Common.{refl, sym, ap, ◌∙◌, subst, inl, inr, ⊎_elim, arith}
+use Rattle.std.specs.Prelude.{All, Contains, Err, IfOk, IsSome, Ok, Result, if◌then◌else◌}
+use Rattle.std.specs.declared.alloc.AllocError.{AllocError}
+use Rattle.std.proofs.lemmas.List.{length_push, map-append, take_more}
 use Rattle.std.proofs.lemmas.List.Elements.{All-push, All-weaker, All-contains}
 use Rattle.items.specs.Game.{GameNumbers}
 use Rattle.loads.specs.After.{after}
+use Rattle.loads.specs.Packed.{are_equal}
 use Rattle.loads.specs.Position.{StandsAt}
 use Rattle.loads.specs.declared.position.Position.{Position}
-use Rattle.strategy_text.specs.Spelling.{most_nodes}
 use Rattle.strategy_text.specs.declared.node.Entry.{Entry}
 use Rattle.algorithm_graph.specs.Nodes as algorithm
-use Rattle.transposition.specs.declared.verdict.Verdict.{Verdict}
-use Rattle.minimax.specs.Naming.{IsNamed, MayName, MayNameAll, Names, NamesAll, NamesNew, Numbers, none_named, one_named}
-use Rattle.minimax.specs.Serving.{IsEntryServed, IsUnder, led_to}
-use Rattle.minimax.specs.State.{AreSound, Goes, HasPassed, IsNeverWon, IsPending, IsReply, IsSound, WentOn}
-use Rattle.monotone.specs.declared.path.PathMove.{PathMove}
-use Rattle.minimax.specs.declared.expanding.Search.{Search}
+use Rattle.monotone.proofs.ListLemmas.{Contains-first, Contains-later, Contains-nothing, Contains-split}
+use Rattle.minimax.specs.Naming.{AreNumbered, HasReplies, IsEntryPlaced, IsNamed, IsPlaced, LeavesRoom, MayName, MayNameAll, Names, NamesAll, NamesNew}
+use Rattle.minimax.specs.Naming.{Numbers, PutsNamed, none_named, number_of, one_named}
+use Rattle.minimax.specs.Serving.{led_to}
+use Rattle.minimax.specs.State.{GoesOn, IsPending, IsReply, PutsReply}
+use Rattle.minimax.specs.declared.replies.Reply.{Reply}
+use Rattle.minimax.specs.declared.writing.Written.{Written}
+use Rattle.minimax.proofs.FreshLemmas.{are_equal-told, equal_positions}
 use Rattle.minimax.proofs.PlayableLemmas.{IsPlayable-after}
-use Rattle.minimax.proofs.ServingLemmas.{serves_all}
-use Rattle.minimax.proofs.StateLemmas.{AreSound-reply, IsPending-goes, IsReply-goes, StandsAt-last, never_by_led}
-use Rattle.minimax.proofs.StepLemmas.{Goes-refl, Goes-trans}
+use Rattle.minimax.proofs.StateLemmas.{GoesOn-refl, GoesOn-trans, IsReply-goes, StandsAt-goes, StandsAt-last}
 
 -- what stays where nodes that finish are put
-pub record Stays (before after : Search) : Type 0 where
-  pub goes : Goes before after
-  pub of_game : after.replies.game ≡ before.replies.game
-  pub of_format : after.replies.format ≡ before.replies.format
-  pub meter : after.meter ≡ before.meter
-  pub wins : after.wins ≡ before.wins
+pub record Stays (before next : Written) : Type 0 where
+  pub nodes : GoesOn before.pool.nodes next.pool.nodes
+  pub of_game : next.pool.game ≡ before.pool.game
+  pub of_format : next.pool.format ≡ before.pool.format
+  pub numbers : next.numbers ≡ before.numbers
 
-Stays-refl : (s : Search) → Stays s s
-Stays-refl s = record { goes = Goes-refl s; of_game = refl; of_format = refl; meter = refl; wins = refl }
+pub Stays-refl : (w : Written) → Stays w w
+Stays-refl w = record { nodes = GoesOn-refl w.pool.nodes; of_game = refl; of_format = refl; numbers = refl }
 
-Stays-new : (s after : Search) (position : Position) (number : ℕ) → NamesNew s after position number → Stays s after
-Stays-new s after position number new = record {
-  goes = record {
-    wins = ([], ap (λ (t : Search). t.wins.nodes) new.same ∙ sym (append-nil s.wins.nodes));
-    replies = (new.puts.node ∷ [], ap (λ r. r.nodes) new.puts.pool);
-    path = ap (λ (t : Search). t.path) new.same;
-    most = ap (λ (t : Search). t.most) new.same;
-    budget = ap (λ (t : Search). t.meter.budget) new.same;
-  };
-  of_game = ap (λ r. r.game) new.puts.pool;
-  of_format = ap (λ r. r.format) new.puts.pool;
-  meter = ap (λ (t : Search). t.meter) new.same;
-  wins = ap (λ (t : Search). t.wins) new.same;
+pub Stays-names : (w next : Written) (position : Position) (number : ℕ) → Names w next position number → Stays w next
+Stays-names w next position number (inl (e, told)) = subst (Stays w) (sym e) (Stays-refl w)
+Stays-names w next position number (inr new) = record {
+  nodes = (new.puts.node ∷ [], ap (λ p. p.nodes) new.puts.pool);
+  of_game = ap (λ p. p.game) new.puts.pool;
+  of_format = ap (λ p. p.format) new.puts.pool;
+  numbers = ap (λ (t : Written). t.numbers) new.same;
 }
 
-pub Stays-names : (s after : Search) (position : Position) (number : ℕ) → Names s after position number → Stays s after
-Stays-names s after position number (inl (e, told)) = subst (Stays s) (sym e) (Stays-refl s)
-Stays-names s after position number (inr new) = Stays-new s after position number new
-
-pub Stays-trans : (a b c : Search) → Stays a b → Stays b c → Stays a c
+pub Stays-trans : (a b c : Written) → Stays a b → Stays b c → Stays a c
 Stays-trans a b c g h = record {
-  goes = Goes-trans a b c g.goes h.goes;
+  nodes = GoesOn-trans a.pool.nodes b.pool.nodes c.pool.nodes g.nodes h.nodes;
   of_game = h.of_game ∙ g.of_game;
   of_format = h.of_format ∙ g.of_format;
-  meter = h.meter ∙ g.meter;
-  wins = h.wins ∙ g.wins;
+  numbers = h.numbers ∙ g.numbers;
 }
 
-pub Stays-all : (game : GameNumbers) (position : Position) (entries : List Entry) (s after : Search) → NamesAll game position entries s after → Stays s after
-Stays-all game position entries s after (none_named t) = Stays-refl t
-Stays-all game position entries s after (one_named start middle end entry number all c e names) =
-    Stays-trans s middle after (Stays-all game position entries s middle all) (Stays-names middle after (led_to position entry) number names)
+pub Stays-all : (game : GameNumbers) (position : Position) (entries : List Entry) (w next : Written) → NamesAll game position entries w next → Stays w next
+Stays-all game position entries w next (none_named t) = Stays-refl t
+Stays-all game position entries w next (one_named start middle end entry number all c e names) =
+    Stays-trans w middle next (Stays-all game position entries w middle all) (Stays-names middle next (led_to position entry) number names)
 
-pub Stays-numbers : (s after : Search) (position : Position) (told number : ℕ) → Numbers s after position told number → Stays s after
-Stays-numbers s after position told number (inl (e, n, h)) = subst (Stays s) (sym e) (Stays-refl s)
-Stays-numbers s after position told number (inr (e, names)) = Stays-names s after position number names
+pub Stays-numbers : (w next : Written) (position : Position) (told number : ℕ) → Numbers w next position told number → Stays w next
+Stays-numbers w next position told number (inl (e, h)) = subst (Stays w) (sym e) (Stays-refl w)
+Stays-numbers w next position told number (inr (e, names)) = Stays-names w next position number names
+
+pub HasReplies-stays : (game : GameNumbers) (w next : Written) → Stays w next → HasReplies game w → HasReplies game next
+HasReplies-stays game w next s h = record { of_game = s.of_game ∙ h.of_game; of_format = s.of_format ∙ h.of_format }
+
+pub AreNumbered-stays : (earlier : List Reply) (w next : Written) → Stays w next → AreNumbered earlier w → AreNumbered earlier next
+AreNumbered-stays earlier w next s n = record {
+  one_each = ap (λ v. length v.items) s.numbers ∙ n.one_each;
+  stand = λ k p h. subst (λ v. StandsAt (map algorithm.position_of next.pool.nodes) (get_or v.items k 0) p) (sym s.numbers)
+      (StandsAt-goes algorithm.position_of w.pool.nodes next.pool.nodes (get_or w.numbers.items k 0) p s.nodes (n.stand k p h));
+}
 
 -- ---- the number stands at the position
 
-pub names_stand : (s after : Search) (position : Position) (number spare : ℕ) (unnamed : List Position) → Names s after position number → IsUnder spare unnamed s
-    → StandsAt (map algorithm.position_of after.replies.nodes) number position
-names_stand s after position number spare unnamed (inl (e, told)) under =
-    subst (λ (t : Search). StandsAt (map algorithm.position_of t.replies.nodes) number position) (sym e) (under.named position number told)
-names_stand s after position number spare unnamed (inr new) under =
-    StandsAt-last algorithm.position_of s.replies.nodes after.replies.nodes new.puts.node number position (ap (λ r. r.nodes) new.puts.pool) new.puts.is_last
+pub names_stand : (w next : Written) (position : Position) (number limit spare : ℕ) (unnamed : List Position) → Names w next position number
+    → LeavesRoom limit spare unnamed w → StandsAt (map algorithm.position_of next.pool.nodes) number position
+names_stand w next position number limit spare unnamed (inl (e, told)) room =
+    subst (λ (t : Written). StandsAt (map algorithm.position_of t.pool.nodes) number position) (sym e) (room.named position number told)
+names_stand w next position number limit spare unnamed (inr new) room =
+    StandsAt-last algorithm.position_of w.pool.nodes next.pool.nodes new.puts.node number position (ap (λ p. p.nodes) new.puts.pool) new.puts.is_last
     new.puts.stands
 
-pub numbers_stand : (s after : Search) (position : Position) (told number spare : ℕ) (unnamed : List Position) → Numbers s after position told number
-    → IsUnder spare unnamed s → StandsAt (map algorithm.position_of after.replies.nodes) number position
-numbers_stand s after position told number spare unnamed (inl (e, n, h)) under =
-    subst (λ (t : Search). StandsAt (map algorithm.position_of t.replies.nodes) number position) (sym e)
-    (subst (λ k. StandsAt (map algorithm.position_of s.replies.nodes) k position) (sym n) h)
-numbers_stand s after position told number spare unnamed (inr (e, names)) under = names_stand s after position number spare unnamed names under
+pub numbers_stand : (w next : Written) (position : Position) (told number limit spare : ℕ) (unnamed : List Position) → Numbers w next position told number
+    → LeavesRoom limit spare unnamed w → StandsAt (map algorithm.position_of next.pool.nodes) number position
+numbers_stand w next position told number limit spare unnamed (inl (e, h)) room =
+    subst (λ (t : Written). StandsAt (map algorithm.position_of t.pool.nodes) number position) (sym e) h
+numbers_stand w next position told number limit spare unnamed (inr (e, names)) room = names_stand w next position number limit spare unnamed names room
 
--- ---- states that stay sound
+-- ---- the list of positions without a node
 
-pub sound_names : (game : GameNumbers) (pass : ℕ) (s after : Search) (entries : List (Position × Verdict)) (position : Position) (number : ℕ)
-    → IsSound game pass s entries → IsNeverWon game position → Names s after position number → IsSound game pass after entries
-sound_names game pass s after entries position number sound never (inl (e, told)) = subst (λ t. IsSound game pass t entries) (sym e) sound
-sound_names game pass s after entries position number sound never (inr new) =
-    let put = AreSound-reply game pass s.meter s.wins s.replies entries after.replies position number sound new.puts never in
-    subst (λ m. AreSound game pass m after.wins after.replies entries) (sym (ap (λ (t : Search). t.meter) new.same))
-    (subst (λ w. AreSound game pass s.meter w after.replies entries) (sym (ap (λ (t : Search). t.wins) new.same)) put)
+-- a list without an element that it has
+record IsWithout (xs : List Position) (x : Position) (ys : List Position) : Type 0 where
+  one_less : length ys + 1 ≡ length xs
+  others : (y : Position) → Contains xs y → (x ≡ y) ⊎ Contains ys y
 
-pub sound_all : (game : GameNumbers) (pass : ℕ) (position : Position) (entries : List Entry) (s after : Search) (told : List (Position × Verdict))
-    → NamesAll game position entries s after → IsSound game pass s told → All (IsPending game s.replies.nodes position) entries → IsSound game pass after told
-sound_all game pass position entries s after told (none_named t) sound pending = sound
-sound_all game pass position entries s after told (one_named start middle end entry number all c e names) sound pending =
-    let between = sound_all game pass position entries s middle told all sound pending in
-    let never = never_by_led game pass s.meter s.wins s.replies told (led_to position entry) entry.to sound
-    (All-contains (IsPending game s.replies.nodes position) entries entry pending c).leads in
-    sound_names game pass middle after told (led_to position entry) number between never names
+without : (xs : List Position) (x : Position) → Contains xs x → (ys : List Position) × IsWithout xs x ys
+without [] x c = absurd (Contains-nothing x c)
+without (z ∷ zs) x c = elim (Contains-split z zs x c) [
+  | inl e ↦ (
+    zs,
+    record {
+      one_less = omega arith;
+      others = λ y d. ⊎_elim (λ same. inl (sym e ∙ same)) (λ later. inr later) (Contains-split z zs y d);
+    },
+  )
+  | inr later ↦
+      let r = without zs x later in (
+        z ∷ r.0,
+        record {
+          one_less = omega (arith, r.1.one_less);
+          others = λ y d. elim (Contains-split z zs y d) [
+            | inl same ↦ inr (subst (Contains (z ∷ r.0)) same (Contains-first z r.0))
+            | inr rest ↦ ⊎_elim (λ e. inl e) (λ there. inr (Contains-later z r.0 y there)) (r.1.others y rest)
+          ];
+        },
+      )
+]
+
+-- the nodes that may be put still, after a step: those of another list, which with the nodes has all that the first had
+pub record Leaves (limit spare : ℕ) (unnamed : List Position) (w next : Written) : Type 0 where
+  pub left : List Position
+  pub room : LeavesRoom limit spare left next
+  pub keeps : (p : Position) → IsPlaced unnamed w p → IsPlaced left next p
+
+pub Leaves-refl : (limit spare : ℕ) (unnamed : List Position) (w : Written) → LeavesRoom limit spare unnamed w → Leaves limit spare unnamed w w
+Leaves-refl limit spare unnamed w room = record { left = unnamed; room = room; keeps = λ p h. h }
+
+module _ (w next : Written) (position : Position) (number : ℕ) (new : NamesNew w next position number) where
+  nodes : next.pool.nodes ≡ w.pool.nodes ++ new.puts.node ∷ []
+  nodes = ap (λ p. p.nodes) new.puts.pool
+
+  number_stands : (p : Position) (k : ℕ) (b : Bool) (o : Option ℕ) → are_equal position p ≡ b → (if b then Some number else o) ≡ Some k
+      → (o ≡ Some k → StandsAt (map algorithm.position_of w.pool.nodes) k p) → StandsAt (map algorithm.position_of next.pool.nodes) k p
+  number_stands p k true o same told before =
+      let equal : k ≡ number = cc in
+      StandsAt-last algorithm.position_of w.pool.nodes next.pool.nodes new.puts.node k p nodes (equal ∙ new.puts.is_last)
+      (new.puts.stands ∙ are_equal-told position p same)
+  number_stands p k false o same told before =
+      StandsAt-goes algorithm.position_of w.pool.nodes next.pool.nodes k p (new.puts.node ∷ [], nodes) (before told)
+
+  some_with : (b : Bool) (o : Option ℕ) → IsSome o → IsSome (if b then Some number else o)
+  some_with true o h = refl
+  some_with false o h = h
+
+  some_here : (p : Position) → position ≡ p → IsSome (number_of next.finishes p)
+  some_here p e =
+      let equal : are_equal position p ≡ true = subst (λ q. are_equal position q ≡ true) e (equal_positions.refl position) in
+      subst IsSome (sym (new.numbers p ∙ ap (λ b. if b then Some number else number_of w.finishes p) equal)) refl
+
+  not_named : (unnamed : List Position) → IsPlaced unnamed w position → Contains unnamed position
+  not_named unnamed (inl c) = c
+  not_named unnamed (inr some) = let no : false ≡ true = subst IsSome new.none some in cc
+
+  leaves_new : (limit spare : ℕ) (unnamed : List Position) → LeavesRoom limit spare unnamed w → IsPlaced unnamed w position → Leaves limit spare unnamed w next
+  leaves_new limit spare unnamed room placed =
+      let r = without unnamed position (not_named unnamed placed) in record {
+        left = r.0;
+        room = record {
+          few = omega (arith, room.few, r.1.one_less, ap length nodes, length_push w.pool.nodes new.puts.node);
+          named = λ p k told. number_stands p k (are_equal position p) (number_of w.finishes p) refl (sym (new.numbers p) ∙ told) (room.named p k);
+        };
+        keeps = λ p h. ⊎_elim
+            (λ c. ⊎_elim (λ e. inr (some_here p e)) (λ there. inl there) (r.1.others p c))
+            (λ some. inr (subst IsSome (sym (new.numbers p)) (some_with (are_equal position p) (number_of w.finishes p) some))) h;
+      }
+
+-- the position has a node after its number was told
+pub leaves_number : (w next : Written) (position : Position) (number limit spare : ℕ) (unnamed : List Position) → Names w next position number
+    → LeavesRoom limit spare unnamed w → IsPlaced unnamed w position → Leaves limit spare unnamed w next
+leaves_number w next position number limit spare unnamed (inl (e, told)) room placed = subst (Leaves limit spare unnamed w) (sym e) (Leaves-refl limit spare unnamed w room)
+leaves_number w next position number limit spare unnamed (inr new) room placed = leaves_new w next position number new limit spare unnamed room placed
+
+-- where entries whose positions are placed were named, so is all that was
+pub leaves_all : (game : GameNumbers) (position : Position) (entries : List Entry) (w next : Written) → NamesAll game position entries w next → (limit spare : ℕ)
+    (unnamed : List Position) → LeavesRoom limit spare unnamed w → All (IsEntryPlaced unnamed w position) entries → Leaves limit spare unnamed w next
+leaves_all game position entries w next (none_named t) limit spare unnamed room placed = Leaves-refl limit spare unnamed w room
+leaves_all game position entries w next (one_named start middle end entry number all c e names) limit spare unnamed room placed =
+    let first = leaves_all game position entries w middle all limit spare unnamed room placed in
+    let here = first.keeps (led_to position entry) (All-contains (IsEntryPlaced unnamed w position) entries entry placed c e) in
+    let second = leaves_number middle next (led_to position entry) number limit spare first.left names first.room here in
+    record { left = second.left; room = second.room; keeps = λ p h. second.keeps p (first.keeps p h) }
 
 -- ---- the entries of a position
 
 -- while entries get their numbers, each may get its own
-pub still_under : (game : GameNumbers) (position : Position) (entries : List Entry) (s after : Search) → NamesAll game position entries s after
-    → (may : MayNameAll game s position entries) → (later : List Position) × IsUnder 1 later after
-still_under game position entries s after all may =
-    let h = serves_all game position entries s after all 1 may.unnamed [] (may.under, λ p v e. absurd (none-some v e))
-    (λ entry c. All-contains (IsEntryServed may.unnamed s position) entries entry may.served c) in
-    (h.later, h.behind.0)
-
-pub may_name : (game : GameNumbers) (position : Position) (entries : List Entry) (entry : Entry) (s after : Search) → NamesAll game position entries s after
-    → MayNameAll game s position entries → Contains entries entry → MayName game after position entry
-may_name game position entries entry s after all may c =
-    let stays = Stays-all game position entries s after all in
-    let under = still_under game position entries s after all may in
-    let count : after.meter.count ≡ s.meter.count = ap (λ m. m.count) stays.meter in
-    let pending = All-contains (IsPending game s.replies.nodes position) entries entry may.pending c in
-    let here = IsPending-goes game s.replies.nodes after.replies.nodes position entry stays.goes.replies pending in
-    let few : length after.replies.nodes < most_nodes = omega (arith, under.1.few, count, may.limit) in
+pub may_name : (game : GameNumbers) (earlier : List Reply) (position : Position) (entries : List Entry) (entry : Entry) (w next : Written)
+    → NamesAll game position entries w next → MayNameAll game earlier w position entries → Contains entries entry → MayName game earlier next position entry
+may_name game earlier position entries entry w next all may c =
+    let stays = Stays-all game position entries w next all in
+    let left = leaves_all game position entries w next all may.limit 1 may.unnamed may.under may.placed in
+    let pending = All-contains (IsPending game earlier position) entries entry may.pending c in
     record {
       playable = may.playable;
-      pending = here;
+      pending = pending;
       number = record {
-        replies = record { of_game = stays.of_game ∙ may.replies.of_game; of_format = stays.of_format ∙ may.replies.of_format };
-        playable = IsPlayable-after game position entry.load entry.size may.playable here.names.load here.names.below here.may_come;
-        led = here.leads;
-        limit = omega (arith, few);
-        room = λ e none. few;
+        replies = HasReplies-stays game w next stays may.replies;
+        playable = IsPlayable-after game position entry.load entry.size may.playable pending.names.load pending.names.below pending.may_come;
+        led = pending.leads;
+        numbered = AreNumbered-stays earlier w next stays may.numbered;
+        few = may.few;
+        room = λ e none. omega (arith, left.room.few, may.within);
       };
     }
 
 -- an entry that got its number leads to a node
-pub reply_named : (game : GameNumbers) (before later : Search) (position : Position) (entry named : Entry) (spare : ℕ) (unnamed : List Position)
-    → IsPending game before.replies.nodes position entry → IsUnder spare unnamed before → IsNamed before later position entry named
-    → IsReply game later.replies.nodes position named
-reply_named game before later position entry named spare unnamed pending under is =
-    let stands = numbers_stand before later (led_to position entry) entry.to named.to spare unnamed is.number under in
+pub reply_named : (game : GameNumbers) (earlier : List Reply) (before later : Written) (position : Position) (entry named : Entry) (limit spare : ℕ)
+    (unnamed : List Position) → IsPending game earlier position entry → LeavesRoom limit spare unnamed before → IsNamed before later position entry named
+    → IsReply game later.pool.nodes position named
+reply_named game earlier before later position entry named limit spare unnamed pending room is =
+    let stands = numbers_stand before later (led_to position entry) entry.to named.to limit spare unnamed is.number room in
     record {
       names = record {
         load = subst (Contains position.loads) (sym is.load) pending.names.load;
         below = subst (λ l. l + named.size < game.target) (sym is.load) (subst (λ x. entry.load + x < game.target) (sym is.size) pending.names.below);
       };
-      leads = subst (λ l. StandsAt (map algorithm.position_of later.replies.nodes) named.to (after_by l named.size)) (sym is.load)
-          (subst (λ x. StandsAt (map algorithm.position_of later.replies.nodes) named.to (after_by entry.load x)) (sym is.size) stands);
+      leads = subst (λ l. StandsAt (map algorithm.position_of later.pool.nodes) named.to (after position l named.size)) (sym is.load)
+          (subst (λ x. StandsAt (map algorithm.position_of later.pool.nodes) named.to (after position entry.load x)) (sym is.size) stands);
     }
-  where
-    after_by : ℕ → ℕ → Position
-    after_by load size = after position load size
 
 -- one more entry got its number
-pub names_more : (game : GameNumbers) (position : Position) (entries : List Entry) (entry named : Entry) (s search after : Search)
-    → NamesAll game position entries s search → Contains entries entry → IsNamed search after position entry named → NamesAll game position entries s after
-names_more game position entries entry named s search after all c is = elim is.number [
-  | inl (e, n, h) ↦ subst (NamesAll game position entries s) (sym e) all
-  | inr (e, names) ↦ one_named s search after entry named.to all c e names
+pub names_more : (game : GameNumbers) (position : Position) (entries : List Entry) (entry named : Entry) (w middle next : Written)
+    → NamesAll game position entries w middle → Contains entries entry → IsNamed middle next position entry named → NamesAll game position entries w next
+names_more game position entries entry named w middle next all c is = elim is.number [
+  | inl (e, h) ↦ subst (NamesAll game position entries w) (sym e) all
+  | inr (e, names) ↦ one_named w middle next entry named.to all c e names
 ]
 
 pub sizes_named : (entries all more : List Entry) (entry named : Entry) (i : ℕ) → i < length entries → entry ≡ get_or entries i entry → named.size ≡ entry.size
@@ -172,23 +233,18 @@ sizes_named entries all more entry named i l at size is before =
     ∙ ap (λ x. map size_of (take i entries) ++ x ∷ []) (size ∙ ap size_of at)
     ∙ sym (map-append size_of (take i entries) (get_or entries i entry ∷ [])) ∙ sym (ap (map size_of) (take_more entries i entry l))
 
-pub replies_named : (game : GameNumbers) (search after : Search) (position : Position) (all more : List Entry) (entry named : Entry)
-    → IsNamed search after position entry named → All (IsReply game search.replies.nodes position) all → IsReply game after.replies.nodes position named
-    → more ≡ all ++ named ∷ [] → All (IsReply game after.replies.nodes position) more
-replies_named game search after position all more entry named is each reply e =
-    let stays = Stays-numbers search after (led_to position entry) entry.to named.to is.number in
-    subst (All (IsReply game after.replies.nodes position)) (sym e)
-    (All-push (IsReply game after.replies.nodes position) all named (All-weaker (IsReply game search.replies.nodes position)
-    (IsReply game after.replies.nodes position) (λ one r. IsReply-goes game search.replies.nodes after.replies.nodes position one stays.goes.replies r) all each) reply)
+pub replies_named : (game : GameNumbers) (w next : Written) (position : Position) (all more : List Entry) (entry named : Entry)
+    → IsNamed w next position entry named → All (IsReply game w.pool.nodes position) all → IsReply game next.pool.nodes position named
+    → more ≡ all ++ named ∷ [] → All (IsReply game next.pool.nodes position) more
+replies_named game w next position all more entry named is each reply e =
+    let stays = Stays-numbers w next (led_to position entry) entry.to named.to is.number in
+    subst (All (IsReply game next.pool.nodes position)) (sym e)
+    (All-push (IsReply game next.pool.nodes position) all named (All-weaker (IsReply game w.pool.nodes position)
+    (IsReply game next.pool.nodes position) (λ one r. IsReply-goes game w.pool.nodes next.pool.nodes position one stays.nodes r) all each) reply)
 
--- a search that went on did so while nodes that finish were put
-pub WentOn-named : (game : GameNumbers) (pass : ℕ) (position : Position) (entries : List Entry) (past : List PathMove) (s0 s1 s2 : Search)
-    (told : List (Position × Verdict)) → WentOn game pass past s0 s1 told → NamesAll game position entries s1 s2
-    → All (IsPending game s1.replies.nodes position) entries → WentOn game pass past s0 s2 told
-WentOn-named game pass position entries past s0 s1 s2 told went all pending =
-    let stays = Stays-all game position entries s1 s2 all in
-    record {
-      goes = Goes-trans s0 s1 s2 went.goes stays.goes;
-      sound = sound_all game pass position entries s1 s2 told all went.sound pending;
-      passed = subst (λ m. HasPassed m pass past) (sym stays.meter) went.passed;
-    }
+-- the node that replies was put after those that finish
+pub puts_named : (game : GameNumbers) (position : Position) (entries : List Entry) (w between next : Written) (result : Result ℕ AllocError)
+    → NamesAll game position entries w between → next ≡ record between { pool = next.pool } → IfOk result (PutsReply between.pool next.pool position)
+    → IfOk result (PutsNamed game w next position entries)
+puts_named game position entries w between next (Ok number) all same puts = record { between = between; all = all; puts = puts; same = same }
+puts_named game position entries w between next (Err error) all same puts = tt

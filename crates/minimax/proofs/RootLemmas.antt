@@ -1,8 +1,8 @@
 -- The root of a search, and what its end answers.
 use Rattle.std.proofs.Common.{◌≡◌, ℕ, zero, suc, ◌+◌, ◌<◌, ◌≤◌, List, [], ◌∷◌, length, map, take, sum}
-use Rattle.std.proofs.Common.{replicate, Some, true, false, refl, sym, ap, subst, inl, inr, ⊎_elim, arith}
+use Rattle.std.proofs.Common.{replicate, Some, refl, sym, ap, subst, ⊎_elim, arith}
 use Rattle.std.proofs.lemmas.Bool.{cases_lt}
-use Rattle.std.specs.Prelude.{Contains, IfOk, IsSome, Result, Ok, Err}
+use Rattle.std.specs.Prelude.{Contains, IfOk, Result, Ok, Err}
 use Rattle.std.proofs.lemmas.Option.{none-some}
 use Rattle.std.specs.declared.alloc.AllocError.{AllocError}
 use Rattle.std.proofs.lemmas.List.{length-map}
@@ -20,7 +20,7 @@ use Rattle.strategy_text.specs.declared.node.AdvNode.{AdvNode}
 use Rattle.strategy_text.specs.declared.node.AlgNode.{AlgNode}
 use Rattle.strategy_text.specs.declared.node.Format.TheVariants.{One}
 use Rattle.strategy_text.specs.declared.node.Strategy.{Strategy}
-use Rattle.strategy_text.specs.Text.{of_adversary, of_algorithm}
+use Rattle.strategy_text.specs.Text.{of_adversary}
 use Rattle.adversary_graph.specs.Nodes as adversary
 use Rattle.adversary_graph.specs.Pools as adversary_pools
 use Rattle.adversary_graph.proofs.PoolLemmas as adversary_lemmas
@@ -39,17 +39,17 @@ use Rattle.minimax.specs.Answers.{IsAnswer, IsDecided, IsFor}
 use Rattle.minimax.specs.declared.answer.Answer.{Answer}
 use Rattle.minimax.specs.declared.answer.Answer.TheVariants as Answers
 use Rattle.minimax.specs.Settled.{IsDue, NoneWonBefore}
-use Rattle.minimax.specs.State.{AreSound, IsLed, IsNeverWon, IsPlayable, IsSound, IsSpent, MayVisit, StandsAtPath}
-use Rattle.minimax.specs.Naming.{MayNumber, Numbers}
-use Rattle.minimax.specs.Serving.{HasSpare, IsServedBy, number_of}
+use Rattle.minimax.specs.State.{AreSound, IsLed, IsPlayable, IsSound, IsSpent, MayVisit, StandsAtPath}
+use Rattle.minimax.specs.Writing.{MayWrite}
+use Rattle.minimax.specs.Serving.{HasSpare, IsServedBy}
 use Rattle.minimax.specs.declared.expanding.Search.{Search}
-use Rattle.minimax.proofs.NamingLemmas.{sound_names}
-use Rattle.minimax.proofs.ServingLemmas.{serves_number}
+use Rattle.minimax.specs.declared.replies.Reply.{Reply}
+use Rattle.monotone.proofs.ListLemmas.{Contains-nothing}
 
-length-take-le : {X : Type 0} (n : ℕ) (xs : List X) → length (take n xs) ≤ length xs
-length-take-le zero xs = omega arith
-length-take-le (suc n) [] = omega arith
-length-take-le (suc n) (x ∷ xs) = omega (arith, length-take-le n xs)
+pub length-take-short : {X : Type 0} (n : ℕ) (xs : List X) → length (take n xs) ≤ length xs
+length-take-short zero xs = omega arith
+length-take-short (suc n) [] = omega arith
+length-take-short (suc n) (x ∷ xs) = omega (arith, length-take-short n xs)
 
 sum-zeros : (n : ℕ) → sum (replicate n 0) ≡ 0
 sum-zeros zero = refl
@@ -67,32 +67,31 @@ IsPlayable-empty game loads = record {
 }
 
 -- a new search has no nodes
-pub HasSpare-new : (s : Search) (game : GameNumbers) (entries : List (Position × Verdict)) → s.wins ≡ adversary_pools.pool_of One game []
-    → s.replies ≡ algorithm_pools.pool_of One game [] → s.finishes ≡ [] → entries ≡ [] → HasSpare game 0 s entries
-HasSpare-new s game entries w r f e = (
+pub HasSpare-new : (s : Search) (game : GameNumbers) (entries : List (Position × Verdict)) → s.wins ≡ adversary_pools.pool_of One game [] → s.replies ≡ [] → entries ≡ []
+    → HasSpare game 0 s entries
+HasSpare-new s game entries w r e = (
   [],
   (
+    omega (arith, ap (λ (p : adversary_pools.Pool). length p.nodes) w, ap (λ (rs : List Reply). length rs) r),
     record {
-      few = omega (arith, ap (λ (p : adversary_pools.Pool). length p.nodes) w, ap (λ (p : algorithm_pools.Pool). length p.nodes) r);
-      named = λ p k told. absurd (none-some k (subst (λ fs. number_of fs p ≡ Some k) f told));
+      known = λ p v told. absurd (none-some v (subst (λ es. verdict_of es p ≡ Some v) e told));
+      replied = λ reply c. absurd (Contains-nothing reply (subst (λ rs. Contains rs reply) r c));
     },
-    λ p v told. absurd (none-some v (subst (λ es. verdict_of es p ≡ Some v) e told)),
   ),
 )
 
 -- a new search is sound
-pub AreSound-new : (game : GameNumbers) (pass budget : ℕ) (meter : Metered) (wins : adversary_pools.Pool) (replies : algorithm_pools.Pool)
-    (entries : List (Position × Verdict)) → meter ≡ unused game budget → wins ≡ adversary_pools.pool_of One game [] → replies ≡ algorithm_pools.pool_of One game []
+pub AreSound-new : (game : GameNumbers) (pass budget : ℕ) (meter : Metered) (wins : adversary_pools.Pool) (replies : List Reply)
+    (entries : List (Position × Verdict)) → meter ≡ unused game budget → wins ≡ adversary_pools.pool_of One game [] → replies ≡ []
     → entries ≡ [] → budget ≤ most_nodes → AreSound game pass meter wins replies entries
 AreSound-new game pass budget meter wins replies entries m w r e few =
     subst (λ x. AreSound game pass x wins replies entries) (sym m)
     (subst (λ x. AreSound game pass (unused game budget) x replies entries) (sym w)
     (subst (λ x. AreSound game pass (unused game budget) (adversary_pools.pool_of One game []) x entries) (sym r)
-    (subst (AreSound game pass (unused game budget) (adversary_pools.pool_of One game []) (algorithm_pools.pool_of One game [])) (sym e) (record {
+    (subst (AreSound game pass (unused game budget) (adversary_pools.pool_of One game []) []) (sym e) (record {
       wins_game = refl;
       wins_format = refl;
-      replies_game = refl;
-      replies_format = refl;
+      ready = λ k reply told. absurd (none-some reply told);
       counts = CountsVisits-unused (whole_game game) budget;
       within = omega arith;
       budget = few;
@@ -139,42 +138,24 @@ module _ (game : GameNumbers) (pass : ℕ) where
   IsFor-win budget s entries root strategy sound behind b is = subst (IsFor game budget) (sym is) (record {
     of_game = sound.wins_game;
     of_format = sound.wins_format;
-    few = omega (arith, behind.1.0.few, sound.within, b, length-map (take (root + 1) s.wins.nodes) of_adversary, length-take-le (root + 1) s.wins.nodes);
+    few = omega (arith, behind.1.0, sound.within, b, length-map (take (root + 1) s.wins.nodes) of_adversary, length-take-short (root + 1) s.wins.nodes);
   })
 
-  pub IsFor-reply : (budget : ℕ) (s : Search) (entries : List (Position × Verdict)) (root : ℕ) (strategy : Strategy) → IsSound game pass s entries → HasSpare game 0 s entries → s.meter.budget ≡ budget
-      → strategy ≡ algorithm_pools.strategy_of (algorithm_pools.pool_of s.replies.format s.replies.game (algorithm_pools.nodes_up_to root s.replies.nodes)) →
-      IsFor game budget strategy
-  IsFor-reply budget s entries root strategy sound behind b is = subst (IsFor game budget) (sym is) (record {
-    of_game = sound.replies_game;
-    of_format = sound.replies_format;
-    few = omega (arith, behind.1.0.few, sound.within, b, length-map (take (root + 1) s.replies.nodes) of_algorithm, length-take-le (root + 1) s.replies.nodes);
-  })
-
-  -- the number of the root's node may be asked for
-  pub may_number_root : (s : Search) (entries : List (Position × Verdict)) (root : Position) (number : ℕ) → IsSound game pass s entries
-      → (behind : HasSpare game 0 s entries) → IsServedBy game behind.0 s root (Algorithm number) → IsPlayable game root → IsLed game s.replies.nodes root number
-      → MayNumber game s root number
-  may_number_root s entries root number sound behind served playable led = record {
-    replies = record { of_game = sound.replies_game; of_format = sound.replies_format };
+  -- the replies that were kept may be written, and the root among them
+  pub may_write : (budget : ℕ) (s : Search) (entries : List (Position × Verdict)) (root : Position) (told : ℕ) → IsSound game pass s entries
+      → (behind : HasSpare game 0 s entries) → s.meter.budget ≡ budget → IsServedBy game behind.0 root (Algorithm told) → IsPlayable game root
+      → root ≡ empty_position game → IsLed game s.replies root told → MayWrite game s.replies root told budget
+  may_write budget s entries root told sound behind b served playable is led = record {
+    ready = sound.ready;
     playable = playable;
+    is_root = is;
     led = led;
-    limit = omega (arith, behind.1.0.few, sound.within, sound.budget);
-    room = λ e none. elim (served.0 (ap Algorithm e)) [
-      | inl c ↦ omega (arith, behind.1.0.few, sound.within, sound.budget, c.1)
-      | inr some ↦ let no : false ≡ true = subst IsSome none some in cc
-    ];
+    unnamed = behind.0;
+    few = omega (arith, behind.1.0, sound.within, b);
+    limit = omega (arith, sound.budget, b);
+    served = behind.1.1.replied;
+    root_served = λ e. served.0 (ap Algorithm e);
   }
-
-  -- the search after the root got its number
-  pub after_root : (s after : Search) (entries : List (Position × Verdict)) (root : Position) (told number : ℕ) → IsSound game pass s entries
-      → (behind : HasSpare game 0 s entries) → IsServedBy game behind.0 s root (Algorithm told) → IsNeverWon game root → Numbers s after root told number
-      → IsSound game pass after entries × HasSpare game 0 after entries
-  after_root s after entries root told number sound behind served never (inl (e, n, h)) =
-      (subst (λ t. IsSound game pass t entries) (sym e) sound, subst (λ t. HasSpare game 0 t entries) (sym e) behind)
-  after_root s after entries root told number sound behind served never (inr (e, names)) =
-      let h = serves_number game s after root number 0 behind.0 entries names behind.1 (served.0 (ap Algorithm e)) in
-      (sound_names game pass s after entries root number sound never names, (h.later, h.behind))
 
   -- the visit that was due
   pub IsDue-spent : (budget : ℕ) (s : Search) → NoneWonBefore (whole_game game) pass → IsSpent game pass budget s → IsDue (whole_game game) budget (visit pass s.path)

@@ -30,10 +30,11 @@ use Rattle.monotone.proofs.PassLemmas.{allowed_in-exact}
 use Rattle.transposition.specs.declared.verdict.Verdict.{Verdict}
 use Rattle.transposition.specs.declared.verdict.Verdict.TheVariants.{Adversary, Algorithm, Held}
 use Rattle.minimax.specs.State.{IsBound, FindsVerdict, FollowsUp, HasAnswered, HasPassed, HasWeighed, IsNeverWon, IsNoWin, IsOpenAt}
-use Rattle.minimax.specs.State.{AreOfAll, IsOpenFrom, IsPending}
+use Rattle.minimax.specs.State.{AreOfAll, IsOpenFrom, IsPending, IsPlayable, IsReady, KeepsReply}
 use Rattle.minimax.specs.State.{IsSound, IsWonIn, MayCome, PlacesAll, Tells, WentOn, WinsBy, allowed_by, kept_of}
 use Rattle.minimax.specs.State.{numbers_down, with_move}
 use Rattle.minimax.specs.declared.expanding.Search.{Search}
+use Rattle.minimax.specs.declared.replies.Reply.{Reply}
 use Rattle.minimax.specs.declared.expanding.Weighed.{Weighed}
 use Rattle.minimax.specs.declared.expanding.Weighed.TheVariants.{NoReply}
 use Rattle.minimax.proofs.PastLemmas.{IsLater-move}
@@ -268,21 +269,21 @@ module _ (game : GameNumbers) (pass : ℕ) where
       ∙ ap (λ x. numbers_down room tried ++ x ∷ []) e ∙ sym (map-range_with_len_more (λ k. room - k) 0 tried tried (omega arith))
 
   pub replies_still : (s1 s2 : Search) (position : Position) (past : List PathMove) (entries : List Entry) (e2 : List (Position × Verdict))
-      → WentOn game pass past s1 s2 e2 → All (IsPending game s1.replies.nodes position) entries → All (IsPending game s2.replies.nodes position) entries
+      → WentOn game pass past s1 s2 e2 → All (IsPending game s1.replies position) entries → All (IsPending game s2.replies position) entries
   replies_still s1 s2 position past entries e2 g all =
-      All-weaker (IsPending game s1.replies.nodes position) (IsPending game s2.replies.nodes position)
-      (λ entry r. IsPending-goes game s1.replies.nodes s2.replies.nodes position entry g.goes.replies r) entries all
+      All-weaker (IsPending game s1.replies position) (IsPending game s2.replies position)
+      (λ entry r. IsPending-goes game s1.replies s2.replies position entry g.goes.replies r) entries all
 
   pub replies_more : (s1 s2 : Search) (position : Position) (past : List PathMove) (entry : Entry) (entries more : List Entry) (e2 : List (Position × Verdict))
-      → WentOn game pass past s1 s2 e2 → All (IsPending game s1.replies.nodes position) entries → IsPending game s2.replies.nodes position entry
-      → more ≡ entries ++ entry ∷ [] → All (IsPending game s2.replies.nodes position) more
+      → WentOn game pass past s1 s2 e2 → All (IsPending game s1.replies position) entries → IsPending game s2.replies position entry
+      → more ≡ entries ++ entry ∷ [] → All (IsPending game s2.replies position) more
   replies_more s1 s2 position past entry entries more e2 g all r is =
-      subst (All (IsPending game s2.replies.nodes position)) (sym is)
-      (All-push (IsPending game s2.replies.nodes position) entries entry (replies_still s1 s2 position past entries e2 g all) r)
+      subst (All (IsPending game s2.replies position)) (sym is)
+      (All-push (IsPending game s2.replies position) entries entry (replies_still s1 s2 position past entries e2 g all) r)
 
   -- a position with a reply to each size is never won
   pub never_by_replies : (s : Search) (position : Position) (room : ℕ) (replies : List Entry) (entries : List (Position × Verdict)) → IsSound game pass s entries
-      → AreOfAll game position room replies → All (IsPending game s.replies.nodes position) replies → IsNeverWon game position
+      → AreOfAll game position room replies → All (IsPending game s.replies position) replies → IsNeverWon game position
   never_by_replies s position room replies entries sound r each = IsNeverWon-answered game position (λ size packable.
       let size_of : Entry → ℕ = λ entry. entry.size in
       let none : Entry = record { size = 0; load = 0; to = 0 } in
@@ -302,3 +303,15 @@ module _ (game : GameNumbers) (pass : ℕ) where
         never = subst (λ x. IsNeverWon game (after position entry.load x)) is
             (never_by_led game pass s.meter s.wins s.replies entries (after position entry.load entry.size) entry.to sound reply.leads);
       })
+
+  -- the replies that were kept are ready to be written
+  pub ready_reply : (replies more : List Reply) (position : Position) (room : ℕ) (entries : List Entry) (number : ℕ)
+      → (k : KeepsReply replies more position entries number) → IsPlayable game position → AreOfAll game position room entries
+      → All (IsPending game replies position) entries → IsReady game replies k.reply
+  ready_reply replies more position room entries number k playable of_all pending = record {
+    playable = subst (IsPlayable game) (sym k.stands) playable;
+    room = room;
+    of_all = subst (λ p. AreOfAll game p room k.reply.entries.items) (sym k.stands) (subst (AreOfAll game position room) (sym k.kept) of_all);
+    pending = subst (λ p. All (IsPending game replies p) k.reply.entries.items) (sym k.stands)
+        (subst (All (IsPending game replies position)) (sym k.kept) pending);
+  }

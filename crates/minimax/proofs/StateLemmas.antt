@@ -1,8 +1,9 @@
 -- How a search keeps what it keeps: pools that go on, verdicts that stay true, and states that stay sound.
-use Rattle.std.proofs.Common.{◌≡◌, ℕ, zero, suc, ◌≤◌, Some, List, [], ◌∷◌, ◌++◌, map, length}
+use Rattle.std.proofs.Common.{◌≡◌, ℕ, zero, suc, ◌<◌, ◌≤◌, Some, List, [], ◌∷◌, ◌++◌, map, length}
 use Rattle.std.proofs.Common.{refl, sym, ap, ◌∙◌, subst, append_assoc, inl, inr, arith}
 use Rattle.std.specs.Prelude.{All, slice_get}
-use Rattle.std.proofs.lemmas.List.{append-nil, map-append}
+use Rattle.std.proofs.lemmas.Bool.{cases_lt}
+use Rattle.std.proofs.lemmas.List.{append-nil, length_push, map-append, take-append-le, take_all}
 use Rattle.std.proofs.lemmas.List.Elements.{All-push, All-weaker}
 use Rattle.std.proofs.lemmas.Option.{slice_get-map, get_or_from_slice_get, slice_get_within, none-some}
 use Rattle.items.specs.Game.{GameNumbers}
@@ -20,15 +21,15 @@ use Rattle.adversary_graph.specs.Pools as adversary_pools
 use Rattle.adversary_graph.specs.Rules.{LeadsTo}
 use Rattle.items.proofs.ListLemmas.{mapped}
 use Rattle.algorithm_graph.specs.Nodes as algorithm
-use Rattle.algorithm_graph.specs.Pools as algorithm_pools
 use Rattle.monotone.specs.Passes.{whole_game}
 use Rattle.monotone.specs.Visits.{Visit, Metered, IsLater, IsVisit, counted}
 use Rattle.monotone.proofs.VisitLemmas.{CountsVisits-counted}
 use Rattle.transposition.specs.declared.verdict.Verdict.{Verdict}
 use Rattle.transposition.specs.declared.verdict.Verdict.TheVariants.{Adversary, Algorithm, Held}
-use Rattle.minimax.specs.State.{AreKnown, AreSound, FollowsUp, GoesOn, IsLed, IsNeverWon, IsNoWin, IsPending, IsReply, IsSound, IsWonIn}
-use Rattle.minimax.specs.State.{PutsOnly, PutsReply, PutsWin, Says, Tells, allowed_by}
+use Rattle.minimax.specs.State.{AreKnown, AreReady, AreSound, FollowsUp, GoesOn, IsLed, IsNeverWon, IsNoWin, IsPending, IsReady, IsReply, IsSound, IsWonIn, KeepsReply, position_of_reply}
+use Rattle.minimax.specs.State.{PutsOnly, PutsWin, Says, Tells, allowed_by}
 use Rattle.minimax.specs.declared.expanding.Search.{Search}
+use Rattle.minimax.specs.declared.replies.Reply.{Reply}
 use Rattle.minimax.proofs.WinLemmas.{IsWonIn-later}
 
 -- ---- lists that go on
@@ -46,6 +47,18 @@ slice_get-goes : {X : Type 0} (xs more : List X) (n : ℕ) (x : X) → slice_get
 slice_get-goes [] more n x e = absurd (none-some x e)
 slice_get-goes (y ∷ ys) more zero x e = e
 slice_get-goes (y ∷ ys) more (suc n) x e = slice_get-goes ys more n x e
+
+slice_get-front : {X : Type 0} (xs more : List X) (k : ℕ) → k < length xs → slice_get (xs ++ more) k ≡ slice_get xs k
+slice_get-front [] more k l = absurd (omega (arith, l))
+slice_get-front (y ∷ ys) more zero l = refl
+slice_get-front (y ∷ ys) more (suc k) l = slice_get-front ys more k (omega (arith, l))
+
+slice_get-last : {X : Type 0} (xs : List X) (x : X) (k : ℕ) → k ≡ length xs → slice_get (xs ++ x ∷ []) k ≡ Some x
+slice_get-last xs x k e = subst (λ n. slice_get (xs ++ x ∷ []) n ≡ Some x) (sym e) (at_end xs)
+  where
+    at_end : {X : Type 0} {x : X} (xs : List X) → slice_get (xs ++ x ∷ []) (length xs) ≡ Some x
+    at_end [] = refl
+    at_end (y ∷ ys) = at_end ys
 
 pub StandsAt-goes : {X : Type 0} (f : X → Position) (xs ys : List X) (n : ℕ) (p : Position) → GoesOn xs ys → StandsAt (map f xs) n p → StandsAt (map f ys) n p
 StandsAt-goes f xs ys n p g h =
@@ -72,33 +85,33 @@ all_stand f P xs n p all h =
 
 -- ---- verdicts
 
-pub IsLed-goes : (game : GameNumbers) (replies more : List AlgNode) (position : Position) (number : ℕ) → GoesOn replies more
+pub IsLed-goes : (game : GameNumbers) (replies more : List Reply) (position : Position) (number : ℕ) → GoesOn replies more
     → IsLed game replies position number → IsLed game more position number
 IsLed-goes game replies more position number g (inl h) =
-    inl (record { stands = StandsAt-goes algorithm.position_of replies more number position g h.stands; unfinished = h.unfinished })
+    inl (record { stands = StandsAt-goes position_of_reply replies more number position g h.stands; unfinished = h.unfinished })
 IsLed-goes game replies more position number g (inr h) = inr h
 
-pub Says-goes : (game : GameNumbers) (wins more_wins : List AdvNode) (replies more_replies : List AlgNode) (position : Position) (verdict : Verdict)
+pub Says-goes : (game : GameNumbers) (wins more_wins : List AdvNode) (replies more_replies : List Reply) (position : Position) (verdict : Verdict)
     → GoesOn wins more_wins → GoesOn replies more_replies → Says game wins replies position verdict → Says game more_wins more_replies position verdict
 Says-goes game wins more_wins replies more_replies position (Adversary number) g h s = StandsAt-goes adversary.position_of wins more_wins number position g s
 Says-goes game wins more_wins replies more_replies position (Algorithm number) g h s = IsLed-goes game replies more_replies position number h s
 Says-goes game wins more_wins replies more_replies position (Held held) g h s = s
 
 -- where a verdict is a win of the adversary, it wins this pass
-pub won_by_node : (game : GameNumbers) (pass : ℕ) (meter : Metered) (wins : adversary_pools.Pool) (replies : algorithm_pools.Pool) (entries : List (Position × Verdict))
+pub won_by_node : (game : GameNumbers) (pass : ℕ) (meter : Metered) (wins : adversary_pools.Pool) (replies : List Reply) (entries : List (Position × Verdict))
     (position : Position) (number : ℕ) → AreSound game pass meter wins replies entries → StandsAt (map adversary.position_of wins.nodes) number position
     → IsWonIn game pass position
 won_by_node game pass meter wins replies entries position number s h = all_stand adversary.position_of (IsWonIn game pass) wins.nodes number position s.won h
 
 -- where a verdict is the algorithm's, the position is won in no pass
-pub never_by_node : (game : GameNumbers) (pass : ℕ) (meter : Metered) (wins : adversary_pools.Pool) (replies : algorithm_pools.Pool) (entries : List (Position × Verdict))
-    (position : Position) (number : ℕ) → AreSound game pass meter wins replies entries → StandsAt (map algorithm.position_of replies.nodes) number position
+pub never_by_node : (game : GameNumbers) (pass : ℕ) (meter : Metered) (wins : adversary_pools.Pool) (replies : List Reply) (entries : List (Position × Verdict))
+    (position : Position) (number : ℕ) → AreSound game pass meter wins replies entries → StandsAt (map position_of_reply replies) number position
     → IsNeverWon game position
-never_by_node game pass meter wins replies entries position number s h = all_stand algorithm.position_of (IsNeverWon game) replies.nodes number position s.lost h
+never_by_node game pass meter wins replies entries position number s h = all_stand position_of_reply (IsNeverWon game) replies number position s.lost h
 
 -- so where it finishes
-pub never_by_led : (game : GameNumbers) (pass : ℕ) (meter : Metered) (wins : adversary_pools.Pool) (replies : algorithm_pools.Pool) (entries : List (Position × Verdict))
-    (position : Position) (number : ℕ) → AreSound game pass meter wins replies entries → IsLed game replies.nodes position number → IsNeverWon game position
+pub never_by_led : (game : GameNumbers) (pass : ℕ) (meter : Metered) (wins : adversary_pools.Pool) (replies : List Reply) (entries : List (Position × Verdict))
+    (position : Position) (number : ℕ) → AreSound game pass meter wins replies entries → IsLed game replies position number → IsNeverWon game position
 never_by_led game pass meter wins replies entries position number s (inl h) = never_by_node game pass meter wins replies entries position number s h.stands
 never_by_led game pass meter wins replies entries position number s (inr h) = h.never
 
@@ -126,22 +139,39 @@ pub IsReply-goes : (game : GameNumbers) (replies more : List AlgNode) (position 
     → IsReply game replies position entry → IsReply game more position entry
 IsReply-goes game replies more position entry g r = record { names = r.names; leads = StandsAt-goes algorithm.position_of replies more entry.to _ g r.leads }
 
-pub IsPending-goes : (game : GameNumbers) (replies more : List AlgNode) (position : Position) (entry : Entry) → GoesOn replies more
+pub IsPending-goes : (game : GameNumbers) (replies more : List Reply) (position : Position) (entry : Entry) → GoesOn replies more
     → IsPending game replies position entry → IsPending game more position entry
 IsPending-goes game replies more position entry g p =
     record { names = p.names; may_come = p.may_come; leads = IsLed-goes game replies more (after position entry.load entry.size) entry.to g p.leads }
 
+-- ---- lists of replies
+
+-- what holds of each element over those before it holds of one more
+pub AreReady-push : (game : GameNumbers) (replies : List Reply) (reply : Reply) → AreReady game replies → IsReady game replies reply → AreReady game (replies ++ reply ∷ [])
+AreReady-push game replies reply ready here k other e = elim (cases_lt k (length replies)) [
+  | inl before ↦ subst (λ front. IsReady game front other) (sym (take-append-le k replies (reply ∷ []) (omega (arith, before))))
+      (ready k other (sym (slice_get-front replies (reply ∷ []) k before) ∙ e))
+  | inr after ↦
+      let within = slice_get_within (replies ++ reply ∷ []) k other e in
+      let last : k ≡ length replies = omega (arith, after, within, length_push replies reply) in
+      let is : reply ≡ other = some_same (sym (slice_get-last replies reply k last) ∙ e) in
+      subst (λ front. IsReady game front other) (sym (take-append-le k replies (reply ∷ []) (omega (arith, last)) ∙ take_all k replies (omega (arith, last))))
+      (subst (IsReady game replies) is here)
+]
+  where
+    some_same : {x y : Reply} → Some x ≡ Some y → x ≡ y
+    some_same e = cc
+
 -- ---- states that stay sound
 
-module _ (game : GameNumbers) (pass : ℕ) (meter : Metered) (wins : adversary_pools.Pool) (replies : algorithm_pools.Pool) (entries : List (Position × Verdict)) where
+module _ (game : GameNumbers) (pass : ℕ) (meter : Metered) (wins : adversary_pools.Pool) (replies : List Reply) (entries : List (Position × Verdict)) where
   -- with other entries that hold
-  pub AreSound-known : (more : List (Position × Verdict)) → AreSound game pass meter wins replies entries → AreKnown game wins.nodes replies.nodes more
+  pub AreSound-known : (more : List (Position × Verdict)) → AreSound game pass meter wins replies entries → AreKnown game wins.nodes replies more
       → AreSound game pass meter wins replies more
   AreSound-known more s known = record {
     wins_game = s.wins_game;
     wins_format = s.wins_format;
-    replies_game = s.replies_game;
-    replies_format = s.replies_format;
+    ready = s.ready;
     counts = s.counts;
     within = s.within;
     budget = s.budget;
@@ -152,10 +182,10 @@ module _ (game : GameNumbers) (pass : ℕ) (meter : Metered) (wins : adversary_p
 
   -- after a verdict was put that says what holds
   pub AreSound-put : (more : List (Position × Verdict)) (position : Position) (verdict : Verdict) → AreSound game pass meter wins replies entries
-      → PutsOnly entries more position verdict → Says game wins.nodes replies.nodes position verdict → AreSound game pass meter wins replies more
+      → PutsOnly entries more position verdict → Says game wins.nodes replies position verdict → AreSound game pass meter wins replies more
   AreSound-put more position verdict s puts says = AreSound-known more s
       (λ one told e. elim (puts one told e) [
-        | inl (p, v) ↦ subst (λ q. Says game wins.nodes replies.nodes q told) (sym p) (subst (Says game wins.nodes replies.nodes position) (sym v) says)
+        | inl (p, v) ↦ subst (λ q. Says game wins.nodes replies q told) (sym p) (subst (Says game wins.nodes replies position) (sym v) says)
         | inr old ↦ s.known one told old
       ])
 
@@ -165,8 +195,7 @@ module _ (game : GameNumbers) (pass : ℕ) (meter : Metered) (wins : adversary_p
   AreSound-counted after next s e is later left = subst (λ m. AreSound game pass m wins replies entries) (sym e) (record {
     wins_game = s.wins_game;
     wins_format = s.wins_format;
-    replies_game = s.replies_game;
-    replies_format = s.replies_format;
+    ready = s.ready;
     counts = CountsVisits-counted (whole_game game) meter next s.counts is later;
     within = omega (arith, s.within, left);
     budget = s.budget;
@@ -182,33 +211,31 @@ module _ (game : GameNumbers) (pass : ℕ) (meter : Metered) (wins : adversary_p
   AreSound-win after position number s p won = subst (λ w. AreSound game pass meter w replies entries) (sym p.pool) (record {
     wins_game = s.wins_game;
     wins_format = s.wins_format;
-    replies_game = s.replies_game;
-    replies_format = s.replies_format;
+    ready = s.ready;
     counts = s.counts;
     within = s.within;
     budget = s.budget;
     won = All-push (λ node. IsWonIn game pass (adversary.position_of node)) wins.nodes p.node s.won (subst (IsWonIn game pass) (sym p.stands) won);
     lost = s.lost;
-    known = λ one told e. Says-goes game wins.nodes (wins.nodes ++ p.node ∷ []) replies.nodes replies.nodes one told
-        (GoesOn-push wins.nodes p.node) (GoesOn-refl replies.nodes) (s.known one told e);
+    known = λ one told e. Says-goes game wins.nodes (wins.nodes ++ p.node ∷ []) replies replies one told
+        (GoesOn-push wins.nodes p.node) (GoesOn-refl replies) (s.known one told e);
   })
 
-  -- after a node of the algorithm at a position that is never won
-  pub AreSound-reply : (after : algorithm_pools.Pool) (position : Position) (number : ℕ) → AreSound game pass meter wins replies entries
-      → PutsReply replies after position number → IsNeverWon game position
+  -- after replies at a position that is never won
+  pub AreSound-reply : (after : List Reply) (position : Position) (made : List Entry) (number : ℕ) → AreSound game pass meter wins replies entries
+      → (p : KeepsReply replies after position made number) → IsNeverWon game position → IsReady game replies p.reply
       → AreSound game pass meter wins after entries
-  AreSound-reply after position number s p never = subst (λ r. AreSound game pass meter wins r entries) (sym p.pool) (record {
+  AreSound-reply after position made number s p never ready = subst (λ r. AreSound game pass meter wins r entries) (sym p.list) (record {
     wins_game = s.wins_game;
     wins_format = s.wins_format;
-    replies_game = s.replies_game;
-    replies_format = s.replies_format;
+    ready = AreReady-push game replies p.reply s.ready ready;
     counts = s.counts;
     within = s.within;
     budget = s.budget;
     won = s.won;
-    lost = All-push (λ node. IsNeverWon game (algorithm.position_of node)) replies.nodes p.node s.lost (subst (IsNeverWon game) (sym p.stands) never);
-    known = λ one told e. Says-goes game wins.nodes wins.nodes replies.nodes (replies.nodes ++ p.node ∷ []) one told
-        (GoesOn-refl wins.nodes) (GoesOn-push replies.nodes p.node) (s.known one told e);
+    lost = All-push (λ reply. IsNeverWon game (position_of_reply reply)) replies p.reply s.lost (subst (IsNeverWon game) (sym p.stands) never);
+    known = λ one told e. Says-goes game wins.nodes wins.nodes replies (replies ++ p.reply ∷ []) one told
+        (GoesOn-refl wins.nodes) (GoesOn-push replies p.reply) (s.known one told e);
   })
 
   -- in a later pass
@@ -216,8 +243,7 @@ module _ (game : GameNumbers) (pass : ℕ) (meter : Metered) (wins : adversary_p
   AreSound-later later l s = record {
     wins_game = s.wins_game;
     wins_format = s.wins_format;
-    replies_game = s.replies_game;
-    replies_format = s.replies_format;
+    ready = s.ready;
     counts = s.counts;
     within = s.within;
     budget = s.budget;

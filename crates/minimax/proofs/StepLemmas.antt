@@ -18,8 +18,6 @@ use Rattle.good_situations.specs.Finish.{Finishes}
 use Rattle.strategy_text.specs.declared.node.Then.TheVariants.{Over}
 use Rattle.adversary_graph.specs.Nodes as adversary
 use Rattle.adversary_graph.specs.Pools as adversary_pools
-use Rattle.algorithm_graph.specs.Nodes as algorithm
-use Rattle.algorithm_graph.specs.Pools as algorithm_pools
 use Rattle.monotone.specs.Paths.{IsEarlierMove, IsLegalMove, moved, position_after}
 use Rattle.monotone.specs.Visits.{visit, Metered, IsLater, counted}
 use Rattle.monotone.specs.declared.meter.VisitFault.{VisitFault}
@@ -31,9 +29,12 @@ use Rattle.transposition.specs.declared.verdict.Verdict.{Verdict}
 use Rattle.transposition.specs.declared.verdict.Verdict.TheVariants.{Adversary, Algorithm, Held}
 use Rattle.minimax.specs.Settled.{AreSettledFrom, IsSettledMove}
 use Rattle.minimax.specs.State.{IsBound, IsFinish, AreSound, FindsVerdict, FollowsUp, Goes, HasPassed, HasReached, IsHeld, IsNeverWon, IsOfPass, IsOpenAt, IsOpenFrom}
-use Rattle.minimax.specs.State.{IsSound, IsWonIn, MayCome, MayVisit, PutsOnly, PutsReply, PutsWin, Says, StandsAtPath, Tells, WentOn}
+use Rattle.minimax.specs.State.{IsSound, IsWonIn, MayCome, MayVisit, PutsOnly, PutsWin, Says, StandsAtPath, Tells, WentOn}
 use Rattle.minimax.specs.State.{allowed_by, reached_by, with_move}
+use Rattle.minimax.specs.State.{IsReady, KeepsReply, position_of_reply}
+use Rattle.strategy_text.specs.declared.node.Entry.{Entry}
 use Rattle.minimax.specs.declared.expanding.Search.{Search}
+use Rattle.minimax.specs.declared.replies.Reply.{Reply}
 use Rattle.minimax.specs.declared.finish_nodes.TheConstants.{FINISHES}
 use Rattle.minimax.proofs.PastLemmas.{HasPassed-later, HasPassed-moves, HasPassed-path, HasPassed-visited}
 use Rattle.minimax.proofs.PlayableLemmas.{IsPlayable-after}
@@ -54,7 +55,7 @@ passed_on P Q fault (Err other) h q = subst Q (sym h) q
 pub Goes-refl : (search : Search) → Goes search search
 Goes-refl s = record {
   wins = GoesOn-refl s.wins.nodes;
-  replies = GoesOn-refl s.replies.nodes;
+  replies = GoesOn-refl s.replies;
   path = refl;
   most = refl;
   budget = refl;
@@ -63,7 +64,7 @@ Goes-refl s = record {
 pub Goes-trans : (s0 s1 s2 : Search) → Goes s0 s1 → Goes s1 s2 → Goes s0 s2
 Goes-trans s0 s1 s2 g h = record {
   wins = GoesOn-trans s0.wins.nodes s1.wins.nodes s2.wins.nodes g.wins h.wins;
-  replies = GoesOn-trans s0.replies.nodes s1.replies.nodes s2.replies.nodes g.replies h.replies;
+  replies = GoesOn-trans s0.replies s1.replies s2.replies g.replies h.replies;
   path = h.path ∙ g.path;
   most = h.most ∙ g.most;
   budget = h.budget ∙ g.budget;
@@ -147,32 +148,31 @@ module _ (game : GameNumbers) (pass : ℕ) where
 
   -- ---- a decision
 
-  -- a node of the algorithm gives the verdict
-  pub finds_reply : (s0 s1 : Search) (replies : algorithm_pools.Pool) (a : PathMove) (position : Position) (entries : List (Position × Verdict)) (number : ℕ)
-      → WentOn game pass (s0.path ++ a ∷ []) s0 s1 entries → PutsReply s1.replies replies position number
-      → IsNeverWon game position → (Finishes game position.loads → ⊥) → FindsVerdict game pass position s0 (record s1 { replies = replies }) entries (Algorithm number)
-  finds_reply s0 s1 replies a position entries number g p never unfinished =
-      let nodes : replies.nodes ≡ s1.replies.nodes ++ p.node ∷ [] = ap (λ r. r.nodes) p.pool in
-      record {
-        went = record {
-          goes = record {
-            wins = g.goes.wins;
-            replies = GoesOn-trans s0.replies.nodes s1.replies.nodes replies.nodes g.goes.replies (p.node ∷ [], nodes);
-            path = g.goes.path;
-            most = g.goes.most;
-            budget = g.goes.budget;
-          };
-          sound = AreSound-reply game pass s1.meter s1.wins s1.replies entries replies position number g.sound p never;
-          passed = HasPassed-path s1.meter pass s0.path a g.passed;
-        };
-        tells = record {
-          says = inl (record {
-            stands = StandsAt-last algorithm.position_of s1.replies.nodes replies.nodes p.node number position nodes p.is_last p.stands;
-            unfinished = unfinished;
-          });
-          of_pass = tt;
-        };
-      }
+  -- replies give the verdict
+  pub finds_reply : (s0 s1 : Search) (replies : List Reply) (a : PathMove) (position : Position) (made : List Entry) (entries : List (Position × Verdict)) (number : ℕ)
+      → WentOn game pass (s0.path ++ a ∷ []) s0 s1 entries → (p : KeepsReply s1.replies replies position made number) → IsNeverWon game position
+      → (Finishes game position.loads → ⊥) → IsReady game s1.replies p.reply
+      → FindsVerdict game pass position s0 (record s1 { replies = replies }) entries (Algorithm number)
+  finds_reply s0 s1 replies a position made entries number g p never unfinished ready = record {
+    went = record {
+      goes = record {
+        wins = g.goes.wins;
+        replies = GoesOn-trans s0.replies s1.replies replies g.goes.replies (p.reply ∷ [], p.list);
+        path = g.goes.path;
+        most = g.goes.most;
+        budget = g.goes.budget;
+      };
+      sound = AreSound-reply game pass s1.meter s1.wins s1.replies entries replies position made number g.sound p never ready;
+      passed = HasPassed-path s1.meter pass s0.path a g.passed;
+    };
+    tells = record {
+      says = inl (record {
+        stands = StandsAt-last position_of_reply s1.replies replies p.reply number position p.list p.is_last p.stands;
+        unfinished = unfinished;
+      });
+      of_pass = tt;
+    };
+  }
 
   -- a node of the adversary gives the verdict
   pub finds_win : (s0 s1 : Search) (wins : adversary_pools.Pool) (a : PathMove) (position : Position) (entries : List (Position × Verdict)) (number : ℕ)
@@ -329,7 +329,7 @@ module _ (game : GameNumbers) (pass : ℕ) where
         },
         reaches (record s2 { path = back }) entries position size load verdict below finds.went.sound
             (record {
-              says = subst (λ p. Says game s2.wins.nodes s2.replies.nodes p verdict) f finds.tells.says;
+              says = subst (λ p. Says game s2.wins.nodes s2.replies p verdict) f finds.tells.says;
               of_pass = finds.tells.of_pass;
             }),
       )

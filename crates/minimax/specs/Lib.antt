@@ -6,3 +6,4 @@ pub mod Fresh
 pub mod Serving
 pub mod Rooms
 pub mod Naming
+pub mod Writing

@@ -1,19 +1,12 @@
--- Serves private contracts: a position that finishes has no node until a reply leads to it. That there are no more nodes
--- than visits rests on a list of the positions that finish, were visited and have no node yet.
-use Rattle.std.specs.Prelude.{◌≡◌, ℕ, ◌+◌, ◌<◌, ◌≤◌, ◌⊎◌, IsTrue, List, [], ◌∷◌, ◌++◌, Option, Some, IsSome, length, map, Contains}
+-- Serves private contracts: a position that finishes has no node until a strategy is written. That there are no more nodes
+-- than visits rests on a list of the positions that finish and were visited.
+use Rattle.std.specs.Prelude.{◌≡◌, ℕ, ◌+◌, ◌<◌, ◌≤◌, IsTrue, List, [], ◌∷◌, ◌++◌, Some, length, All, Contains}
 use Rattle.items.specs.Game.{GameNumbers}
 use Rattle.items.specs.Packable.{Packable}
 use Rattle.loads.specs.After.{after}
-use Rattle.loads.specs.Packed.{are_equal}
-use Rattle.loads.specs.Position.{StandsAt}
 use Rattle.loads.specs.declared.position.Position.{Position}
 use Rattle.strategy_text.specs.declared.node.Entry.{Entry}
-use Rattle.strategy_text.specs.declared.node.AdvNode.{AdvNode}
-use Rattle.strategy_text.specs.declared.node.AlgNode.{AlgNode}
-use Rattle.algorithm_graph.specs.Nodes as algorithm
 use Rattle.good_situations.specs.Finish.{Finishes}
-use Rattle.monotone.specs.Visits.{Metered}
-use Rattle.transposition.specs.Bounded.{found}
 use Rattle.transposition.specs.Memo.{verdict_of}
 use Rattle.transposition.specs.declared.verdict.Verdict.{Verdict}
 use Rattle.transposition.specs.declared.verdict.Verdict.TheVariants.{Algorithm, Held}
@@ -24,29 +17,28 @@ use Rattle.minimax.specs.declared.finish_nodes.TheConstants.{FINISHES}
 use Rattle.minimax.specs.declared.expanding.Reached.{Reached}
 use Rattle.minimax.specs.declared.expanding.Reached.TheVariants.{Answers, ByNext}
 use Rattle.minimax.specs.declared.expanding.Search.{Search}
+use Rattle.minimax.specs.declared.replies.Reply.{Reply}
 use Rattle.minimax.specs.declared.expanding.Tried.{Tried}
 use Rattle.minimax.specs.declared.expanding.Tried.TheVariants.{Answered, Wins}
 use Rattle.minimax.specs.declared.expanding.Weighed.{Weighed}
 use Rattle.minimax.specs.declared.expanding.Weighed.TheVariants.{NoReply, Replied, Won}
 
--- the number of the node that finishes at a position, where it was put
-abbrev pub number_of : List (Position × ℕ) → Position → Option ℕ
-number_of finishes position = found are_equal finishes position
+-- a position that finishes is on the list
+abbrev pub IsServed : List Position → Position → Type 0
+IsServed unnamed position = Contains unnamed position
 
--- a position that finishes is on the list, or has a node
-abbrev pub IsServed : List Position → Search → Position → Type 0
-IsServed unnamed search position = Contains unnamed position ⊎ IsSome (number_of search.finishes position)
+-- the position to which an entry leads
+abbrev pub led_to : Position → Entry → Position
+led_to position entry = after position entry.load entry.size
 
--- so many visits are left over for nodes beside those of the list, and each number that was given is that of a node at
--- the position
-pub record AreUnder (spare : ℕ) (unnamed : List Position) (meter : Metered) (wins : List AdvNode) (replies : List AlgNode)
-    (finishes : List (Position × ℕ)) : Type 0 where
-  pub few : length unnamed + length wins + length replies + spare ≤ meter.count
-  pub named : (position : Position) (number : ℕ) → number_of finishes position ≡ Some number
-      → StandsAt (map algorithm.position_of replies) number position
+-- what an entry leads to is served
+abbrev pub IsEntryServed : List Position → Position → Entry → Type 0
+IsEntryServed unnamed position entry = entry.to ≡ FINISHES → IsServed unnamed (led_to position entry)
 
+-- so many visits are left over for nodes beside those of the list, of the adversary's nodes and of the replies
 abbrev pub IsUnder : ℕ → List Position → Search → Type 0
-IsUnder spare unnamed search = AreUnder spare unnamed search.meter search.wins.nodes search.replies.nodes search.finishes
+IsUnder spare unnamed search =
+    length unnamed + length search.wins.nodes + length search.replies + spare ≤ search.meter.count
 
 -- the greatest load that stays below the target with an item of this size
 pub record IsFirst (game : GameNumbers) (position : Position) (size load : ℕ) : Type 0 where
@@ -55,29 +47,33 @@ pub record IsFirst (game : GameNumbers) (position : Position) (size load : ℕ) 
   pub larger : (other : ℕ) → Contains position.loads other → load < other → game.target ≤ other + size
 
 -- where the item at that load leads to a position that finishes, that is served
-abbrev pub IsFirstServed : GameNumbers → List Position → Search → Position → ℕ → Type 0
-IsFirstServed game unnamed search position size =
+abbrev pub IsFirstServed : GameNumbers → List Position → Position → ℕ → Type 0
+IsFirstServed game unnamed position size =
     (load : ℕ) → IsFirst game position size load → Finishes game (after position load size).loads
-    → IsServed unnamed search (after position load size)
+    → IsServed unnamed (after position load size)
 
 -- so it is for each size of a pass that may come
-abbrev pub IsTriedOut : GameNumbers → ℕ → List Position → Search → Position → Type 0
-IsTriedOut game pass unnamed search position =
+abbrev pub IsTriedOut : GameNumbers → ℕ → List Position → Position → Type 0
+IsTriedOut game pass unnamed position =
     (size : ℕ) → IsTrue (allowed_by game pass position.items size) → Packable game (position.items ++ size ∷ [])
-    → IsFirstServed game unnamed search position size
+    → IsFirstServed game unnamed position size
 
 -- a position whose verdict tells that it finishes is served, and one without a win in a pass is tried out in it
-abbrev pub IsServedBy : GameNumbers → List Position → Search → Position → Verdict → Type 0
-IsServedBy game unnamed search position verdict =
-    (verdict ≡ Algorithm FINISHES → IsServed unnamed search position)
-    × ((pass : ℕ) → verdict ≡ Held pass → IsTriedOut game pass unnamed search position)
+abbrev pub IsServedBy : GameNumbers → List Position → Position → Verdict → Type 0
+IsServedBy game unnamed position verdict =
+    (verdict ≡ Algorithm FINISHES → IsServed unnamed position)
+    × ((pass : ℕ) → verdict ≡ Held pass → IsTriedOut game pass unnamed position)
 
--- and so is each position with an entry, by its verdict
+-- and so is each position with an entry, by its verdict, and what the replies lead to
+pub record AreServed (game : GameNumbers) (unnamed : List Position) (replies : List Reply)
+    (entries : List (Position × Verdict)) : Type 0 where
+  pub known : (position : Position) (verdict : Verdict) → verdict_of entries position ≡ Some verdict
+      → IsServedBy game unnamed position verdict
+  pub replied : (reply : Reply) → Contains replies reply → All (IsEntryServed unnamed reply.position) reply.entries.items
+
 abbrev pub IsBehind : GameNumbers → ℕ → List Position → Search → List (Position × Verdict) → Type 0
 IsBehind game spare unnamed search entries =
-    IsUnder spare unnamed search
-    × ((position : Position) (verdict : Verdict) → verdict_of entries position ≡ Some verdict
-    → IsServedBy game unnamed search position verdict)
+    IsUnder spare unnamed search × AreServed game unnamed search.replies entries
 
 -- there is such a list
 abbrev pub HasSpare : GameNumbers → ℕ → Search → List (Position × Verdict) → Type 0
@@ -88,7 +84,7 @@ pub record Serving (game : GameNumbers) (spare : ℕ) (unnamed : List Position) 
     (entries : List (Position × Verdict)) (More : List Position → Type 0) : Type 0 where
   pub later : List Position
   pub behind : IsBehind game spare later after entries
-  pub keeps : (position : Position) → IsServed unnamed before position → IsServed later after position
+  pub keeps : (position : Position) → IsServed unnamed position → IsServed later position
   pub more : More later
 
 -- whatever the list was, a search came to another, and took so many of the visits that were left over
@@ -99,53 +95,45 @@ KeepsServing game took before old after new More =
     → Serving game spare unnamed before after new More
 
 -- a position of which the table told an earlier pass is tried out in that pass
-abbrev pub IsTriedBefore : GameNumbers → Told → List Position → Search → Position → Type 0
-IsTriedBefore game told unnamed search position =
-    (pass : ℕ) → told ≡ Earlier pass → IsTriedOut game pass unnamed search position
+abbrev pub IsTriedBefore : GameNumbers → Told → List Position → Position → Type 0
+IsTriedBefore game told unnamed position =
+    (pass : ℕ) → told ≡ Earlier pass → IsTriedOut game pass unnamed position
 
 -- the same from each list with which the position is tried out as the table told
 abbrev pub KeepsServingTold : GameNumbers → Told → Position → ℕ → Search → List (Position × Verdict) → Search
     → List (Position × Verdict) → (List Position → Type 0) → Type 0
 KeepsServingTold game told position took before old after new More =
     (spare : ℕ) (unnamed : List Position) → IsBehind game (took + spare) unnamed before old
-    → IsTriedBefore game told unnamed before position → Serving game spare unnamed before after new More
+    → IsTriedBefore game told unnamed position → Serving game spare unnamed before after new More
 
 -- so is what an item at a load came to
-abbrev pub IsServedAt : GameNumbers → List Position → Search → Position → ℕ → ℕ → Reached → Type 0
-IsServedAt game unnamed search position size load (ByNext next) = Unit {0}
-IsServedAt game unnamed search position size load (Answers verdict) =
-    IsServedBy game unnamed search (after position load size) verdict
+abbrev pub IsServedAt : GameNumbers → List Position → Position → ℕ → ℕ → Reached → Type 0
+IsServedAt game unnamed position size load (ByNext next) = Unit {0}
+IsServedAt game unnamed position size load (Answers verdict) =
+    IsServedBy game unnamed (after position load size) verdict
 
 -- what an item came to
-abbrev pub IsServedWith : GameNumbers → List Position → Search → Position → ℕ → Tried → Type 0
-IsServedWith game unnamed search position size (Wins placements) = Unit {0}
-IsServedWith game unnamed search position size (Answered load verdict) =
-    IsServedBy game unnamed search (after position load size) verdict
-
--- the position to which an entry leads
-abbrev pub led_to : Position → Entry → Position
-led_to position entry = after position entry.load entry.size
-
--- what an entry leads to
-abbrev pub IsEntryServed : List Position → Search → Position → Entry → Type 0
-IsEntryServed unnamed search position entry = entry.to ≡ FINISHES → IsServed unnamed search (led_to position entry)
+abbrev pub IsServedWith : GameNumbers → List Position → Position → ℕ → Tried → Type 0
+IsServedWith game unnamed position size (Wins placements) = Unit {0}
+IsServedWith game unnamed position size (Answered load verdict) =
+    IsServedBy game unnamed (after position load size) verdict
 
 -- a size that the pass allows was tried
-abbrev pub IsSizeTried : GameNumbers → ℕ → List Position → Search → Position → ℕ → Type 0
-IsSizeTried game pass unnamed search position size =
-    IsTrue (allowed_by game pass position.items size) → IsFirstServed game unnamed search position size
+abbrev pub IsSizeTried : GameNumbers → ℕ → List Position → Position → ℕ → Type 0
+IsSizeTried game pass unnamed position size =
+    IsTrue (allowed_by game pass position.items size) → IsFirstServed game unnamed position size
 
 -- so was each size above one, up to the room
-abbrev pub AreTried : GameNumbers → ℕ → ℕ → ℕ → List Position → Search → Position → Type 0
-AreTried game pass above room unnamed search position =
-    (size : ℕ) → above < size → size ≤ room → IsSizeTried game pass unnamed search position size
+abbrev pub AreTried : GameNumbers → ℕ → ℕ → ℕ → List Position → Position → Type 0
+AreTried game pass above room unnamed position =
+    (size : ℕ) → above < size → size ≤ room → IsSizeTried game pass unnamed position size
 
 -- and what was found of a size
-abbrev pub IsServedFor : GameNumbers → ℕ → List Position → Search → Position → ℕ → Weighed → Type 0
-IsServedFor game pass unnamed search position size (Won number) = Unit {0}
-IsServedFor game pass unnamed search position size (Replied entry) =
-    IsEntryServed unnamed search position entry × IsSizeTried game pass unnamed search position size
-IsServedFor game pass unnamed search position size NoReply = IsSizeTried game pass unnamed search position size
+abbrev pub IsServedFor : GameNumbers → ℕ → List Position → Position → ℕ → Weighed → Type 0
+IsServedFor game pass unnamed position size (Won number) = Unit {0}
+IsServedFor game pass unnamed position size (Replied entry) =
+    IsEntryServed unnamed position entry × IsSizeTried game pass unnamed position size
+IsServedFor game pass unnamed position size NoReply = IsSizeTried game pass unnamed position size
 
 -- a size that wins takes one visit that was left over
 abbrev pub taken_by : Weighed → ℕ

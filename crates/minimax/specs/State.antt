@@ -1,6 +1,6 @@
 -- Serves private contracts: what a search keeps while it goes on. Nothing here has to be believed.
 use Rattle.std.specs.Prelude.{◌≡◌, ℕ, ◌+◌, ◌-◌, ◌<◌, ◌≤◌, ◌⊎◌, Bool, IsTrue, List, [], ◌∷◌, ◌++◌, Option, Some, None}
-use Rattle.std.specs.Prelude.{length, map, false}
+use Rattle.std.specs.Prelude.{length, map, take, slice_get, false}
 use Rattle.std.specs.Prelude.{All, Contains}
 use Rattle.std.specs.List.{range_with_len}
 use Rattle.items.specs.Game.{GameNumbers}
@@ -42,6 +42,7 @@ use Rattle.minimax.specs.declared.finish_nodes.TheConstants.{FINISHES}
 use Rattle.minimax.specs.declared.expanding.Reached.{Reached}
 use Rattle.minimax.specs.declared.expanding.Reached.TheVariants.{Answers, ByNext}
 use Rattle.minimax.specs.declared.expanding.Search.{Search}
+use Rattle.minimax.specs.declared.replies.Reply.{Reply}
 use Rattle.minimax.specs.declared.expanding.Tried.{Tried}
 use Rattle.minimax.specs.declared.expanding.Tried.TheVariants.{Answered, Wins}
 use Rattle.minimax.specs.declared.expanding.Weighed.{Weighed}
@@ -81,13 +82,17 @@ pub record IsFinish (game : GameNumbers) (position : Position) (number : ℕ) : 
   pub finishes : Finishes game position.loads
   pub never : IsNeverWon game position
 
--- the algorithm's node of this number stands at the position, which does not finish
-pub record IsNode (game : GameNumbers) (replies : List AlgNode) (position : Position) (number : ℕ) : Type 0 where
-  pub stands : StandsAt (map algorithm.position_of replies) number position
+-- the position of kept replies
+abbrev pub position_of_reply : Reply → Position
+position_of_reply reply = reply.position
+
+-- the replies of this number stand at the position, which does not finish
+pub record IsNode (game : GameNumbers) (replies : List Reply) (position : Position) (number : ℕ) : Type 0 where
+  pub stands : StandsAt (map position_of_reply replies) number position
   pub unfinished : Finishes game position.loads → ⊥
 
--- the algorithm's node of this number stands at the position, or the position finishes
-abbrev pub IsLed : GameNumbers → List AlgNode → Position → ℕ → Type 0
+-- the replies of this number stand at the position, or the position finishes
+abbrev pub IsLed : GameNumbers → List Reply → Position → ℕ → Type 0
 IsLed game replies position number = IsNode game replies position number ⊎ IsFinish game position number
 
 -- that the adversary has no win in a pass, which is not the last one
@@ -97,7 +102,7 @@ pub record IsHeld (game : GameNumbers) (pass : ℕ) (position : Position) : Type
   pub unfinished : Finishes game position.loads → ⊥
 
 -- what a verdict says of a position: the node of its number stands there, or it finishes, or the adversary has no win
-abbrev pub Says : GameNumbers → List AdvNode → List AlgNode → Position → Verdict → Type 0
+abbrev pub Says : GameNumbers → List AdvNode → List Reply → Position → Verdict → Type 0
 Says game wins replies position (Adversary number) = StandsAt (map adversary.position_of wins) number position
 Says game wins replies position (Algorithm number) = IsLed game replies position number
 Says game wins replies position (Held pass) = IsHeld game pass position
@@ -109,25 +114,51 @@ IsOfPass pass (Algorithm number) = Unit {0}
 IsOfPass pass (Held held) = held ≡ pass
 
 -- each entry says what holds
-abbrev pub AreKnown : GameNumbers → List AdvNode → List AlgNode → List (Position × Verdict) → Type 0
+abbrev pub AreKnown : GameNumbers → List AdvNode → List Reply → List (Position × Verdict) → Type 0
 AreKnown game wins replies entries =
     (position : Position) (verdict : Verdict) → verdict_of entries position ≡ Some verdict
     → Says game wins replies position verdict
 
--- pools of the game, a meter that counted visits of it, nodes of the adversary that are won in this pass, nodes of the
--- algorithm that are won in none, and entries that hold
+-- the entry names a load that stays below the target with its size, which may come, and leads to an earlier node or to
+-- a position that finishes
+pub record IsPending (game : GameNumbers) (replies : List Reply) (position : Position) (entry : Entry) : Type 0 where
+  pub names : NamesLoad game position.loads entry
+  pub may_come : Packable game (position.items ++ entry.size ∷ [])
+  pub leads : IsLed game replies (after position entry.load entry.size) entry.to
+
+-- the numbers from one downwards, so many
+abbrev pub numbers_down : ℕ → ℕ → List ℕ
+numbers_down high n = map (λ k. high - k) (range_with_len 0 n)
+
+-- the entries are of each size up to the room, from the largest on
+pub record AreOfAll (game : GameNumbers) (position : Position) (room : ℕ) (entries : List Entry) : Type 0 where
+  pub is_room : IsRoom game position.items room
+  pub sizes : map (λ (entry : Entry). entry.size) entries ≡ numbers_down room room
+
+-- the replies at a position of the game: to each size that may come, by earlier replies or positions that finish
+pub record IsReady (game : GameNumbers) (earlier : List Reply) (reply : Reply) : Type 0 where
+  pub playable : IsPlayable game reply.position
+  pub room : ℕ
+  pub of_all : AreOfAll game reply.position room reply.entries.items
+  pub pending : All (IsPending game earlier reply.position) reply.entries.items
+
+-- and so each of a list, over those before it
+abbrev pub AreReady : GameNumbers → List Reply → Type 0
+AreReady game replies = (k : ℕ) (reply : Reply) → slice_get replies k ≡ Some reply → IsReady game (take k replies) reply
+
+-- a pool of the game, a meter that counted visits of it, nodes of the adversary that are won in this pass, replies of
+-- the algorithm at positions that are won in none, and entries that hold
 pub record AreSound (game : GameNumbers) (pass : ℕ) (meter : Metered) (wins : adversary_pools.Pool)
-    (replies : algorithm_pools.Pool) (entries : List (Position × Verdict)) : Type 0 where
+    (replies : List Reply) (entries : List (Position × Verdict)) : Type 0 where
   pub wins_game : wins.game ≡ game
   pub wins_format : wins.format ≡ One
-  pub replies_game : replies.game ≡ game
-  pub replies_format : replies.format ≡ One
   pub counts : CountsVisits (whole_game game) meter
   pub within : meter.count ≤ meter.budget
   pub budget : meter.budget ≤ most_nodes
   pub won : All (λ node. IsWonIn game pass (adversary.position_of node)) wins.nodes
-  pub lost : All (λ node. IsNeverWon game (algorithm.position_of node)) replies.nodes
-  pub known : AreKnown game wins.nodes replies.nodes entries
+  pub lost : All (λ reply. IsNeverWon game (position_of_reply reply)) replies
+  pub ready : AreReady game replies
+  pub known : AreKnown game wins.nodes replies entries
 
 -- what a search keeps
 abbrev pub IsSound : GameNumbers → ℕ → Search → List (Position × Verdict) → Type 0
@@ -215,7 +246,7 @@ GoesOn {X} before after = (more : List X) × (after ≡ before ++ more)
 -- the pools went on, and path and budget are as before
 pub record Goes (before after : Search) : Type 0 where
   pub wins : GoesOn before.wins.nodes after.wins.nodes
-  pub replies : GoesOn before.replies.nodes after.replies.nodes
+  pub replies : GoesOn before.replies after.replies
   pub path : after.path ≡ before.path
   pub most : after.most ≡ before.most
   pub budget : after.meter.budget ≡ before.meter.budget
@@ -230,7 +261,7 @@ pub record WentOn (game : GameNumbers) (pass : ℕ) (past : List PathMove) (befo
 -- the verdict of this pass says what holds of the position
 pub record Tells (game : GameNumbers) (pass : ℕ) (search : Search) (position : Position)
     (verdict : Verdict) : Type 0 where
-  pub says : Says game search.wins.nodes search.replies.nodes position verdict
+  pub says : Says game search.wins.nodes search.replies position verdict
   pub of_pass : IsOfPass pass verdict
 
 -- the search of a position went on to a verdict
@@ -275,13 +306,6 @@ HasTried game pass search position size (Answered load verdict) =
     Contains position.loads load × (load + size < game.target) × IsNoWin verdict
     × Tells game pass search (after position load size) verdict × AreWonAbove game pass position size load
 
--- the entry names a load that stays below the target with its size, which may come, and leads to an earlier node or to
--- a position that finishes
-pub record IsPending (game : GameNumbers) (replies : List AlgNode) (position : Position) (entry : Entry) : Type 0 where
-  pub names : NamesLoad game position.loads entry
-  pub may_come : Packable game (position.items ++ entry.size ∷ [])
-  pub leads : IsLed game replies (after position entry.load entry.size) entry.to
-
 -- the entry names a load that stays below the target with its size, and leads to an earlier node
 pub record IsReply (game : GameNumbers) (replies : List AlgNode) (position : Position) (entry : Entry) : Type 0 where
   pub names : NamesLoad game position.loads entry
@@ -291,7 +315,7 @@ pub record IsReply (game : GameNumbers) (replies : List AlgNode) (position : Pos
 abbrev pub IsAnswered : GameNumbers → ℕ → Search → Position → ℕ → Weighed → Type 0
 IsAnswered game pass search position size (Won number) = ⊥
 IsAnswered game pass search position size (Replied entry) =
-    (entry.size ≡ size) × IsPending game search.replies.nodes position entry
+    (entry.size ≡ size) × IsPending game search.replies position entry
 IsAnswered game pass search position size NoReply = pass + 1 < game.capacity
 
 -- a size was found not to win
@@ -346,6 +370,14 @@ pub record PlacesAll (game : GameNumbers) (wins : List AdvNode) (position : Posi
   pub leads : All (λ placement. LeadsTo (map adversary.position_of wins) placement.next
       (after position placement.load size)) placements
 
+-- replies at this position were put at the end of a list
+pub record KeepsReply (before after : List Reply) (position : Position) (entries : List Entry) (number : ℕ) : Type 0 where
+  pub reply : Reply
+  pub stands : reply.position ≡ position
+  pub kept : reply.entries.items ≡ entries
+  pub list : after ≡ before ++ reply ∷ []
+  pub is_last : number ≡ length before
+
 -- the rules of an act are met at a position
 pub record MayAct (pool : algorithm_pools.Pool) (position : Position) (act : Act) : Type 0 where
   pub playable : IsPlayable pool.game position
@@ -353,15 +385,6 @@ pub record MayAct (pool : algorithm_pools.Pool) (position : Position) (act : Act
   pub formed : algorithm.IsOfFormat pool.format act
   pub follows : MeetsRules pool.game (sizes_of pool.game) (map algorithm.position_of pool.nodes) false
       (node_at position act)
-
--- the numbers from one downwards, so many
-abbrev pub numbers_down : ℕ → ℕ → List ℕ
-numbers_down high n = map (λ k. high - k) (range_with_len 0 n)
-
--- the entries are of each size up to the room, from the largest on
-pub record AreOfAll (game : GameNumbers) (position : Position) (room : ℕ) (entries : List Entry) : Type 0 where
-  pub is_room : IsRoom game position.items room
-  pub sizes : map (λ (entry : Entry). entry.size) entries ≡ numbers_down room room
 
 -- the entries reply to each size up to the room, from the largest on
 pub record ReplyToAll (game : GameNumbers) (replies : List AlgNode) (position : Position) (room : ℕ)

@@ -12,14 +12,13 @@ ghost use Rattle.minimax.specs.State.{IsSound, HasReached, HasTried, HasWeighed,
 ghost use Rattle.minimax.specs.State.{IsBound, IsOpenAt, IsOpenFrom, IsTold, MayCome, MayVisit, StandsAtPath, Stops, WentOn};
 ghost use Rattle.minimax.specs.State.{kept_of, reached_by, with_move};
 
-use crate::finish_nodes::{FINISHES, FinishNodes};
-use crate::naming::{put, put_reply};
+use crate::finish_nodes::FINISHES;
 use crate::nodes::{after, push_win};
+use crate::replies::{Replies, keep, put};
 use crate::rooms::Rooms;
 use crate::skipping::skipped;
 use crate::table::{Told, known, remember, remember_finish};
 use adversary_graph::AdvPool;
-use algorithm_graph::AlgPool;
 use good_situations::finishes;
 use items::Game;
 use items::laws::game_is_legal;
@@ -35,8 +34,7 @@ pub(crate) struct Search {
     pub(crate) alloc: Global,
     pub(crate) meter: Meter,
     pub(crate) wins: AdvPool,
-    pub(crate) replies: AlgPool,
-    pub(crate) finishes: FinishNodes,
+    pub(crate) replies: Replies,
     pub(crate) rooms: Rooms,
     pub(crate) path: Path,
     // A bound on the room of the position that the path leads to: the room of the one before it.
@@ -85,7 +83,7 @@ pub(crate) fn expand<M: Memo>(
         (progress search.old.meter (M.entries memo.old) (M.room memo.old))
         (progress search.new.meter (M.entries memo.new) (M.room memo.new)) result }
     ensures serves { IfOk result (λ verdict. KeepsServing game.now 0 search.old (M.entries memo.old)
-        search.new (M.entries memo.new) (λ later. IsServedBy game.now later search.new position.now verdict)) }
+        search.new (M.entries memo.new) (λ later. IsServedBy game.now later position.now verdict)) }
 {
     let key = Key::of(search.alloc, &position.loads, &position.items)?;
     let told = known(memo, &key, pass);
@@ -127,7 +125,7 @@ fn decide<M: Memo>(
         (progress search.old.meter (M.entries memo.old) (M.room memo.old))
         (progress search.new.meter (M.entries memo.new) (M.room memo.new)) result }
     ensures serves { IfOk result (λ verdict. KeepsServing game.now 1 search.old (M.entries memo.old)
-        search.new (M.entries memo.new) (λ later. IsServedBy game.now later search.new position.now verdict)) }
+        search.new (M.entries memo.new) (λ later. IsServedBy game.now later position.now verdict)) }
 {
     let most = search.most;
     let room = search
@@ -162,7 +160,7 @@ fn weigh_all<M: Memo>(
         (progress search.old.meter (M.entries memo.old) (M.room memo.old))
         (progress search.new.meter (M.entries memo.new) (M.room memo.new)) result }
     ensures serves { IfOk result (λ verdict. KeepsServing game.now 1 search.old (M.entries memo.old)
-        search.new (M.entries memo.new) (λ later. IsServedBy game.now later search.new position.now verdict)) }
+        search.new (M.entries memo.new) (λ later. IsServedBy game.now later position.now verdict)) }
 {
     let mut entries = Vec::new(search.alloc);
     for tried in 0..room {
@@ -175,7 +173,7 @@ fn weigh_all<M: Memo>(
     if entries.len() < usize::from(room) {
         return Ok(Verdict::Held(pass));
     }
-    let number = put_reply(game, search, position, room, entries.as_slice())?;
+    let number = keep(search.alloc, &mut search.replies, position, entries)?;
     Ok(Verdict::Algorithm(number))
 }
 
@@ -202,7 +200,7 @@ fn weigh<M: Memo>(
         (progress search.new.meter (M.entries memo.new) (M.room memo.new)) result }
     ensures serves { IfOk result (λ weighed. KeepsServingTold game.now told position.now (taken_by weighed) search.old
         (M.entries memo.old) search.new (M.entries memo.new)
-        (λ later. IsServedFor game.now pass later search.new position.now size weighed)) }
+        (λ later. IsServedFor game.now pass later position.now size weighed)) }
 {
     game_is_legal(game);
     if !allows(pass, &position.items, size) {
@@ -252,7 +250,7 @@ fn try_size<M: Memo>(
         (progress search.old.meter (M.entries memo.old) (M.room memo.old))
         (progress search.new.meter (M.entries memo.new) (M.room memo.new)) result }
     ensures serves { IfOk result (λ tried. KeepsServing game.now 0 search.old (M.entries memo.old)
-        search.new (M.entries memo.new) (λ later. IsServedWith game.now later search.new position.now size tried)) }
+        search.new (M.entries memo.new) (λ later. IsServedWith game.now later position.now size tried)) }
 {
     let mut placements = Placements::new(search.alloc);
     for i in 0..position.loads.distinct_count() {
@@ -288,7 +286,7 @@ fn try_load<M: Memo>(
         (progress search.old.meter (M.entries memo.old) (M.room memo.old))
         (progress search.new.meter (M.entries memo.new) (M.room memo.new)) result }
     ensures serves { IfOk result (λ reached. KeepsServing game.now 0 search.old (M.entries memo.old)
-        search.new (M.entries memo.new) (λ later. IsServedAt game.now later search.new position.now size load reached)) }
+        search.new (M.entries memo.new) (λ later. IsServedAt game.now later position.now size load reached)) }
 {
     let target = game.t();
     if load + size >= target {

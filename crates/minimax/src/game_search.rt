@@ -13,11 +13,10 @@ ghost use Rattle.minimax.specs.Fresh.{IsWithin};
 
 use crate::answer::Answer;
 use crate::expanding::{Search, expand};
-use crate::finish_nodes::FinishNodes;
-use crate::naming::node_number;
+use crate::replies::Replies;
 use crate::rooms::Rooms;
+use crate::writing::write_replies;
 use adversary_graph::AdvPool;
-use algorithm_graph::AlgPool;
 use items::{Game, Items};
 use loads::{Loads, Position};
 use monotone::{Meter, Path, VisitFault};
@@ -82,8 +81,7 @@ fn search_passes<M: Memo>(
         alloc,
         meter: Meter::new(alloc, game, budget),
         wins: AdvPool::new(alloc, game, Format::One),
-        replies: AlgPool::new(alloc, game, Format::One),
-        finishes: FinishNodes::new(alloc),
+        replies: Replies::new(alloc),
         rooms: Rooms::new(alloc, game)?,
         path: Path::new(alloc),
         most: game.g(),
@@ -99,8 +97,8 @@ fn search_passes<M: Memo>(
                 return Ok(Answer::Adversary(search.wins.into_strategy(number)));
             }
             Ok(Verdict::Algorithm(told)) => {
-                let number = node_number(game, &mut search, &root, told)?;
-                return Ok(Answer::Algorithm(search.replies.into_strategy(number)));
+                let strategy = write_replies(alloc, game, &search.replies, &root, told, budget)?;
+                return Ok(Answer::Algorithm(strategy));
             }
             Err(VisitFault::Spent) => {
                 return Ok(Answer::Undecided {

@@ -7,9 +7,11 @@ mod finish_nodes;
 mod game_search;
 mod naming;
 mod nodes;
+mod replies;
 mod rooms;
 mod skipping;
 mod table;
+mod writing;
 
 pub use answer::Answer;
 pub use game_search::solve;

@@ -15,23 +15,20 @@ use Rattle.packing_witness.proofs.PackingLemmas.{size_of_last, le_room, Packable
 use Rattle.strategy_text.specs.declared.node.Entry.{Entry}
 use Rattle.transposition.specs.Bounded.{Puts}
 use Rattle.transposition.specs.Memo.{verdict_of}
-use Rattle.minimax.specs.Fresh.{CountsFresh, IsShort, is_fresh, progress}
-use Rattle.minimax.specs.State.{AreOfAll, FindsVerdict, HasReached, HasTried, HasWeighed, IsPending, IsTold, IsWonIn, PutsOnly, WentOn, allowed_by, numbers_down}
+use Rattle.minimax.specs.Fresh.{IsShort, is_fresh, progress}
+use Rattle.minimax.specs.State.{AreOfAll, HasReached, HasTried, HasWeighed, IsPending, IsTold, IsWonIn, PutsOnly, WentOn, allowed_by, numbers_down}
 use Rattle.minimax.specs.Serving.{IsEntryServed, IsServedAt, IsServedFor, IsServedWith, KeepsServing, KeepsServingTold, led_to, taken_by}
-use Rattle.minimax.specs.Naming.{MayNameAll, PutsNamed}
-use Rattle.minimax.specs.declared.expanding.Search.{Search}
 use Rattle.minimax.specs.declared.finish_nodes.TheConstants.{FINISHES}
 use Rattle.transposition.specs.declared.verdict.Verdict.TheVariants.{Adversary, Algorithm, Held}
 use Rattle.minimax.proofs.FinishLemmas.{IsNeverWon-finish}
 use Rattle.minimax.proofs.PlayableLemmas.{IsPlayable-after, total_with}
-use Rattle.minimax.proofs.SizeLemmas.{finds_after, follows_more, next_bound, may_come_allowed, never_by_replies, none_more, not_allowed}
+use Rattle.minimax.proofs.SizeLemmas.{finds_after, follows_more, ready_reply, next_bound, may_come_allowed, never_by_replies, none_more, not_allowed}
 use Rattle.minimax.proofs.SizeLemmas.{opens_load, opens_size, past_more, past_size}
 use Rattle.minimax.proofs.SizeLemmas.{placed_more, replies_more, replies_still, sizes_more, weighs, wins_by}
 use Rattle.minimax.proofs.StepLemmas.{finds_decided, finds_expanded, finds_finish, finds_held, finds_known, finds_reply, finds_win, may_visit_child, opens, passed_on}
 use Rattle.minimax.proofs.StepLemmas.{reached_child, reached_over}
 use Rattle.minimax.proofs.StepLemmas.{sound_visited, WentOn-later, WentOn-refl, WentOn-then}
-use Rattle.minimax.proofs.NamingLemmas.{Stays-all, WentOn-named}
-use Rattle.minimax.proofs.ServingLemmas.{AreUnder-counted, IsBehind-less, IsBehind-same, KeepsServing-then, KeepsServing-weaker, Serving-refl, spare_after}
+use Rattle.minimax.proofs.ServingLemmas.{AreServed-same, IsBehind-less, KeepsServing-then, KeepsServing-weaker, Serving-refl, spare_after}
 use Rattle.minimax.proofs.FreshLemmas.{CountsFresh-above, CountsFresh-refl, CountsFresh-same, CountsFresh-trans, CountsFresh-visited}
 use Rattle.minimax.proofs.FreshLemmas.{IsShort-above, IsShort-after}
 use Rattle.minimax.proofs.FreshLemmas.{IsShort-fault, IsShort-visited, IsVisited, fresh_told, none_for_finish, volume_after}
@@ -69,7 +66,8 @@ expand-decide-requires g t c κs l =
     let left : s.meter.count ≡ s.meter.budget → ⊥ = λ e. let bad = c.in_ok-visit.ensures.spent.1 e in cc in
     let key = subst (λ (p : Position). IsTold c.args.pass (verdict_of e0 p) c.known-told.result) c.in_ok-key.ensures.ok c.known-told.ensures.told in
     let told = subst (λ o. IsTold c.args.pass o c.known-told.result) (sym (c.known-told.ensures.same.values c.args.position.now)) key in
-    let behind = IsBehind-same c.args.game.now 0 c.requires.behind.0 s e0 e1 c.known-told.ensures.same c.requires.behind.1 in (
+    let behind = c.requires.behind.1 in
+    let one : c.visit.new.self.count ≡ s.meter.count + 1 = ap (λ (m : Metered). m.count) counted in (
       omega (arith, c.decreases),
       (
         l,
@@ -86,7 +84,7 @@ expand-decide-requires g t c κs l =
                   (
                     (
                       c.requires.behind.0,
-                      (AreUnder-counted 0 c.requires.behind.0 s.meter c.visit.new.self (visit c.args.pass s.path) s.wins.nodes s.replies.nodes s.finishes counted behind.0, behind.1),
+                      (omega (arith, behind.0, one), AreServed-same c.args.game.now c.requires.behind.0 s.replies e0 e1 c.known-told.ensures.same behind.1),
                     ),
                     c.requires.may.bound,
                   ),
@@ -206,12 +204,12 @@ pub try_load-returns-clause-serves : goal.try_load-returns-clause-serves
 try_load-returns-clause-serves g t c spare unnamed behind =
     let h = c.in_ok-verdict.ensures.serves spare unnamed behind in
     let s = record c.expand.new.search { path = c.pop.new.self } in
-    let served = served_at c.args.game.now h.later s c.args.position.now c.after-next.result c.args.size c.args.load c.in_ok-verdict.verdict c.after-next.ensures h.more in
+    let served = served_at c.args.game.now h.later c.args.position.now c.after-next.result c.args.size c.args.load c.in_ok-verdict.verdict c.after-next.ensures h.more in
     record {
       later = h.later;
       behind = h.behind;
       keeps = h.keeps;
-      more = subst (IsServedAt c.args.game.now h.later s c.args.position.now c.args.size c.args.load) (sym c.reach_of.ensures) served;
+      more = subst (IsServedAt c.args.game.now h.later c.args.position.now c.args.size c.args.load) (sym c.reach_of.ensures) served;
     }
 
 pub try_load-returns-clause-found : goal.try_load-returns-clause-found
@@ -271,7 +269,7 @@ try_size-returns-in-Answers-clause-serves g t c =
     let e1 = g.M.Memo.entries c.loop-i.memo in
     let e2 = g.M.Memo.entries c.try_load.new.memo in
     let load = c.distinct_at-load.result in
-    let next = subst (λ r. KeepsServing c.args.game.now 0 s1 e1 s2 e2 (λ later. IsServedAt c.args.game.now later s2 c.args.position.now c.args.size load r)) c.in-Answers.is c.in_ok-next.ensures.serves in
+    let next = subst (λ r. KeepsServing c.args.game.now 0 s1 e1 s2 e2 (λ later. IsServedAt c.args.game.now later c.args.position.now c.args.size load r)) c.in-Answers.is c.in_ok-next.ensures.serves in
     KeepsServing-then c.args.game.now 0 0 0 c.args.search.now s1 s2 (g.M.Memo.entries c.args.memo.now) e1 e2 (λ later. Unit {0}) _ refl c.loop-i.invariant.serves next
 
 pub try_size-loop-i-preserved : goal.try_size-loop-i-preserved
@@ -411,7 +409,7 @@ weigh-returns-in-Some-clause-serves g t c =
     let s = c.args.search.now in
     let p = c.args.position.now in
     let e = g.M.Memo.entries c.args.memo.now in
-    subst (λ w. KeepsServingTold game c.args.told p (taken_by w) s e s e (λ later. IsServedFor game c.args.pass later s p c.args.size w)) (sym c.kept.ensures)
+    subst (λ w. KeepsServingTold game c.args.told p (taken_by w) s e s e (λ later. IsServedFor game c.args.pass later p c.args.size w)) (sym c.kept.ensures)
     (serves_skipped game c.args.pass c.args.told s p c.args.size c.in-Some.load e c.requires.may_come c.in-Some.ensures)
 
 pub weigh-push_win-requires-clause-room : goal.weigh-push_win-requires-clause-room
@@ -419,7 +417,7 @@ weigh-push_win-requires-clause-room g t c =
     let e1 = g.M.Memo.entries c.try_size.new.memo in
     let after = spare_after c.args.game.now 1 0 c.args.search.now c.try_size.new.search (g.M.Memo.entries c.args.memo.now) e1 _ c.in_ok-placements.ensures.serves c.requires.behind in
     let sound = c.in_ok-placements.ensures.found.0.sound in
-    omega (arith, after.1.0.few, sound.within, sound.budget)
+    omega (arith, after.1.0, sound.within, sound.budget)
 
 pub weigh-returns-in_ok-number-in-Wins-clause-serves : goal.weigh-returns-in_ok-number-in-Wins-clause-serves
 weigh-returns-in_ok-number-in-Wins-clause-serves g t c =
@@ -434,9 +432,9 @@ weigh-returns-in-Answered-clause-serves g t c =
     let e0 = g.M.Memo.entries c.args.memo.now in
     let e1 = g.M.Memo.entries c.try_size.new.memo in
     let p = c.args.position.now in
-    let answered = subst (λ t. KeepsServing game 0 s0 e0 s1 e1 (λ later. IsServedWith game later s1 p c.args.size t)) c.in-Answered.is c.in_ok-placements.ensures.serves in
+    let answered = subst (λ t. KeepsServing game 0 s0 e0 s1 e1 (λ later. IsServedWith game later p c.args.size t)) c.in-Answered.is c.in_ok-placements.ensures.serves in
     let tried = subst (HasTried game c.args.pass s1 p c.args.size) c.in-Answered.is c.in_ok-placements.ensures.found.1 in
-    subst (λ w. KeepsServingTold game c.args.told p (taken_by w) s0 e0 s1 e1 (λ later. IsServedFor game c.args.pass later s1 p c.args.size w)) (sym c.kept-in-Answered.ensures)
+    subst (λ w. KeepsServingTold game c.args.told p (taken_by w) s0 e0 s1 e1 (λ later. IsServedFor game c.args.pass later p c.args.size w)) (sym c.kept-in-Answered.ensures)
     (serves_kept game c.args.pass c.args.told s0 s1 p c.args.size c.in-Answered.load e0 e1 c.in-Answered.verdict
     (λ later served. first_served game c.args.pass later s1 p c.args.size c.in-Answered.load c.in-Answered.verdict c.game_is_legal.ensures
     c.requires.from_size.stands.playable c.requires.may_come tried served) answered)
@@ -488,14 +486,14 @@ weigh_all-loop-tried-init g t c =
           (WentOn-refl game c.args.pass (s.path ++ moved room game.target ∷ []) s e c.requires.sound c.requires.from_room.passed);
       counts = CountsFresh-refl game c.args.pass (sum p.items + 1) _;
       serves = λ spare unnamed behind. Serving-refl game spare unnamed s e _ (IsBehind-less game (0 + spare) spare unnamed s e (omega arith) behind) (
-        subst (All (IsEntryServed unnamed s p)) (sym c.new-entries.ensures.items) (All-nil (IsEntryServed unnamed s p)),
+        subst (All (IsEntryServed unnamed p)) (sym c.new-entries.ensures.items) (All-nil (IsEntryServed unnamed p)),
         (λ size above within. absurd (omega (arith, above, within))),
         tried_before game c.args.pass (0 + spare) c.args.told unnamed s p e c.requires.told behind,
       );
       none = λ size above w. c.requires.from_room.larger_sizes size (omega (arith, above)) w;
       few = omega (arith, none);
       sizes = λ all. ap (map (λ (entry : Entry). entry.size)) c.new-entries.ensures.items;
-      each = subst (All (IsPending game s.replies.nodes p)) (sym c.new-entries.ensures.items) (All-nil (IsPending game s.replies.nodes p));
+      each = subst (All (IsPending game s.replies p)) (sym c.new-entries.ensures.items) (All-nil (IsPending game s.replies p));
       gaps = λ l. absurd (omega (arith, l, none));
     }
 
@@ -508,7 +506,7 @@ weigh_all-returns-in-Won-clause-serves g t c =
     let e2 = g.M.Memo.entries c.weigh.new.memo in
     let p = c.args.position.now in
     let size : ℕ = c.args.room - c.loop-tried.tried in
-    let weighed = subst (λ w. KeepsServingTold game c.args.told p (taken_by w) s1 e1 s2 e2 (λ later. IsServedFor game c.args.pass later s2 p size w)) c.in-Won.is
+    let weighed = subst (λ w. KeepsServingTold game c.args.told p (taken_by w) s1 e1 s2 e2 (λ later. IsServedFor game c.args.pass later p size w)) c.in-Won.is
     c.in_ok-number.ensures.serves in
     serves_size game c.args.told p 1 c.args.search.now s1 s2 (g.M.Memo.entries c.args.memo.now) e1 e2 _ _ _ c.loop-tried.invariant.serves weighed (λ later m. m.2)
     (λ before later keeps m n. (λ e. absurd (let no : Adversary c.in-Won.number ≡ Algorithm FINISHES = e in cc), λ k e. absurd (let no : Adversary c.in-Won.number ≡ Held k = e in cc)))
@@ -536,12 +534,12 @@ weigh_all-loop-tried-preserved g t c =
             went = past_more game pass s0 s1 s2 p room tried e1 e2 _ i.went a;
             counts = CountsFresh-trans game pass (sum p.items + 1) _ _ _ i.counts c.in_ok-number.ensures.counts;
             serves = serves_size game c.args.told p 0 s0 s1 s2 (g.M.Memo.entries c.args.memo.now) e1 e2 _ _ _ i.serves
-                (subst (λ w. KeepsServingTold game c.args.told p (taken_by w) s1 e1 s2 e2 (λ later. IsServedFor game pass later s2 p size w)) w.in-Replied.is
+                (subst (λ w. KeepsServingTold game c.args.told p (taken_by w) s1 e1 s2 e2 (λ later. IsServedFor game pass later p size w)) w.in-Replied.is
                 c.in_ok-number.ensures.serves) (λ later m. m.2)
                 (λ before later keeps m n. (
-                  entries_served before later s1 s2 p c.loop-tried.entries.items c.match-branch-2.entries.items w.in-Replied.entry keeps m.0 n.0 is,
-                  sizes_tried game pass room tried before later s1 s2 p c.loop-tried-test.true keeps m.1 n.1,
-                  tried_still game c.args.told before later s1 s2 p keeps m.2,
+                  entries_served before later p c.loop-tried.entries.items c.match-branch-2.entries.items w.in-Replied.entry keeps m.0 n.0 is,
+                  sizes_tried game pass room tried before later p c.loop-tried-test.true keeps m.1 n.1,
+                  tried_still game c.args.told before later p keeps m.2,
                 ));
             none = none_more game pass p room tried c.loop-tried-test.true i.none a.none;
             few = omega (arith, i.few, len);
@@ -556,18 +554,18 @@ weigh_all-loop-tried-preserved g t c =
             went = past_more game pass s0 s1 s2 p room tried e1 e2 _ i.went a;
             counts = CountsFresh-trans game pass (sum p.items + 1) _ _ _ i.counts c.in_ok-number.ensures.counts;
             serves = serves_size game c.args.told p 0 s0 s1 s2 (g.M.Memo.entries c.args.memo.now) e1 e2 _ _ _ i.serves
-                (subst (λ w. KeepsServingTold game c.args.told p (taken_by w) s1 e1 s2 e2 (λ later. IsServedFor game pass later s2 p size w)) w.in-NoReply.is
+                (subst (λ w. KeepsServingTold game c.args.told p (taken_by w) s1 e1 s2 e2 (λ later. IsServedFor game pass later p size w)) w.in-NoReply.is
                 c.in_ok-number.ensures.serves) (λ later m. m.2)
                 (λ before later keeps m n. (
-                  subst (All (IsEntryServed later s2 p)) (sym is)
-                      (All-weaker (IsEntryServed before s1 p) (IsEntryServed later s2 p) (λ e h f. keeps (led_to p e) (h f)) c.loop-tried.entries.items m.0),
-                  sizes_tried game pass room tried before later s1 s2 p c.loop-tried-test.true keeps m.1 n,
-                  tried_still game c.args.told before later s1 s2 p keeps m.2,
+                  subst (All (IsEntryServed later p)) (sym is)
+                      (All-weaker (IsEntryServed before p) (IsEntryServed later p) (λ e h f. keeps (led_to p e) (h f)) c.loop-tried.entries.items m.0),
+                  sizes_tried game pass room tried before later p c.loop-tried-test.true keeps m.1 n,
+                  tried_still game c.args.told before later p keeps m.2,
                 ));
             none = none_more game pass p room tried c.loop-tried-test.true i.none a.none;
             few = omega (arith, i.few, ap length is);
             sizes = λ e. absurd (omega (arith, e, i.few, ap length is));
-            each = subst (All (IsPending game s2.replies.nodes p)) (sym is) (replies_still game pass s1 s2 p _ c.loop-tried.entries.items e2 a.went i.each);
+            each = subst (All (IsPending game s2.replies p)) (sym is) (replies_still game pass s1 s2 p _ c.loop-tried.entries.items e2 a.went i.each);
             gaps = λ l. a.answered;
           }
     ]
@@ -600,29 +598,12 @@ weigh_all-returns-then-len-from-clause-serves g t c =
           m.1 size (omega (arith, all, low)) high (subst (λ n. IsTrue (allowed_by game n p.items size)) same allowed),
     )) c.loop-tried.invariant.serves
 
-pub weigh_all-put_reply-requires-clause-may : goal.weigh_all-put_reply-requires-clause-may
-weigh_all-put_reply-requires-clause-may g t c =
+pub weigh_all-keep-requires : goal.weigh_all-keep-requires
+weigh_all-keep-requires g t c =
     let i = c.loop-tried.invariant in
-    let e0 = g.M.Memo.entries c.args.memo.now in
-    let b = c.requires.behind.1 in
-    let served = i.serves 1 c.requires.behind.0 (IsBehind-less c.args.game.now 1 (0 + 1) c.requires.behind.0 c.args.search.now e0 (omega arith) b) in
-    subst (MayNameAll c.args.game.now c.loop-tried.search c.args.position.now) (sym c.as_slice.ensures.value) (record {
-      replies = record { of_game = i.went.sound.replies_game; of_format = i.went.sound.replies_format };
-      playable = c.requires.from_room.stands.playable;
-      pending = i.each;
-      limit = omega (arith, i.went.sound.within, i.went.sound.budget);
-      unnamed = served.later;
-      under = served.behind.0;
-      served = served.more.0;
-    })
-
-pub weigh_all-put_reply-requires-clause-of_all : goal.weigh_all-put_reply-requires-clause-of_all
-weigh_all-put_reply-requires-clause-of_all g t c =
-    let i = c.loop-tried.invariant in
-    let all : c.loop-tried.tried ≡ c.args.room = omega (arith, c.loop-tried-test.false, c.loop-tried.auto.tried-end) in
-    let full : length c.loop-tried.entries.items ≡ c.loop-tried.tried = omega (arith, all) in
-    subst (AreOfAll c.args.game.now c.args.position.now c.args.room) (sym c.as_slice.ensures.value)
-    (record { is_room = c.requires.is_room; sizes = i.sizes full ∙ ap (numbers_down c.args.room) all })
+    let after = spare_after c.args.game.now 1 0 c.args.search.now c.loop-tried.search (g.M.Memo.entries c.args.memo.now) (g.M.Memo.entries c.loop-tried.memo) _ i.serves
+    c.requires.behind in
+    record { room = omega (arith, after.1.0, i.went.sound.within, i.went.sound.budget) }
 
 pub weigh_all-returns-clause-found : goal.weigh_all-returns-clause-found
 weigh_all-returns-clause-found g t c =
@@ -635,21 +616,18 @@ weigh_all-returns-clause-found g t c =
     let entries = c.loop-tried.entries.items in
     let all : c.loop-tried.tried ≡ c.args.room = omega (arith, c.loop-tried-test.false, c.loop-tried.auto.tried-end) in
     let full : length entries ≡ c.loop-tried.tried = omega (arith, all) in
-    let puts = subst (λ xs. PutsNamed game s1 c.put_reply.new.search p xs c.in_ok-number-2.number) c.as_slice.ensures.value c.in_ok-number-2.ensures in
-    let never = never_by_replies game c.args.pass s1 p c.args.room entries e1 i.went.sound
-    (record { is_room = c.requires.is_room; sizes = i.sizes full ∙ ap (numbers_down c.args.room) all }) i.each in
-    subst (λ s. FindsVerdict game c.args.pass p c.args.search.now s e1 (Algorithm c.in_ok-number-2.number)) (sym puts.same)
-    (finds_reply game c.args.pass c.args.search.now puts.between c.put_reply.new.search.replies a p e1 c.in_ok-number-2.number
-    (WentOn-named game c.args.pass p entries (c.args.search.now.path ++ a ∷ []) c.args.search.now s1 puts.between e1 i.went puts.all i.each) puts.puts never c.requires.from_room.unfinished)
+    let of_all : AreOfAll game p c.args.room entries = record { is_room = c.requires.is_room; sizes = i.sizes full ∙ ap (numbers_down c.args.room) all } in
+    let keeps = c.in_ok-number-2.ensures in
+    finds_reply game c.args.pass c.args.search.now s1 c.keep.new.replies a p entries e1 c.in_ok-number-2.number i.went keeps
+    (never_by_replies game c.args.pass s1 p c.args.room entries e1 i.went.sound of_all i.each) c.requires.from_room.unfinished
+    (ready_reply game c.args.pass s1.replies c.keep.new.replies p c.args.room entries c.in_ok-number-2.number keeps c.requires.from_room.stands.playable of_all i.each)
 
 pub weigh_all-returns-clause-serves : goal.weigh_all-returns-clause-serves
 weigh_all-returns-clause-serves g t c =
     let i = c.loop-tried.invariant in
-    let game = c.args.game.now in
-    let p = c.args.position.now in
-    let puts = subst (λ xs. PutsNamed game c.loop-tried.search c.put_reply.new.search p xs c.in_ok-number-2.number) c.as_slice.ensures.value c.in_ok-number-2.ensures in
-    serves_replied game c.args.search.now c.loop-tried.search c.put_reply.new.search p c.loop-tried.entries.items c.in_ok-number-2.number
-    (g.M.Memo.entries c.args.memo.now) (g.M.Memo.entries c.loop-tried.memo) _ puts (omega (arith, i.went.sound.within, i.went.sound.budget)) i.serves (λ later m. m.0)
+    serves_replied c.args.game.now c.args.search.now c.loop-tried.search c.keep.new.replies c.args.position.now c.loop-tried.entries.items c.in_ok-number-2.number
+    (g.M.Memo.entries c.args.memo.now) (g.M.Memo.entries c.loop-tried.memo) _ c.in_ok-number-2.ensures (omega (arith, i.went.sound.within, i.went.sound.budget)) i.serves
+    (λ later m. m.0)
 
 -- ---- what is left of a budget
 
@@ -671,7 +649,7 @@ expand-returns-then-finishes-clause-counts g t c =
     let visited : IsVisited game c.args.pass p path a b =
     record { stands = c.requires.may.stands; fresh = fresh; meter = c.in_ok-visit.ensures.ok; same = c.known-told.ensures.same; room = c.known-told.ensures.capacity } in
     let finishes = c.finishes.ensures.exact.0 c.if-finishes.true in
-    let none = c.known-told.ensures.same.values p ∙ none_for_finish game c.args.pass c.args.search.now.wins.nodes c.args.search.now.replies.nodes a.entries p
+    let none = c.known-told.ensures.same.values p ∙ none_for_finish game c.args.pass c.args.search.now.wins.nodes c.args.search.now.replies a.entries p
     c.requires.sound.known finishes fresh in
     let put = subst (λ (p : Position). length e1 < b.room → (more : ℕ) × Puts are_equal e1 e2 p (Algorithm FINISHES) more) c.in_ok-key.ensures.ok
     c.in_ok-remember_finish.ensures.put in
@@ -767,14 +745,7 @@ pub weigh_all-returns-then-len-from-clause-counts : goal.weigh_all-returns-then-
 weigh_all-returns-then-len-from-clause-counts g t c = c.loop-tried.invariant.counts
 
 pub weigh_all-returns-clause-counts : goal.weigh_all-returns-clause-counts
-weigh_all-returns-clause-counts g t c =
-    let game = c.args.game.now in
-    let puts = c.in_ok-number-2.ensures in
-    let meter : c.put_reply.new.search.meter ≡ c.loop-tried.search.meter =
-    ap (λ (s : Search). s.meter) puts.same ∙ (Stays-all game c.args.position.now c.as_slice.result.now c.loop-tried.search puts.between puts.all).meter in
-    subst (λ m. CountsFresh game c.args.pass (sum c.args.position.now.items + 1)
-    (progress c.args.search.now.meter (g.M.Memo.entries c.args.memo.now) (g.M.Memo.room c.args.memo.now))
-    (progress m (g.M.Memo.entries c.loop-tried.memo) (g.M.Memo.room c.loop-tried.memo))) (sym meter) c.loop-tried.invariant.counts
+weigh_all-returns-clause-counts g t c = c.loop-tried.invariant.counts
 
 pub weigh-returns-then-not-allows-clause-counts : goal.weigh-returns-then-not-allows-clause-counts
 weigh-returns-then-not-allows-clause-counts g t c = CountsFresh-refl c.args.game.now c.args.pass (sum c.args.position.now.items + 1) _

@@ -45,11 +45,11 @@ invariant-weigh_all-loop-tried g l = record {
   counts : CountsFresh l.game l.pass (sum l.position.items + 1) (progress l.fn.search.meter (g.M.Memo.entries l.fn.memo) (g.M.Memo.room l.fn.memo))
       (progress l.search.meter (g.M.Memo.entries l.memo) (g.M.Memo.room l.memo));
   serves : KeepsServing l.game 0 l.fn.search (g.M.Memo.entries l.fn.memo) l.search (g.M.Memo.entries l.memo)
-      (λ later. All (IsEntryServed later l.search l.position) l.entries.items
-      × AreTried l.game l.pass (l.room - l.tried) l.room later l.search l.position × IsTriedBefore l.game l.told later l.search l.position);
+      (λ later. All (IsEntryServed later l.position) l.entries.items
+      × AreTried l.game l.pass (l.room - l.tried) l.room later l.position × IsTriedBefore l.game l.told later l.position);
   none : (size : ℕ) → l.room - l.tried < size → WinsBy l.game l.pass l.position size → ⊥;
   few : length l.entries.items ≤ l.tried;
   sizes : length l.entries.items ≡ l.tried → map (λ (entry : Entry). entry.size) l.entries.items ≡ numbers_down l.room l.tried;
-  each : All (IsPending l.game l.search.replies.nodes l.position) l.entries.items;
+  each : All (IsPending l.game l.search.replies l.position) l.entries.items;
   gaps : length l.entries.items < l.tried → l.pass + 1 < l.game.capacity;
 }

@@ -8,8 +8,7 @@ use Rattle.minimax.specs.State.{FindsVerdict, IsNeverWon, IsPlayable, IsSpent, I
 use Rattle.minimax.specs.Fresh.{IsShort, progress}
 use Rattle.minimax.proofs.FreshLemmas.{IsLessThanEnds-short, IsWithinEnds-next, IsWithinEnds-start}
 use Rattle.minimax.proofs.StateLemmas.{AreSound-later, never_by_led}
-use Rattle.minimax.proofs.RootLemmas.{AreSound-new, HasSpare-new, IsDue-spent, IsFor-reply, IsFor-win, IsPlayable-empty, after_root, may_number_root, may_visit_root, none_more, root_of_reply, root_of_win}
-use Rattle.minimax.proofs.NamingLemmas.{Stays-numbers, numbers_stand}
+use Rattle.minimax.proofs.RootLemmas.{AreSound-new, HasSpare-new, IsDue-spent, IsFor-win, IsPlayable-empty, may_visit_root, may_write, none_more, root_of_win}
 use Rattle.minimax.proofs.ServingLemmas.{spare_after}
 use Rattle.minimax.proofs.game_search.search_passes.Goals as goal
 
@@ -22,13 +21,12 @@ loop-pass-init g c = record {
     meter = c.new.result;
     wins = c.new-2.result;
     replies = c.new-3.result;
-    finishes = c.new-4.result;
     rooms = c.args.game.now;
-    path = c.new-6.result;
+    path = c.new-5.result;
     most = 0;
-  }) c.args.game.now (g.M.Memo.entries c.args.memo.now) c.new-2.ensures.empty c.new-3.ensures.empty c.new-4.ensures.none c.requires.empty;
+  }) c.args.game.now (g.M.Memo.entries c.args.memo.now) c.new-2.ensures.empty c.new-3.ensures.empty c.requires.empty;
   ends = IsWithinEnds-start c.args.game.now (g.M.Memo.room c.args.memo.now) c.args.budget c.new.result (g.M.Memo.entries c.args.memo.now) c.new.ensures.unused c.requires.empty;
-  path = c.new-6.ensures.none;
+  path = c.new-5.ensures.none;
   most = c.g.ensures.value;
   budget = ap (λ (m : Metered). m.budget) c.new.ensures.unused;
   none_before = λ earlier first l won. omega (arith, l);
@@ -67,8 +65,8 @@ returns-in-Ok-Adversary-clause-answer g c =
           (finds.went.goes.budget ∙ c.loop-pass.invariant.budget) c.into_strategy.ensures.value,
     )
 
-pub node_number-requires : goal.node_number-requires
-node_number-requires g c =
+pub write_replies-requires : goal.write_replies-requires
+write_replies-requires g c =
     let game = c.args.game.now in
     let e0 = g.M.Memo.entries c.loop-pass.memo in
     let e = g.M.Memo.entries c.expand.new.memo in
@@ -77,43 +75,14 @@ node_number-requires g c =
     let told : ℕ = c.in-Ok-Algorithm.told in
     let is = ap (λ xs. position xs c.empty.result) c.zero.ensures.value ∙ ap (position (empty_position game).loads) c.empty.ensures.none in
     let finds = subst (FindsVerdict game c.loop-pass.pass root c.loop-pass.search s e) c.in-Ok-Algorithm.field-0-is c.in-Ok-Algorithm.ensures.found in
-    let serves = subst (λ v. KeepsServing c.args.game.now 0 c.loop-pass.search e0 s e (λ later. IsServedBy c.args.game.now later s root v)) c.in-Ok-Algorithm.field-0-is c.in-Ok-Algorithm.ensures.serves in
+    let serves = subst (λ v. KeepsServing game 0 c.loop-pass.search e0 s e (λ later. IsServedBy game later root v)) c.in-Ok-Algorithm.field-0-is c.in-Ok-Algorithm.ensures.serves in
     let behind = c.loop-pass.invariant.behind in
     let h = serves 0 behind.0 behind.1 in
     let playable = subst (IsPlayable game) (sym is) (IsPlayable-empty game (subst (IsLoads game) c.zero.ensures.value c.zero.ensures.legal)) in
-    may_number_root game c.loop-pass.pass s e root told finds.went.sound (h.later, h.behind) h.more playable finds.tells.says
-
-pub into_strategy-requires-in-Ok-Algorithm : goal.into_strategy-requires-in-Ok-Algorithm
-into_strategy-requires-in-Ok-Algorithm g c =
-    let game = c.args.game.now in
-    let e0 = g.M.Memo.entries c.loop-pass.memo in
-    let e = g.M.Memo.entries c.expand.new.memo in
-    let root = position c.zero.result c.empty.result in
-    let is = ap (λ xs. position xs c.empty.result) c.zero.ensures.value ∙ ap (position (empty_position game).loads) c.empty.ensures.none in
-    let behind = spare_after c.args.game.now 0 0 c.loop-pass.search c.expand.new.search e0 e _ c.in-Ok-Algorithm.ensures.serves c.loop-pass.invariant.behind in
-    let stands = numbers_stand c.expand.new.search c.node_number.new.search root c.in-Ok-Algorithm.told c.in_ok-number-in-Ok-Algorithm.number 0 behind.0 c.in_ok-number-in-Ok-Algorithm.ensures behind.1.0 in
-    record { root = root_of_reply game c.loop-pass.pass c.node_number.new.search.replies.nodes c.in_ok-number-in-Ok-Algorithm.number root is stands }
-
-pub returns-in-Ok-Algorithm-clause-answer : goal.returns-in-Ok-Algorithm-clause-answer
-returns-in-Ok-Algorithm-clause-answer g c =
-    let game = c.args.game.now in
-    let e0 = g.M.Memo.entries c.loop-pass.memo in
-    let e = g.M.Memo.entries c.expand.new.memo in
-    let s = c.expand.new.search in
-    let t = c.node_number.new.search in
-    let root = position c.zero.result c.empty.result in
-    let told : ℕ = c.in-Ok-Algorithm.told in
-    let finds = subst (FindsVerdict game c.loop-pass.pass root c.loop-pass.search s e) c.in-Ok-Algorithm.field-0-is c.in-Ok-Algorithm.ensures.found in
-    let serves = subst (λ v. KeepsServing c.args.game.now 0 c.loop-pass.search e0 s e (λ later. IsServedBy c.args.game.now later s root v)) c.in-Ok-Algorithm.field-0-is c.in-Ok-Algorithm.ensures.serves in
-    let behind = c.loop-pass.invariant.behind in
-    let h = serves 0 behind.0 behind.1 in
-    let never = never_by_led game c.loop-pass.pass s.meter s.wins s.replies e root told finds.went.sound finds.tells.says in
-    let after = after_root game c.loop-pass.pass s t e root told c.in_ok-number-in-Ok-Algorithm.number finds.went.sound (h.later, h.behind) h.more never c.in_ok-number-in-Ok-Algorithm.ensures in
-    let stays = Stays-numbers s t root told c.in_ok-number-in-Ok-Algorithm.number c.in_ok-number-in-Ok-Algorithm.ensures in (
-      c.into_strategy-in-Ok-Algorithm.ensures.legal,
-      IsFor-reply game c.loop-pass.pass c.args.budget t e c.in_ok-number-in-Ok-Algorithm.number c.into_strategy-in-Ok-Algorithm.result after.0 after.1
-          (stays.goes.budget ∙ finds.went.goes.budget ∙ c.loop-pass.invariant.budget) c.into_strategy-in-Ok-Algorithm.ensures.value,
-    )
+    record {
+      may = may_write game c.loop-pass.pass c.args.budget s e root told finds.went.sound (h.later, h.behind) (finds.went.goes.budget ∙ c.loop-pass.invariant.budget) h.more playable
+          is finds.tells.says;
+    }
 
 pub returns-in-Err-Spent-clause-answer : goal.returns-in-Err-Spent-clause-answer
 returns-in-Err-Spent-clause-answer g c =

@@ -1,30 +1,37 @@
-use Rattle.std.proofs.Common.{◌∙◌, sym, ap, subst, arith}
+use Rattle.std.proofs.Common.{◌∙◌, refl, sym, subst, arith}
 use Rattle.minimax.specs.State.{IsPlayable, ReplyToAll}
-use Rattle.minimax.proofs.NamingLemmas.{Stays-all, still_under}
+use Rattle.minimax.proofs.NamingLemmas.{Stays-all, leaves_all, puts_named}
 use Rattle.minimax.proofs.naming.put_reply.Goals as goal
 
 pub push_reply-requires-clause-playable : goal.push_reply-requires-clause-playable
 push_reply-requires-clause-playable c =
-    let stays = Stays-all c.args.game.now c.args.position.now c.args.entries.now c.args.search.now c.name_all.new.search c.in_ok-named.ensures.all in
-    subst (λ game. IsPlayable game c.args.position.now) (sym (stays.of_game ∙ c.requires.may.replies.of_game)) c.requires.may.playable
+    let stays = Stays-all c.args.game.now c.args.position.now c.args.entries.now c.args.written.now c.name_all.new.written c.in_ok-named.ensures.all in
+    subst (λ game. IsPlayable game c.args.position.now) (sym (stays.of_game ∙ c.requires.may.1.replies.of_game)) c.requires.may.1.playable
 
 pub push_reply-requires-clause-format : goal.push_reply-requires-clause-format
 push_reply-requires-clause-format c =
-    let stays = Stays-all c.args.game.now c.args.position.now c.args.entries.now c.args.search.now c.name_all.new.search c.in_ok-named.ensures.all in
-    stays.of_format ∙ c.requires.may.replies.of_format
+    let stays = Stays-all c.args.game.now c.args.position.now c.args.entries.now c.args.written.now c.name_all.new.written c.in_ok-named.ensures.all in
+    stays.of_format ∙ c.requires.may.1.replies.of_format
 
 pub push_reply-requires-clause-room : goal.push_reply-requires-clause-room
 push_reply-requires-clause-room c =
-    let stays = Stays-all c.args.game.now c.args.position.now c.args.entries.now c.args.search.now c.name_all.new.search c.in_ok-named.ensures.all in
-    let under = still_under c.args.game.now c.args.position.now c.args.entries.now c.args.search.now c.name_all.new.search c.in_ok-named.ensures.all c.requires.may in
-    omega (arith, under.1.few, ap (λ m. m.count) stays.meter, c.requires.may.limit)
+    let may = c.requires.may.1 in
+    let left = leaves_all c.args.game.now c.args.position.now c.args.entries.now c.args.written.now c.name_all.new.written c.in_ok-named.ensures.all may.limit 1 may.unnamed
+    may.under may.placed in
+    omega (arith, left.room.few, may.within)
 
 pub push_reply-requires-clause-replies : goal.push_reply-requires-clause-replies
 push_reply-requires-clause-replies c =
-    let stays = Stays-all c.args.game.now c.args.position.now c.args.entries.now c.args.search.now c.name_all.new.search c.in_ok-named.ensures.all in
+    let stays = Stays-all c.args.game.now c.args.position.now c.args.entries.now c.args.written.now c.name_all.new.written c.in_ok-named.ensures.all in
     let named = c.in_ok-named.ensures.named in
-    subst (λ game. ReplyToAll game c.name_all.new.search.replies.nodes c.args.position.now c.args.room c.in_ok-named.named.items)
-    (sym (stays.of_game ∙ c.requires.may.replies.of_game)) (record {
+    subst (λ game. ReplyToAll game c.name_all.new.written.pool.nodes c.args.position.now c.args.room c.in_ok-named.named.items)
+    (sym (stays.of_game ∙ c.requires.may.1.replies.of_game)) (record {
       of_all = record { is_room = c.requires.of_all.is_room; sizes = named.sizes ∙ c.requires.of_all.sizes };
       each = named.each;
     })
+
+pub returns : goal.returns
+returns c =
+    let between = c.name_all.new.written in
+    puts_named c.args.game.now c.args.position.now c.args.entries.now c.args.written.now between (record between { pool = c.push_reply.new.replies }) c.push_reply.result
+    c.in_ok-named.ensures.all refl c.push_reply.ensures
