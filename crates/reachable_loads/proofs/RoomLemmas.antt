@@ -1,5 +1,5 @@
 -- The room, told from the least load of any assignment.
-use Rattle.std.proofs.Common.{◌≡◌, ◌↔◌, ℕ, sum, ◌*◌, ◌+◌, ◌-◌, ◌<◌, ◌≤◌, List, [], ◌∷◌, ◌++◌, length, get_or, set, sym, ap, ◌∙◌, subst, arith}
+use Rattle.std.proofs.Common.{◌≡◌, ◌↔◌, ℕ, sum, ◌*◌, ◌+◌, ◌-◌, ◌<◌, ◌≤◌, List, [], ◌∷◌, ◌++◌, length, get_or, set, drop, refl, sym, ap, ◌∙◌, subst, arith}
 use Rattle.std.specs.Prelude.{All, Contains}
 use Rattle.std.proofs.lemmas.List.{get_or-set_same, get_or_default, length-set, set-set, set-get_or}
 use Rattle.std.proofs.lemmas.List.Elements.{All-contains}
@@ -7,7 +7,7 @@ use Rattle.std.proofs.lemmas.List.Sums.{sum_by-append, sum_by-cons}
 use Rattle.items.specs.Game.{GameNumbers}
 use Rattle.items.specs.Multiset.{IsSize, Same}
 use Rattle.items.specs.Packable.{IsAssignment, Packable, IsRoom, bin_total}
-use Rattle.items.proofs.SameLemmas.{Same-push, Same-refl, Same-sym}
+use Rattle.items.proofs.SameLemmas.{Same-append_comm, Same-push, Same-refl, Same-sym}
 use Rattle.packing_witness.proofs.PackableLemmas.{Packable-Same, sum-Packable-le}
 use Rattle.packing_witness.proofs.PackingLemmas.{size_of_last}
 use Rattle.loads.proofs.CountLemmas.{Contains-Same}
@@ -108,3 +108,15 @@ loads_fit game items bins loads a e =
 -- what is known of an assignment with its loads that was found
 abbrev pub HasLoads : (game : GameNumbers) (items bins loads : List ℕ) → Type 0
 HasLoads game items bins loads = IsAssignment game items bins × (loads ≡ totals game items bins)
+
+-- a size at the first place of a list, before the others
+first_is : (list : List ℕ) (size : ℕ) → 1 ≤ length list → set list 0 size ≡ size ∷ drop 1 list
+first_is [] size l = absurd (omega (arith, l))
+first_is (x ∷ xs) size l = refl
+
+pub Same-put_first : (list others : List ℕ) (size : ℕ) → 1 ≤ length list → drop 1 list ≡ others → Same (set list 0 size) (others ++ size ∷ [])
+Same-put_first list others size l e =
+    subst (λ xs. Same xs (others ++ size ∷ [])) (sym (first_is list size l ∙ ap (λ xs. size ∷ xs) e)) (Same-append_comm (size ∷ []) others)
+
+pub others_put_first : (list others : List ℕ) (size : ℕ) → 1 ≤ length list → drop 1 list ≡ others → drop 1 (set list 0 size) ≡ others
+others_put_first list others size l e = ap (drop 1) (first_is list size l) ∙ e

@@ -11,15 +11,15 @@ ghost use Rattle.packing_witness.specs.Contents.{items_in};
 
 use crate::best_fit::{best_fit, descending};
 use crate::placing::place_all;
-use crate::reach::Reach;
+use crate::reach::{Reach, loads_tell_sooner};
 use items::{Game, Items, Nums};
 use packing_witness::Packing;
 use std::alloc::{AllocError, Global};
 
 /// A packing of the items; None exactly where they do not fit offline. Which packing it is, is free: that of
-/// best fit where it places them, else in games of up to four bins one found by walking back through the
-/// loads of all prefixes of the items, which are kept, and in the others one found by placing. Fails only
-/// where memory runs out.
+/// best fit where it places them, else one found by placing, or in games of up to three bins, where the items are
+/// many, by walking back through the loads of all prefixes of the items, which are kept. Fails only where memory
+/// runs out.
 pub fn pack(alloc: Global, game: &Game, items: &Items) -> Result<Option<Packing>, AllocError>
     ensures exact { IfOk result (λ found. MatchOption found
         (¬ Packable game.now items.now) (λ packing. IsPacking game.now packing items.now)) }
@@ -59,7 +59,7 @@ fn assign_exactly(
     ensures { IfOk result (λ found. MatchOption found
         (¬ Packable game.now items.now) (λ bins. IsAssignment game.now items.now bins.items)) }
 {
-    if game.m() < 5 {
+    if loads_tell_sooner(game, items.len()) {
         assign_by_loads(alloc, game, items)
     } else {
         place_all(alloc, game, items)

@@ -1,6 +1,7 @@
 //! A list of items with the loads that its assignments reach.
 
 ghost use Rattle.std.specs.Prelude.{◌≡◌, ◌↔◌, ℕ, ◌+◌, ◌<◌, ◌≤◌, [], ◌∷◌, ◌++◌, length, IsTrue, All, MatchOption, IfOk};
+ghost use Rattle.items.specs.Multiset.{IsSize};
 ghost use Rattle.items.specs.Packable.{Packable, IsRoom};
 ghost use Rattle.reachable_loads.specs.Reached.{HasTotals, sent};
 
@@ -109,6 +110,25 @@ impl Reach {
             Kept::Lists(sets) => sets.reaches(loads),
         }
     }
+}
+
+/// Whether the loads that so many items reach tell sooner than a placing whether they fit: in games of up to three
+/// bins, from twelve items on.
+pub fn loads_tell_sooner(game: &Game, count: usize) -> bool {
+    game.m() <= 3 && count >= 12
+}
+
+/// These items, with the loads of all their assignments. Fails only where memory runs out.
+pub fn reach_of(alloc: Global, game: &Game, items: &[u16]) -> Result<Reach, AllocError>
+    requires { All (IsSize game.now.capacity) items.now }
+    ensures { IfOk result (λ made. made ≡ sent game.now items.now) }
+{
+    let mut reach = Reach::start(alloc, game)?;
+    for size in items {
+        let more = reach.add(*size)?;
+        reach = more;
+    }
+    Ok(reach)
 }
 
 // Whether the items of some planes fit.

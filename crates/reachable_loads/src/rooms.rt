@@ -1,12 +1,13 @@
 //! The room and the packability of a multiset of items.
 
-ghost use Rattle.std.specs.Prelude.{◌≡◌, ◌↔◌, ℕ, ◌+◌, ◌≤◌, [], ◌∷◌, ◌++◌, sum, All, IfOk, IsTrue};
+ghost use Rattle.std.specs.Prelude.{◌≡◌, ◌↔◌, ℕ, ◌+◌, ◌≤◌, [], ◌∷◌, ◌++◌, drop, length, sum, All, IfOk, IsTrue};
 ghost use Rattle.std.specs.Bool.{OnTrue};
 ghost use Rattle.items.specs.Multiset.{IsSize};
 ghost use Rattle.items.specs.Packable.{IsRoom, Packable};
 
-use crate::best_fit::{descending, fits_by_best_fit, room_by_best_fit};
+use crate::best_fit::{COMMON, descending, fits_by_best_fit, push_descending, room_by_best_fit};
 use crate::placing::place_all;
+use crate::reach::{loads_tell_sooner, reach_of};
 use items::{Game, Items};
 use std::alloc::{AllocError, Global};
 
@@ -32,7 +33,7 @@ pub fn room_up_to(alloc: Global, game: &Game, items: &Items, most: u16) -> Resul
     if room >= most {
         return Ok(room);
     }
-    room_by_placing(alloc, game, items, room, most)
+    room_exactly(alloc, game, items, room, most)
 }
 
 /// Whether the items fit: whether they have an assignment. Fails only where memory runs out.
@@ -46,7 +47,7 @@ pub fn packable(alloc: Global, game: &Game, items: &Items) -> Result<bool, Alloc
         return Ok(true);
     }
     let list = descending(alloc, items)?;
-    let fits = fits_by_placing(alloc, game, list.as_slice())?;
+    let fits = fits_exactly(alloc, game, list.as_slice())?;
     Ok(fits)
 }
 
@@ -54,9 +55,7 @@ pub fn packable(alloc: Global, game: &Game, items: &Items) -> Result<bool, Alloc
 fn room_by_volume(game: &Game, items: &Items) -> u16
     ensures bound { (size : ℕ) → Packable game.now (items.now ++ size ∷ []) → size ≤ result }
     ensures within { result ≤ game.now.capacity }
-    ensures small { result ≤ 120 }
     ensures sizes { 1 ≤ result → All (IsSize game.now.capacity) items.now }
-    ensures total { 1 ≤ result → sum items.now + result ≤ 1912 }
 {
     let capacity = game.g();
     if items.largest() > capacity {
@@ -69,6 +68,18 @@ fn room_by_volume(game: &Game, items: &Items) -> u16
 }
 
 // Whether a list of items fits.
+fn fits_exactly(alloc: Global, game: &Game, list: &[u16]) -> Result<bool, AllocError>
+    requires { All (IsSize game.now.capacity) list.now }
+    ensures { IfOk result (λ fits. IsTrue fits ↔ Packable game.now list.now) }
+{
+    if loads_tell_sooner(game, list.len()) {
+        let reach = reach_of(alloc, game, list)?;
+        return Ok(reach.packable());
+    }
+    fits_by_placing(alloc, game, list)
+}
+
+// The same, by placing the list.
 fn fits_by_placing(alloc: Global, game: &Game, list: &[u16]) -> Result<bool, AllocError>
     requires { All (IsSize game.now.capacity) list.now }
     ensures { IfOk result (λ fits. IsTrue fits ↔ Packable game.now list.now) }
@@ -79,8 +90,8 @@ fn fits_by_placing(alloc: Global, game: &Game, list: &[u16]) -> Result<bool, All
     }
 }
 
-// The room, from a size on that may come, or from 0, by placing the items with one more of each larger size.
-fn room_by_placing(
+// The room, from a size on that may come, or from 0.
+fn room_exactly(
     alloc: Global,
     game: &Game,
     items: &Items,
@@ -90,29 +101,69 @@ fn room_by_placing(
     requires sizes { All (IsSize game.now.capacity) items.now }
     requires order { least ≤ most }
     requires within { most ≤ game.now.capacity }
-    requires small { most ≤ 120 }
-    requires total { sum items.now + most ≤ 1912 }
     requires may_come { 1 ≤ least → Packable game.now (items.now ++ least ∷ []) }
     requires bound { (size : ℕ) → Packable game.now (items.now ++ size ∷ []) → size ≤ most }
     ensures { IfOk result (IsRoom game.now items.now) }
 {
+    let mut list = Vec::with_capacity(alloc, COMMON)?;
+    list.push(most)?;
+    push_descending(&mut list, items)?;
+    let room = room_of_list(alloc, game, list.as_mut_slice(), least, most)?;
+    Ok(room)
+}
+
+// The room of a list but for its first place, from a size on that may come, or from 0.
+fn room_of_list(
+    alloc: Global,
+    game: &Game,
+    list: &mut [u16],
+    least: u16,
+    most: u16,
+) -> Result<u16, AllocError>
+    requires first { 1 ≤ length list.old }
+    requires sizes { All (IsSize game.now.capacity) (drop 1 list.old) }
+    requires order { least ≤ most }
+    requires within { most ≤ game.now.capacity }
+    requires may_come { 1 ≤ least → Packable game.now (drop 1 list.old ++ least ∷ []) }
+    requires bound { (size : ℕ) → Packable game.now (drop 1 list.old ++ size ∷ []) → size ≤ most }
+    ensures { IfOk result (IsRoom game.now (drop 1 list.old)) }
+{
+    if loads_tell_sooner(game, list.len() - 1) {
+        return room_by_loads(alloc, game, &list[1..]);
+    }
+    room_by_placing(alloc, game, list, least, most)
+}
+
+// The room of a list, from the loads that are reached.
+fn room_by_loads(alloc: Global, game: &Game, list: &[u16]) -> Result<u16, AllocError>
+    requires { All (IsSize game.now.capacity) list.now }
+    ensures { IfOk result (IsRoom game.now list.now) }
+{
+    let reach = reach_of(alloc, game, list)?;
+    Ok(reach.room())
+}
+
+// The same, by placing the list with each larger size at its first place.
+fn room_by_placing(
+    alloc: Global,
+    game: &Game,
+    list: &mut [u16],
+    least: u16,
+    most: u16,
+) -> Result<u16, AllocError>
+    requires first { 1 ≤ length list.old }
+    requires sizes { All (IsSize game.now.capacity) (drop 1 list.old) }
+    requires order { least ≤ most }
+    requires within { most ≤ game.now.capacity }
+    requires may_come { 1 ≤ least → Packable game.now (drop 1 list.old ++ least ∷ []) }
+    requires bound { (size : ℕ) → Packable game.now (drop 1 list.old ++ size ∷ []) → size ≤ most }
+    ensures { IfOk result (IsRoom game.now (drop 1 list.old)) }
+{
     for size in least..most {
-        if !fits_with(alloc, game, items, size + 1)? {
+        list[0] = size + 1;
+        if !fits_by_placing(alloc, game, list)? {
             return Ok(size);
         }
     }
     Ok(most)
-}
-
-// Whether the items fit with one more.
-fn fits_with(alloc: Global, game: &Game, items: &Items, size: u16) -> Result<bool, AllocError>
-    requires sizes { All (IsSize game.now.capacity) items.now }
-    requires of_game { IsSize game.now.capacity size }
-    requires small { size ≤ 120 }
-    requires total { sum items.now + size ≤ 1912 }
-    ensures { IfOk result (λ fits. IsTrue fits ↔ Packable game.now (items.now ++ size ∷ [])) }
-{
-    let list = descending(alloc, &items.add(size))?;
-    let fits = fits_by_placing(alloc, game, list.as_slice())?;
-    Ok(fits)
 }

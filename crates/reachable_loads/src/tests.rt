@@ -284,3 +284,36 @@ fn every_multiset_of_five_bins_agrees_with_the_bits(rt: HostRuntime) -> Result<(
     }
     Ok(())
 }
+
+// Whether this is the room, whether they fit, and a packing where they do, of a list in the game of m bins of
+// capacity g.
+fn answers_rightly(
+    alloc: Global,
+    m: u16,
+    g: u16,
+    list: &[u16],
+    fit: bool,
+    room: u16,
+) -> Result<bool, Fail>
+    requires { g < 120 }
+{
+    let game = Game::new(m, g, g + 1)?;
+    Ok(tells_rightly(alloc, &game, list, fit, room)? && packs_rightly(alloc, &game, list, fit)?)
+}
+
+#[test]
+fn rooms_that_best_fit_does_not_tell(rt: HostRuntime) -> Result<(), Fail> {
+    let three = [4u16, 4, 4, 6, 6, 6, 8, 8, 8, 8, 10, 10, 13];
+    assert!(rt; answers_rightly(rt.alloc(), 3, 40, &three, true, 24)?);
+    let full = [4u16, 5, 6, 6, 6, 7, 10, 12, 12, 13, 13, 13, 13];
+    assert!(rt; answers_rightly(rt.alloc(), 3, 40, &full, false, 0)?);
+    let four = [3u16, 3, 4, 4, 4, 5, 7, 8, 8, 10, 12, 12];
+    assert!(rt; answers_rightly(rt.alloc(), 4, 22, &four, true, 7)?);
+    let six = [3u16, 3, 3, 3, 4, 5, 6, 6, 6, 6, 7, 7, 8, 8];
+    assert!(rt; answers_rightly(rt.alloc(), 6, 14, &six, true, 8)?);
+    let tight = [3u16, 4, 4, 5, 5, 5, 6, 6, 7, 7, 7, 8, 8, 8];
+    assert!(rt; answers_rightly(rt.alloc(), 6, 14, &tight, true, 1)?);
+    let over = [3u16, 4, 4, 4, 5, 5, 5, 6, 7, 7, 8, 8, 9, 9];
+    assert!(rt; answers_rightly(rt.alloc(), 6, 14, &over, false, 0)?);
+    Ok(())
+}

@@ -16,5 +16,5 @@ returns-then-room-most c =
           (λ size p. omega (arith, c.requires.bound size p, c.room_by_volume.ensures.bound size p, c.min-most.ensures, c.if-room-most.true)) c.room_by_best_fit-room.ensures.may_come;
     }
 
-pub room_by_placing-requires-clause-bound : goal.room_by_placing-requires-clause-bound
-room_by_placing-requires-clause-bound c size p = omega (arith, c.requires.bound size p, c.room_by_volume.ensures.bound size p, c.min-most.ensures)
+pub room_exactly-requires-clause-bound : goal.room_exactly-requires-clause-bound
+room_exactly-requires-clause-bound c size p = omega (arith, c.requires.bound size p, c.room_by_volume.ensures.bound size p, c.min-most.ensures)
