@@ -1,6 +1,6 @@
 -- Pools: a node that comes next, the positions of the nodes, and legal strategies from pools and to pools.
-use Rattle.std.proofs.Common.{◌≡◌, ℕ, zero, suc, ◌+◌, ◌<◌, ◌≤◌, Bool, IsTrue, false, List, [], ◌∷◌, ◌++◌, Some, None, length, get_or, ◌-◌, take, map, arith, ap, sym, subst}
-use Rattle.std.proofs.Common.{true, ◌∙◌, ◌⊎◌, ⊎_elim, eqb}
+use Rattle.std.proofs.Common.{◌≡◌, ℕ, ◌+◌, ◌<◌, Bool, IsTrue, false, List, [], ◌∷◌, ◌++◌, Some, None, length, get_or, ◌-◌, take, map, arith, ap, sym, subst}
+use Rattle.std.proofs.Common.{true, ◌∙◌, ⊎_elim, eqb}
 use Rattle.std.specs.List.{All, slice_get}
 use Rattle.std.proofs.lemmas.Bool.{eqb-true, eq-eqb}
 use Rattle.std.proofs.lemmas.List.{take-take, take-append-le, length-take-le, map-append, length-append}

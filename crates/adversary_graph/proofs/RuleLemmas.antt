@@ -1,5 +1,5 @@
 -- What the rules of a node rest on: items of loads, distinct loads, and totals of packings.
-use Rattle.std.proofs.Common.{◌≡◌, ℕ, ◌+◌, ◌*◌, ◌<◌, ◌≤◌, List, [], ◌∷◌, ◌++◌, length, get_or, arith, refl, ap, zero, suc, replicate, sum, Contains, mul-le-mul}
+use Rattle.std.proofs.Common.{◌≡◌, ℕ, ◌*◌, ◌<◌, ◌≤◌, List, length, get_or, arith, Contains, mul-le-mul}
 use Rattle.std.proofs.Common.{Bool, Option, Some, None, inr}
 use Rattle.std.specs.List.{All}
 use Rattle.std.specs.Prelude.{MatchOption}

@@ -1,5 +1,5 @@
 -- The replies of a legal strategy keep every load below the target.
-use Rattle.std.proofs.Common.{◌≡◌, ℕ, zero, suc, ◌+◌, ◌-◌, ◌<◌, eqb, true, false, set, Option, Some, None, List, [], ◌∷◌, ◌++◌, length, get_or, take, map, replicate, refl}
+use Rattle.std.proofs.Common.{◌≡◌, ℕ, suc, ◌+◌, ◌-◌, ◌<◌, eqb, true, false, set, Option, Some, None, List, [], ◌∷◌, ◌++◌, length, get_or, take, map, replicate, refl}
 use Rattle.std.proofs.Common.{sym, ap, ◌∙◌}
 use Rattle.std.proofs.Common.{subst, arith, inl, inr}
 use Rattle.std.specs.Prelude.{All, Contains, find, fold, position, slice_get, MatchOption}

@@ -1,7 +1,7 @@
 -- Pools: a node that comes next, the positions of the nodes, and legal strategies from pools and to pools.
 use Rattle.std.proofs.Common.{◌≡◌, ℕ, zero, suc, ◌+◌, ◌<◌, ◌≤◌, Bool, IsTrue, false, List, [], ◌∷◌, ◌++◌, Some, None, length, get_or, ◌-◌, take, map, arith, ap, sym, subst}
 use Rattle.std.proofs.Common.{true}
-use Rattle.std.proofs.Common.{◌∙◌, ◌⊎◌, ⊎_elim, eqb}
+use Rattle.std.proofs.Common.{◌∙◌, ⊎_elim, eqb}
 use Rattle.std.proofs.lemmas.Bool.{false≢true}
 use Rattle.std.specs.List.{All, slice_get}
 use Rattle.std.proofs.lemmas.Bool.{eqb-true, eq-eqb}

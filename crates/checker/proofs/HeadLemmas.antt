@@ -1,5 +1,5 @@
 -- What head lines tell, in one way.
-use Rattle.std.proofs.Common.{◌≡◌, ◌*◌, ◌+◌, inl, inr, ℕ, ◌<◌, ◌≤◌, List, [], ◌∷◌, ◌++◌, sym, ap, ◌∙◌, refl, arith}
+use Rattle.std.proofs.Common.{◌≡◌, ◌*◌, inl, inr, ℕ, ◌<◌, ◌≤◌, List, ◌∷◌, ◌++◌, sym, ap, ◌∙◌, refl, arith}
 use Rattle.items.specs.Game.{GameNumbers, IsGame}
 use Rattle.items.specs.GameFaults.{IsFaultOf}
 use Rattle.items.specs.Multiset.{sizes_of}

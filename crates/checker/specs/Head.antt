@@ -1,11 +1,11 @@
 -- What the head lines of a text tell, and the nodes under a head, of either side.
-use Rattle.std.specs.Prelude.{◌≡◌, ◌==◌, ℕ, ◌+◌, ◌≤◌, Bool, List, Some, length, map, take, slice_get, All}
-use Rattle.items.specs.Game.{GameNumbers, IsGame}
+use Rattle.std.specs.Prelude.{◌≡◌, ◌==◌, ℕ, ◌+◌, Bool, List, Some, length, map, take, slice_get}
+use Rattle.items.specs.Game.{GameNumbers}
 use Rattle.items.specs.Multiset.{sizes_of}
 use Rattle.loads.specs.Position.{position}
 use Rattle.loads.specs.declared.position.Position.{Position}
-use Rattle.strategy_text.specs.Spelling.{SpellsNode, most_nodes}
-use Rattle.strategy_text.specs.Text.{AnyNode, of_adversary, of_algorithm, loads_of, items_of, nodes_of, side_of}
+use Rattle.strategy_text.specs.Spelling.{SpellsNode}
+use Rattle.strategy_text.specs.Text.{AnyNode, of_adversary, of_algorithm, loads_of, items_of}
 use Rattle.strategy_text.specs.declared.node.Format.{Format}
 use Rattle.strategy_text.specs.declared.node.Nodes.{Nodes}
 use Rattle.strategy_text.specs.declared.node.Nodes.TheVariants as nodes

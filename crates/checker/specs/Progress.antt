@@ -6,9 +6,8 @@ use Rattle.items.specs.Game.{GameNumbers, IsGame}
 use Rattle.items.specs.Multiset.{sizes_of}
 use Rattle.loads.specs.declared.position.Position.{Position}
 use Rattle.strategy_text.specs.Spelling.{SpellsGame, most_nodes}
-use Rattle.strategy_text.specs.Text.{AnyNode, of_adversary, of_algorithm, node_line, node_lines, first_line}
-use Rattle.strategy_text.specs.Text.{game_line, side_line, count_line, head_lines, end_line, text_of_lines}
-use Rattle.strategy_text.specs.declared.node.Format.{Format}
+use Rattle.strategy_text.specs.Text.{AnyNode, of_adversary, of_algorithm, node_line, node_lines}
+use Rattle.strategy_text.specs.Text.{side_line, head_lines, end_line, text_of_lines}
 use Rattle.strategy_text.specs.declared.node.Nodes.{Nodes}
 use Rattle.strategy_text.specs.declared.node.Side.{Side}
 use Rattle.strategy_text.specs.declared.node.Strategy.{Strategy}
@@ -20,7 +19,7 @@ use Rattle.checker.specs.declared.node.Node.TheVariants as read
 use Rattle.checker.specs.Head.{Head, head_of_game, position_of, SpellsUnder, MeetsRules}
 use Rattle.checker.specs.Head.{Breaks, EachMeetsRules, IsNodeLine, IsBrokenNodeLine}
 use Rattle.checker.specs.Accepted.{IsGone, IsReadWhole}
-use Rattle.checker.specs.FirstFault.{IsWanted, IsFirstLine, IsGameLine, IsSideLine, IsCountLine}
+use Rattle.checker.specs.FirstFault.{IsWanted}
 use Rattle.checker.specs.declared.fault.CheckFault.{CheckFault}
 use Rattle.checker.specs.declared.fault.CheckFault.TheVariants.{Rejected, Read, Memory}
 use Rattle.checker.specs.declared.fault.Wanted.{Wanted}

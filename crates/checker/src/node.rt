@@ -1,12 +1,13 @@
 //! Reading and judging a node of either side.
 
 ghost use Rattle.std.specs.Prelude.{◌≡◌, ◌==◌, ◌<◌, ◌≤◌, ◌+◌, None, Err, IfOk, IfErr};
-ghost use Rattle.std.specs.Prelude.{IfSome, IfNone, MatchOption, OnOk, length, map};
+ghost use Rattle.std.specs.Prelude.{MatchOption, OnOk, length, map};
+ghost use Rattle.std.specs.Bool.{OnTrue, OnFalse};
 ghost use Rattle.port_io.specs.Faults.{Rose};
 ghost use Rattle.items.specs.Multiset.{sizes_of};
 ghost use Rattle.strategy_text.specs.Spelling.{IsSpellableNode, most_nodes};
 ghost use Rattle.strategy_text.specs.Text.{AnyNode, end_line, items_of, loads_of};
-ghost use Rattle.checker.specs.Head.{SpellsUnder, MeetsRules, Breaks, position_of, IsNodeLine, IsBrokenNodeLine};
+ghost use Rattle.checker.specs.Head.{SpellsUnder, MeetsRules, Breaks, position_of, side_of_node, IsNodeLine, IsBrokenNodeLine};
 ghost use Rattle.checker.specs.Progress.{ReadsNode, TakesNode, IsRefusedLine, IsBrokenBy};
 ghost use Rattle.checker.specs.Progress.{RefusesNext, NoRule, told_by, any_node};
 ghost use Rattle.checker.specs.declared.fault.CheckFault.TheVariants.{Read};
@@ -19,7 +20,7 @@ use items::laws::game_is_legal;
 use loads::PackedPositions;
 use port_io::{LineReader, Source};
 use std::alloc::{AllocError, Global};
-use strategy_text::{AdvNode, AlgNode, Rule, Side, Spare, parse_adversary_in, parse_algorithm_in};
+use strategy_text::{AdvNode, AlgNode, Rule, Side, read_adversary, read_algorithm};
 
 // A node of either side.
 #[derive(Drop)]
@@ -28,40 +29,35 @@ pub(crate) enum Node {
     Algorithm(AlgNode),
 }
 
-// Keeps the lists of a node that is no longer needed.
-pub(crate) fn set_aside(spare: &mut Spare, node: Node) {
-    match node {
-        Node::Adversary(node) => spare.keep_adversary(node),
-        Node::Algorithm(node) => spare.keep_algorithm(node),
+impl Node {
+    // A node of a side to read into.
+    pub(crate) fn empty(alloc: Global, side: Side) -> Node
+        ensures { side_of_node (any_node result) ≡ side }
+    {
+        match side {
+            Side::Adversary => Node::Adversary(AdvNode::empty(alloc)),
+            Side::Algorithm => Node::Algorithm(AlgNode::empty(alloc)),
+        }
     }
 }
 
-// The node of the head's format and side that a line spells.
-fn parse_node(
+// Reads the node of the head's format and side that a line spells; false where it spells none.
+fn read_spelled(
     alloc: Global,
     head: &Head,
     line: &[u8],
     number: u32,
-    spare: &mut Spare,
-) -> Result<Option<Node>, AllocError>
-    ensures spelled { IfOk result (λ read. IfSome read (λ node. SpellsUnder (told_by head.now) number line.now
-        (any_node node))) }
-    ensures refused { IfOk result (λ read. IfNone read ((node : AnyNode) → SpellsUnder
-        (told_by head.now) number line.now node → ⊥)) }
+    node: &mut Node,
+) -> Result<bool, AllocError>
+    requires { side_of_node (any_node node.old) ≡ head.now.side }
+    ensures spelled { IfOk result (λ read. OnTrue read (SpellsUnder (told_by head.now) number line.now
+        (any_node node.new))) }
+    ensures refused { IfOk result (λ read. OnFalse read ((other : AnyNode) → SpellsUnder
+        (told_by head.now) number line.now other → ⊥)) }
 {
-    match head.side {
-        Side::Adversary => {
-            let Some(node) = parse_adversary_in(alloc, head.format, line, number, spare)? else {
-                return Ok(None);
-            };
-            Ok(Some(Node::Adversary(node)))
-        }
-        Side::Algorithm => {
-            let Some(node) = parse_algorithm_in(alloc, head.format, line, number, spare)? else {
-                return Ok(None);
-            };
-            Ok(Some(Node::Algorithm(node)))
-        }
+    match node {
+        Node::Adversary(node) => read_adversary(alloc, head.format, line, number, node),
+        Node::Algorithm(node) => read_algorithm(alloc, head.format, line, number, node),
     }
 }
 
@@ -99,22 +95,23 @@ fn judge_node(
     }
 }
 
-// The node of this number that a line spells; a line that spells none is refused.
+// Reads the node of this number that a line spells; a line that spells none is refused.
 fn next_node(
     alloc: Global,
     head: &Head,
     text: &[u8],
     number: u32,
-    spare: &mut Spare,
-) -> Result<Node, CheckFault>
-    ensures ok { IfOk result (λ node. SpellsUnder (told_by head.now) number text.now (any_node node)) }
+    node: &mut Node,
+) -> Result<(), CheckFault>
+    requires { side_of_node (any_node node.old) ≡ head.now.side }
+    ensures ok { OnOk result (SpellsUnder (told_by head.now) number text.now (any_node node.new)) }
     ensures err { IfErr result (λ fault. IsRefusedLine (5 + number) (IsNodeLine
         (told_by head.now) number) NoRule fault text.now) }
 {
-    match parse_node(alloc, head, text, number, spare)? {
-        Some(node) => Ok(node),
-        None => Err(syntax(5 + u64::from(number))),
+    if read_spelled(alloc, head, text, number, node)? {
+        return Ok(());
     }
+    Err(syntax(5 + u64::from(number)))
 }
 
 // Sees that a node follows the earlier ones; one that breaks a rule is refused.
@@ -144,21 +141,22 @@ fn take_node(
     head: &Head,
     earlier: &mut PackedPositions,
     text: &[u8],
-    spare: &mut Spare,
-) -> Result<Node, CheckFault>
+    node: &mut Node,
+) -> Result<(), CheckFault>
+    requires side { side_of_node (any_node node.old) ≡ head.now.side }
     requires few { length earlier.old < head.now.count }
     requires most { head.now.count ≤ most_nodes }
-    ensures ok { IfOk result (λ node. TakesNode (told_by head.now) earlier.old earlier.new (any_node node) text.now) }
+    ensures ok { OnOk result (TakesNode (told_by head.now) earlier.old earlier.new (any_node node.new) text.now) }
     ensures err { IfErr result (λ fault. IsRefusedLine (5 + length earlier.old) (IsNodeLine (told_by head.now)
         (length earlier.old)) (IsBrokenNodeLine (told_by head.now) earlier.old) fault text.now) }
 {
     let number = earlier.len() as u32;
-    let node = next_node(alloc, head, text, number, spare)?;
-    see_follows(alloc, head, earlier, number, &node)?;
+    next_node(alloc, head, text, number, node)?;
+    see_follows(alloc, head, earlier, number, node)?;
     game_is_legal(&head.game);
-    let (loads, items) = lists_of(&node);
+    let (loads, items) = lists_of(node);
     earlier.push_lists(loads, items)?;
-    Ok(node)
+    Ok(())
 }
 
 // Reads the node that follows the earlier ones, judges it, and puts its position after theirs.
@@ -168,19 +166,20 @@ pub(crate) fn read_node<S: Source>(
     source: &mut S,
     head: &Head,
     earlier: &mut PackedPositions,
-    spare: &mut Spare,
-) -> Result<Node, CheckFault>
+    node: &mut Node,
+) -> Result<(), CheckFault>
     requires open_still { lines.old.ending ≡ None }
+    requires side { side_of_node (any_node node.old) ≡ head.now.side }
     requires few { length earlier.old < head.now.count }
     requires most { head.now.count ≤ most_nodes }
     ensures count { S.faults source.old ≤ S.faults source.new }
-    ensures ok { IfOk result (λ node. ReadsNode (told_by head.now) earlier.old earlier.new
-        (any_node node) lines.old lines.new (S.left source.old) (S.left source.new)) }
+    ensures ok { OnOk result (ReadsNode (told_by head.now) earlier.old earlier.new
+        (any_node node.new) lines.old lines.new (S.left source.old) (S.left source.new)) }
     ensures read { result ≡ Err Read → Rose (S.faults source.old) (S.faults source.new) }
     ensures refused { IfErr result (λ fault. RefusesNext (5 + length earlier.old) (IsNodeLine (told_by head.now)
         (length earlier.old)) (IsBrokenNodeLine (told_by head.now) earlier.old) fault lines.old (S.left source.old)
         (S.left source.new)) }
 {
     next_text(lines, source, 5 + earlier.len() as u64)?;
-    take_node(alloc, head, earlier, lines.text(), spare)
+    take_node(alloc, head, earlier, lines.text(), node)
 }

@@ -17,11 +17,11 @@ ghost use Rattle.checker.specs.declared.fault.Wanted.TheVariants.{Either};
 
 use crate::fault::{Accepted, CheckFault, Wanted};
 use crate::head::{Head, next_text, read_head, syntax};
-use crate::node::{Node, read_node, set_aside};
+use crate::node::{Node, read_node};
 use loads::PackedPositions;
 use port_io::{Line, LineReader, Source};
 use std::alloc::{AllocError, Global};
-use strategy_text::{AdvNodes, AlgNodes, Nodes, Side, Spare, Strategy, parse_end};
+use strategy_text::{AdvNodes, AlgNodes, Nodes, Side, Strategy, parse_end};
 
 // Reads and judges all nodes. Only their positions are kept.
 fn judge_nodes<S: Source>(
@@ -40,10 +40,9 @@ fn judge_nodes<S: Source>(
         (S.left source.new)) }
 {
     let mut positions = PackedPositions::new(alloc);
-    let mut spare = Spare::new(alloc);
+    let mut node = Node::empty(alloc, head.side);
     for k in 0..head.count {
-        let node = read_node(alloc, lines, source, head, &mut positions, &mut spare)?;
-        set_aside(&mut spare, node);
+        read_node(alloc, lines, source, head, &mut positions, &mut node)?;
     }
     Ok(())
 }
@@ -93,9 +92,9 @@ fn keep_nodes<S: Source>(
         (S.left source.new)) }
 {
     let mut positions = PackedPositions::new(alloc);
-    let mut spare = Spare::new(alloc);
     for k in 0..head.count {
-        let node = read_node(alloc, lines, source, head, &mut positions, &mut spare)?;
+        let mut node = Node::empty(alloc, head.side);
+        read_node(alloc, lines, source, head, &mut positions, &mut node)?;
         keep(nodes, node)?;
     }
     Ok(())

@@ -1,10 +1,10 @@
 -- Items that follow on from a lowest size and have a total, and a number put in at its place.
-use Rattle.std.proofs.Common.{eqb, leb, inl, inr, ◌≡◌, ℕ, zero, suc, ◌+◌, ◌-◌, ◌<◌, ◌≤◌, Bool, true, false, List, [], ◌∷◌, ◌++◌, length, take, drop, get_or, leb, refl, sym, ap, ◌∙◌, subst, sum, arith, Contains}
+use Rattle.std.proofs.Common.{eqb, leb, inl, inr, ◌≡◌, ℕ, zero, suc, ◌+◌, ◌-◌, ◌<◌, ◌≤◌, true, false, List, [], ◌∷◌, ◌++◌, length, take, drop, get_or, leb, refl, sym, ap, ◌∙◌, subst, sum, arith, Contains}
 use Rattle.std.specs.Prelude.{◌↔◌}
 use Rattle.std.specs.List.{All}
 use Rattle.std.proofs.Math.Seq.{drop-cons, take-length}
 use Rattle.std.proofs.lemmas.List.{take-append-drop, take-append-le, drop_at, length-append}
-use Rattle.std.proofs.lemmas.List.Elements.{All-head, All-tail, All-cons, All-weaker}
+use Rattle.std.proofs.lemmas.List.Elements.{All-tail, All-cons, All-weaker}
 use Rattle.std.proofs.lemmas.List.Sums.{sum_by-cons, sum_by-le}
 use Rattle.items.specs.declared.limits.TheConstants.{MOST_SIZE}
 use Rattle.items.specs.Multiset.{put_ascending, IsMultiset}

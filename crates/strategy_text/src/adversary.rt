@@ -2,16 +2,16 @@
 
 ghost use Rattle.std.specs.Prelude.{◌≡◌, ◌∷◌, [], IfOk, IfSome, IfNone, codes};
 ghost use Rattle.strategy_text.specs.declared.node.AdvNode.{AdvNode};
+ghost use Rattle.std.specs.Bool.{OnTrue, OnFalse};
 ghost use Rattle.strategy_text.specs.Text.{AnyNode, of_adversary};
 ghost use Rattle.strategy_text.specs.Spelling.{SpellsNode};
 ghost use Rattle.strategy_text.specs.Words.{after};
-ghost use Rattle.strategy_text.specs.Reading.{Takes, Reads, Gives, list_at, each_at, bins_at, pack_at};
+ghost use Rattle.strategy_text.specs.Reading.{Takes, Reads, GivesInto, list_at, each_at, bins_at, pack_at};
 ghost use Rattle.strategy_text.specs.Reading.{optional_pack_at, then_at, placement_at, placements_at, send_at};
 ghost use Rattle.strategy_text.specs.Reading.{burst_at, step_at, adversary_at};
 
 use crate::node::{AdvNode, Format, Placement, Placements, Step, Then};
-use crate::position::{list, position};
-use crate::spare::Spare;
+use crate::position::{list, read_position};
 use crate::stop::{LINE_BYTES, Stop};
 use crate::words::Words;
 use items::{Nums, Sequence};
@@ -156,23 +156,23 @@ fn step(alloc: Global, format: Format, words: &mut Words) -> Result<Step, Stop>
     }
 }
 
-/// A node of the adversary of this number.
+/// Reads a node of the adversary of this number into a node in place of what it holds.
 #[tactic(auto, unfolding(crate::specs::Reading::adversary_at))]
 fn adversary(
     alloc: Global,
     format: Format,
     words: &mut Words,
     number: u32,
-    spare: &mut Spare,
-) -> Result<AdvNode, Stop>
-    ensures { Gives result (adversary_at format number words.old) }
+    node: &mut AdvNode,
+) -> Result<(), Stop>
+    ensures { GivesInto result node.new (adversary_at format number words.old) }
 {
-    let (loads, items) = position(words, number, spare)?;
-    let step = step(alloc, format, words)?;
+    read_position(words, number, &mut node.loads, &mut node.items)?;
+    node.step = step(alloc, format, words)?;
     if !words.is_at_end() {
         return Err(Stop::Form);
     }
-    Ok(AdvNode { loads, items, step })
+    Ok(())
 }
 
 /// The node of the adversary of this number that a line of a strategy of this format, without its line
@@ -189,28 +189,32 @@ pub fn parse_adversary(
     ensures refused { IfOk result (λ read.
         IfNone read ((node : AdvNode) → SpellsNode format number line.now (of_adversary node) → ⊥)) }
 {
-    parse_adversary_in(alloc, format, line, number, &mut Spare::new(alloc))
+    let mut node = AdvNode::empty(alloc);
+    if read_adversary(alloc, format, line, number, &mut node)? {
+        return Ok(Some(node));
+    }
+    Ok(None)
 }
 
-/// What [`parse_adversary`] gives, with the loads and the items in lists that are used again.
-pub fn parse_adversary_in(
+/// Reads the node that [`parse_adversary`] gives into a node in place of what it holds, in the memory of its lists of
+/// loads and items where that is enough. False exactly where the line spells none; the node may then hold anything.
+pub fn read_adversary(
     alloc: Global,
     format: Format,
     line: &[u8],
     number: u32,
-    spare: &mut Spare,
-) -> Result<Option<AdvNode>, AllocError>
-    ensures spelled { IfOk result (λ read.
-        IfSome read (λ node. SpellsNode format number line.now (of_adversary node))) }
+    node: &mut AdvNode,
+) -> Result<bool, AllocError>
+    ensures spelled { IfOk result (λ read. OnTrue read (SpellsNode format number line.now (of_adversary node.new))) }
     ensures refused { IfOk result (λ read.
-        IfNone read ((node : AdvNode) → SpellsNode format number line.now (of_adversary node) → ⊥)) }
+        OnFalse read ((other : AdvNode) → SpellsNode format number line.now (of_adversary other) → ⊥)) }
 {
     if line.len() > LINE_BYTES {
-        return Ok(None);
+        return Ok(false);
     }
-    match adversary(alloc, format, &mut Words::new(line), number, spare) {
-        Ok(node) => Ok(Some(node)),
-        Err(Stop::Form) => Ok(None),
+    match adversary(alloc, format, &mut Words::new(line), number, node) {
+        Ok(()) => Ok(true),
+        Err(Stop::Form) => Ok(false),
         Err(Stop::Memory) => Err(AllocError),
     }
 }

@@ -2,14 +2,14 @@
 
 ghost use Rattle.std.specs.Prelude.{◌≡◌, IfOk, IfSome, IfNone};
 ghost use Rattle.strategy_text.specs.declared.node.AlgNode.{AlgNode};
+ghost use Rattle.std.specs.Bool.{OnTrue, OnFalse};
 ghost use Rattle.strategy_text.specs.Text.{AnyNode, of_algorithm};
 ghost use Rattle.strategy_text.specs.Spelling.{SpellsNode};
-ghost use Rattle.strategy_text.specs.Reading.{Takes, Reads, Gives, more_words, each_at, entry_at, entries_at, big_at};
+ghost use Rattle.strategy_text.specs.Reading.{Takes, Reads, GivesInto, more_words, each_at, entry_at, entries_at, big_at};
 ghost use Rattle.strategy_text.specs.Reading.{reply_at, act_at, algorithm_at};
 
 use crate::node::{Act, AlgNode, Entries, Entry, Format};
-use crate::position::position;
-use crate::spare::Spare;
+use crate::position::read_position;
 use crate::stop::{LINE_BYTES, Stop};
 use crate::words::Words;
 use items::Sequence;
@@ -99,23 +99,23 @@ fn act(alloc: Global, format: Format, words: &mut Words) -> Result<Act, Stop>
     reply(alloc, format, words)
 }
 
-/// A node of the algorithm of this number.
+/// Reads a node of the algorithm of this number into a node in place of what it holds.
 #[tactic(auto, unfolding(crate::specs::Reading::algorithm_at))]
 fn algorithm(
     alloc: Global,
     format: Format,
     words: &mut Words,
     number: u32,
-    spare: &mut Spare,
-) -> Result<AlgNode, Stop>
-    ensures { Gives result (algorithm_at format number words.old) }
+    node: &mut AlgNode,
+) -> Result<(), Stop>
+    ensures { GivesInto result node.new (algorithm_at format number words.old) }
 {
-    let (loads, items) = position(words, number, spare)?;
-    let act = act(alloc, format, words)?;
+    read_position(words, number, &mut node.loads, &mut node.items)?;
+    node.act = act(alloc, format, words)?;
     if !words.is_at_end() {
         return Err(Stop::Form);
     }
-    Ok(AlgNode { loads, items, act })
+    Ok(())
 }
 
 /// The node of the algorithm of this number that a line of a strategy of this format, without its line
@@ -132,28 +132,32 @@ pub fn parse_algorithm(
     ensures refused { IfOk result (λ read.
         IfNone read ((node : AlgNode) → SpellsNode format number line.now (of_algorithm node) → ⊥)) }
 {
-    parse_algorithm_in(alloc, format, line, number, &mut Spare::new(alloc))
+    let mut node = AlgNode::empty(alloc);
+    if read_algorithm(alloc, format, line, number, &mut node)? {
+        return Ok(Some(node));
+    }
+    Ok(None)
 }
 
-/// What [`parse_algorithm`] gives, with the loads and the items in lists that are used again.
-pub fn parse_algorithm_in(
+/// Reads the node that [`parse_algorithm`] gives into a node in place of what it holds, in the memory of its lists of
+/// loads and items where that is enough. False exactly where the line spells none; the node may then hold anything.
+pub fn read_algorithm(
     alloc: Global,
     format: Format,
     line: &[u8],
     number: u32,
-    spare: &mut Spare,
-) -> Result<Option<AlgNode>, AllocError>
-    ensures spelled { IfOk result (λ read.
-        IfSome read (λ node. SpellsNode format number line.now (of_algorithm node))) }
+    node: &mut AlgNode,
+) -> Result<bool, AllocError>
+    ensures spelled { IfOk result (λ read. OnTrue read (SpellsNode format number line.now (of_algorithm node.new))) }
     ensures refused { IfOk result (λ read.
-        IfNone read ((node : AlgNode) → SpellsNode format number line.now (of_algorithm node) → ⊥)) }
+        OnFalse read ((other : AlgNode) → SpellsNode format number line.now (of_algorithm other) → ⊥)) }
 {
     if line.len() > LINE_BYTES {
-        return Ok(None);
+        return Ok(false);
     }
-    match algorithm(alloc, format, &mut Words::new(line), number, spare) {
-        Ok(node) => Ok(Some(node)),
-        Err(Stop::Form) => Ok(None),
+    match algorithm(alloc, format, &mut Words::new(line), number, node) {
+        Ok(()) => Ok(true),
+        Err(Stop::Form) => Ok(false),
         Err(Stop::Memory) => Err(AllocError),
     }
 }

@@ -9,22 +9,20 @@ pub mod laws;
 mod node;
 mod position;
 mod rule;
-mod spare;
 mod spelled;
 mod stop;
 mod text;
 mod words;
 mod writing;
 
-pub use adversary::{parse_adversary, parse_adversary_in};
-pub use algorithm::{parse_algorithm, parse_algorithm_in};
+pub use adversary::{parse_adversary, read_adversary};
+pub use algorithm::{parse_algorithm, read_algorithm};
 pub use head::{parse_end, parse_first, parse_game, parse_nodes, parse_side};
 pub use node::{
     Act, AdvNode, AdvNodes, AlgNode, AlgNodes, Entries, Entry, Format, Nodes, Placement,
     Placements, Side, Step, Strategy, Then,
 };
 pub use rule::Rule;
-pub use spare::Spare;
 pub use text::{Text, text_of};
 pub use writing::write_strategy;
 

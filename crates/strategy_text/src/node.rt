@@ -5,6 +5,7 @@ ghost use Rattle.strategy_text.specs.Text.{side_word, nodes_of, side_of};
 
 use items::{Game, Nums, Sequence};
 use packing_witness::Packing;
+use std::alloc::Global;
 
 /// The format of a strategy's text. Format 2 has nodes that format 1 has not.
 #[derive(Clone, Copy, Debug, PartialEq, Eq)]
@@ -93,6 +94,21 @@ pub struct AdvNode {
     pub step: Step,
 }
 
+impl AdvNode {
+    /// A node without loads or items, which sends size 0 and has no placements. Takes no memory.
+    pub fn empty(alloc: Global) -> AdvNode {
+        AdvNode {
+            loads: Sequence::new(alloc),
+            items: Sequence::new(alloc),
+            step: Step::Send {
+                size: 0,
+                pack: None,
+                placements: Sequence::new(alloc),
+            },
+        }
+    }
+}
+
 /// The nodes of an adversary's strategy; the last is the root.
 pub type AdvNodes = Sequence<AdvNode>;
 
@@ -132,6 +148,17 @@ pub struct AlgNode {
     pub items: Nums,
     /// What is done.
     pub act: Act,
+}
+
+impl AlgNode {
+    /// A node without loads or items, which finishes. Takes no memory.
+    pub fn empty(alloc: Global) -> AlgNode {
+        AlgNode {
+            loads: Sequence::new(alloc),
+            items: Sequence::new(alloc),
+            act: Act::Finish,
+        }
+    }
 }
 
 /// The nodes of an algorithm's strategy; the last is the root.

@@ -1,4 +1,4 @@
-use Rattle.std.proofs.Common.{inl, inr, refl, sym}
+use Rattle.std.proofs.Common.{inl, inr, refl}
 use Rattle.std.proofs.lemmas.Bool.{false≢true}
 use Rattle.adversary_graph.specs.NodeRules as the
 use Rattle.adversary_graph.proofs.RuleLemmas.{past_items}

@@ -1,4 +1,4 @@
-use Rattle.std.proofs.Common.{◌+◌, ◌<◌, ◌≤◌, arith, sum, inl, inr}
+use Rattle.std.proofs.Common.{◌+◌, ◌<◌, arith, inl, inr}
 use Rattle.std.proofs.lemmas.Bool.{cases_lt}
 use Rattle.loads.specs.Loads.{loads_after}
 use Rattle.loads.proofs.LoadsLemmas.{loads_total, sum-loads_after, IsLoads-after}

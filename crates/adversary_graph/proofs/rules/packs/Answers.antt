@@ -1,10 +1,10 @@
-use Rattle.std.proofs.Common.{◌≡◌, ◌+◌, ◌*◌, ◌++◌, ap, arith, replicate, sum, ◌∙◌, List, ℕ, subst, sym}
+use Rattle.std.proofs.Common.{◌≡◌, ◌*◌, ◌++◌, ap, arith, replicate, sum, ◌∙◌, List, ℕ, subst, sym}
 use Rattle.std.proofs.lemmas.List.Folds.{sum_by-replicate}
 use Rattle.std.proofs.lemmas.List.Sums.{sum_by-append}
 use Rattle.std.proofs.lemmas.Bool.{false≢true}
 use Rattle.items.specs.Packable.{IsPacking}
 use Rattle.packing_witness.proofs.PackableLemmas.{sum-packing-le}
-use Rattle.adversary_graph.specs.Nodes.{sent_items, sent_size}
+use Rattle.adversary_graph.specs.Nodes.{sent_items}
 use Rattle.adversary_graph.proofs.RuleLemmas.{game_volume}
 use Rattle.adversary_graph.proofs.rules.packs.Goals as goal
 use Rattle.adversary_graph.proofs.rules.packs.Goals.{After-sent_number-number, After-as_slice}

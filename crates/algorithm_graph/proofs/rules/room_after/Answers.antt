@@ -1,4 +1,4 @@
-use Rattle.std.proofs.Common.{◌≡◌, ◌∙◌, ap, arith, length, subst}
+use Rattle.std.proofs.Common.{◌≡◌, ◌∙◌, ap, arith, subst}
 use Rattle.std.proofs.lemmas.List.{take_all}
 use Rattle.reachable_loads.specs.Reached.{ItemsSent, sent}
 use Rattle.algorithm_graph.specs.Judging.{HaveRoom}

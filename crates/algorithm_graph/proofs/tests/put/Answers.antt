@@ -1,4 +1,4 @@
-use Rattle.std.proofs.Common.{◌≡◌, ◌<◌, ℕ, false, Option, None, List, length, map, arith, sym, subst}
+use Rattle.std.proofs.Common.{◌≡◌, ◌<◌, false, Option, None, List, length, map, arith, sym, subst}
 use Rattle.std.specs.Prelude.{MatchOption}
 use Rattle.items.specs.Game.{GameNumbers}
 use Rattle.items.specs.Multiset.{sizes_of}

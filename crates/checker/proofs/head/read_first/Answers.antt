@@ -1,5 +1,4 @@
-use Rattle.std.proofs.Common.{◌≡◌, ◌∙◌, sym, subst}
-use Rattle.strategy_text.specs.declared.rule.Rule.TheVariants as rules
+use Rattle.std.proofs.Common.{sym, subst}
 use Rattle.checker.specs.FirstFault.{IsFirstLine}
 use Rattle.checker.specs.Progress.{NoRule, RefusesNext}
 use Rattle.checker.specs.declared.fault.CheckFault.{CheckFault}

@@ -1,4 +1,4 @@
-use Rattle.std.proofs.Common.{◌≡◌, ◌∷◌, []}
+use Rattle.std.proofs.Common.{◌∷◌, []}
 use Rattle.strategy_text.specs.Text.{first_line, game_line, side_line, count_line}
 use Rattle.checker.specs.Accepted.{IsFaultOf}
 use Rattle.checker.specs.FirstFault.{IsGameLine, IsSideLine, IsCountLine}

@@ -1,4 +1,4 @@
-use Rattle.std.proofs.Common.{◌≡◌, ◌∙◌, sym, refl, subst}
+use Rattle.std.proofs.Common.{◌∙◌, sym, refl, subst}
 use Rattle.strategy_text.specs.declared.rule.Rule.TheVariants as rules
 use Rattle.checker.specs.FirstFault.{IsSideLine}
 use Rattle.checker.specs.Progress.{BreaksSide, RefusesNext}

@@ -1,4 +1,4 @@
-use Rattle.std.proofs.Common.{◌≡◌, ◌+◌, ℕ, List, subst, length}
+use Rattle.std.proofs.Common.{◌+◌, ℕ, List, subst, length}
 use Rattle.checker.specs.Head.{IsNodeLine, IsBrokenNodeLine}
 use Rattle.checker.specs.Progress.{RefusesNext, IsRefusedLine, told_by}
 use Rattle.checker.specs.declared.fault.CheckFault.{CheckFault}

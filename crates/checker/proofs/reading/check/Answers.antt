@@ -1,4 +1,4 @@
-use Rattle.std.proofs.Common.{◌≡◌, ◌+◌, [], List, ℕ, ap, sym, refl, subst}
+use Rattle.std.proofs.Common.{◌+◌, [], List, ℕ, ap, sym, refl, subst}
 use Rattle.checker.specs.Accepted.{IsFaultOf}
 use Rattle.checker.specs.Progress.{told_by}
 use Rattle.checker.specs.declared.fault.CheckFault.{CheckFault}

@@ -9,33 +9,34 @@ use Rattle.checker.proofs.reading.judge_nodes.Goals as goal
 
 pub loop-k-init : goal.loop-k-init
 loop-k-init g c =
-    (([], refl, c.new-positions.ensures.empty, AreJudged-none (told_by c.args.head.now), ReadsLines-none _ _ c.requires.open_still), omega arith)
+    (([], refl, c.new-positions.ensures.empty, AreJudged-none (told_by c.args.head.now), ReadsLines-none _ _ c.requires.open_still), c.empty-node.ensures, omega arith)
 
 pub loop-k-preserved : goal.loop-k-preserved
 loop-k-preserved g c =
     let head = told_by c.args.head.now in
     let i = c.loop-k.invariant.0 in
-    let step = c.in_ok-node.ensures.ok in
+    let step = c.in_ok-read_node.ensures.ok in
     let earlier = c.loop-k.positions in
     let count : length earlier ≡ length i.0 = ap length i.2 ∙ length-map i.0 position_of in (
       (
-        i.0 ++ any_node c.in_ok-node.node ∷ [],
-        omega (arith, length_push i.0 (any_node c.in_ok-node.node), i.1),
+        i.0 ++ any_node c.read_node.new.node ∷ [],
+        omega (arith, length_push i.0 (any_node c.read_node.new.node), i.1),
         positions_push i.0 _ earlier c.read_node.new.earlier i.2 step.takes.put,
         AreJudged-push head i.0 _ earlier c.read_node.new.earlier step.text i.2 i.3 step.takes,
         lines_push i.0 _ (length earlier) step.text c.args.lines.now c.loop-k.lines c.read_node.new.lines _ _ _ count step.takes.under.spells.spelled i.4 step.reads,
       ),
-      omega (arith, c.loop-k.invariant.1, c.read_node.ensures.count),
+      step.takes.under.side,
+      omega (arith, c.loop-k.invariant.2, c.read_node.ensures.count),
     )
 
-pub returns-in_err-node-clause-refused : goal.returns-in_err-node-clause-refused
-returns-in_err-node-clause-refused g c =
+pub returns-in_err-read_node-clause-refused : goal.returns-in_err-read_node-clause-refused
+returns-in_err-read_node-clause-refused g c =
     let head = told_by c.args.head.now in
     let old = c.args.lines.now in
     let left = g.S.Source.left c.args.source.now in
     let new_left = g.S.Source.left c.read_node.new.source in
     let i = c.loop-k.invariant.0 in
     let few : length i.0 < head.count = omega (arith, i.1, c.loop-k-test.true) in
-    passed_on (λ (fault : CheckFault). RefusesNode head fault old left new_left) c.in_err-node.field-0.0 c.from_residual.result c.from_residual.ensures.1
-    (RefusesNode-from head i.0 c.loop-k.positions c.in_err-node.field-0.0 old c.loop-k.lines left
-    (g.S.Source.left c.loop-k.source) new_left refl i.2 few i.3 i.4 c.in_err-node.ensures.refused)
+    passed_on (λ (fault : CheckFault). RefusesNode head fault old left new_left) c.in_err-read_node.field-0.0 c.from_residual.result c.from_residual.ensures.1
+    (RefusesNode-from head i.0 c.loop-k.positions c.in_err-read_node.field-0.0 old c.loop-k.lines left
+    (g.S.Source.left c.loop-k.source) new_left refl i.2 few i.3 i.4 c.in_err-read_node.ensures.refused)

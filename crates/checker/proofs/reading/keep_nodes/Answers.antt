@@ -1,4 +1,4 @@
-use Rattle.std.proofs.Common.{◌≡◌, ◌++◌, ◌∷◌, [], ◌<◌, ◌+◌, List, length, map, refl, arith, ap, sym, ◌∙◌, subst}
+use Rattle.std.proofs.Common.{◌≡◌, ◌<◌, List, length, map, refl, arith, ap, sym, ◌∙◌, subst}
 use Rattle.std.proofs.lemmas.List.{length_push, length-map}
 use Rattle.strategy_text.specs.Text.{AnyNode, node_lines, nodes_of}
 use Rattle.checker.specs.Head.{position_of}
@@ -29,8 +29,8 @@ pub loop-k-preserved : goal.loop-k-preserved
 loop-k-preserved g c =
     let head = told_by c.args.head.now in
     let i = c.loop-k.invariant.0 in
-    let step = c.in_ok-node.ensures.ok in
-    let node = any_node c.in_ok-node.node in
+    let step = c.in_ok-read_node.ensures.ok in
+    let node = any_node c.read_node.new.node in
     let nodes = nodes_of c.loop-k.nodes in
     let earlier = c.loop-k.positions in
     let put = c.in_ok-keep.ensures.ok in
@@ -47,8 +47,8 @@ loop-k-preserved g c =
       omega (arith, c.loop-k.invariant.2, c.read_node.ensures.count),
     )
 
-pub returns-in_err-node-clause-refused : goal.returns-in_err-node-clause-refused
-returns-in_err-node-clause-refused g c =
+pub returns-in_err-read_node-clause-refused : goal.returns-in_err-read_node-clause-refused
+returns-in_err-read_node-clause-refused g c =
     let head = told_by c.args.head.now in
     let old = c.args.lines.now in
     let left = g.S.Source.left c.args.source.now in
@@ -56,9 +56,9 @@ returns-in_err-node-clause-refused g c =
     let i = c.loop-k.invariant.0 in
     let nodes = nodes_of c.loop-k.nodes in
     let few : length nodes < head.count = omega (arith, i.0, c.loop-k-test.true) in
-    passed_on (λ (fault : CheckFault). RefusesNode head fault old left new_left) c.in_err-node.field-0.0 c.from_residual.result c.from_residual.ensures.1
-    (RefusesNode-from head nodes c.loop-k.positions c.in_err-node.field-0.0 old c.loop-k.lines left
-    (g.S.Source.left c.loop-k.source) new_left refl i.1 few i.2 i.3 c.in_err-node.ensures.refused)
+    passed_on (λ (fault : CheckFault). RefusesNode head fault old left new_left) c.in_err-read_node.field-0.0 c.from_residual.result c.from_residual.ensures.1
+    (RefusesNode-from head nodes c.loop-k.positions c.in_err-read_node.field-0.0 old c.loop-k.lines left
+    (g.S.Source.left c.loop-k.source) new_left refl i.1 few i.2 i.3 c.in_err-read_node.ensures.refused)
 
 pub returns-in_err-keep-clause-refused : goal.returns-in_err-keep-clause-refused
 returns-in_err-keep-clause-refused g c =
@@ -69,7 +69,7 @@ returns-in_err-keep-clause-refused g c =
     let i = c.loop-k.invariant.0 in
     let nodes = nodes_of c.loop-k.nodes in
     let few : length nodes < head.count = omega (arith, i.0, c.loop-k-test.true) in
-    let step = c.in_ok-node.ensures.ok in
+    let step = c.in_ok-read_node.ensures.ok in
     passed_on (λ (fault : CheckFault). RefusesNode head fault old left new_left) Memory c.from_residual-in_err-keep.result c.from_residual-in_err-keep.ensures.1
     (RefusesNode-memory head nodes c.loop-k.positions step.text old c.loop-k.lines c.read_node.new.lines left
     (g.S.Source.left c.loop-k.source) new_left refl i.1 few i.2 i.3 step.reads)

@@ -1,4 +1,4 @@
-use Rattle.std.proofs.Common.{◌≡◌, ◌∷◌, [], ◌++◌, ◌+◌, ℕ, ◌∙◌, subst}
+use Rattle.std.proofs.Common.{◌≡◌, ◌∷◌, [], ◌++◌, ◌+◌, ℕ, subst}
 use Rattle.strategy_text.specs.Text.{node_lines, nodes_of, end_line}
 use Rattle.checker.specs.Accepted.{IsFaultOf}
 use Rattle.checker.specs.Progress.{IsWrongNext, NoRule, RefusesAfter, lines_of_head, told_by}

@@ -1,4 +1,4 @@
-use Rattle.std.proofs.Common.{◌≡◌, ◌+◌, [], List, ℕ, ap, sym, subst}
+use Rattle.std.proofs.Common.{◌+◌, [], List, ℕ, ap, sym, subst}
 use Rattle.strategy_text.specs.Text.{nodes_of}
 use Rattle.checker.specs.Accepted.{IsFaultOf}
 use Rattle.checker.specs.Progress.{told_by}

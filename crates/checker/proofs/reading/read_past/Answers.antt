@@ -1,4 +1,4 @@
-use Rattle.std.proofs.Common.{◌≡◌, [], subst, sym}
+use Rattle.std.proofs.Common.{[], subst, sym}
 use Rattle.checker.specs.Progress.{IsPastEnd, RefusesAfter}
 use Rattle.checker.specs.declared.fault.CheckFault.{CheckFault}
 use Rattle.checker.proofs.ProgressLemmas.{refuses_past, ended, none_met, not_true}

@@ -1,6 +1,6 @@
 use Rattle.items.specs.Multiset.{put_ascending}
 use Rattle.loads.specs.Packed.{IsPlaceOf}
-use Rattle.std.proofs.Common.{ℕ, List, ◌≡◌, ◌+◌, ◌∙◌, suc, length, take, drop, sym, ap, arith, refl}
+use Rattle.std.proofs.Common.{ℕ, List, ◌≡◌, ◌+◌, ◌∙◌, suc, length, drop, sym, ap, arith, refl}
 use Rattle.std.proofs.lemmas.Bool.{false≢true}
 use Rattle.std.proofs.lemmas.List.{take_rest}
 use Rattle.items.proofs.MultisetLemmas.{length-put_ascending}

@@ -1,7 +1,6 @@
-use Rattle.std.proofs.Common.{◌≡◌, suc, ◌+◌, drop, get_or, ◌∷◌, arith, subst, refl}
-use Rattle.std.specs.Prelude.{◌↔◌}
+use Rattle.std.proofs.Common.{◌≡◌, suc, ◌+◌, drop, get_or, arith, refl}
 use Rattle.std.proofs.Math.Seq.{drop-cons}
-use Rattle.loads.proofs.ItemListLemmas.{FollowOn, FollowOn-all, FollowOn-more}
+use Rattle.loads.proofs.ItemListLemmas.{FollowOn-all, FollowOn-more}
 use Rattle.loads.proofs.item_list.are_items_of.Goals as goal
 
 pub loop-item-init : goal.loop-item-init

@@ -1,4 +1,4 @@
-use Rattle.std.proofs.Common.{rules, ◌≡◌, ◌≢◌, ◌∙◌, ℕ, ◌+◌, ◌*◌, ◌<◌, ◌≤◌, ◌++◌, length, List, get_or, set, replicate, sum, take, refl, sym, ap, ⊎_elim, arith}
+use Rattle.std.proofs.Common.{◌≡◌, ◌≢◌, ◌∙◌, ℕ, ◌+◌, ◌*◌, ◌<◌, ◌≤◌, ◌++◌, length, List, get_or, set, replicate, sum, take, refl, ap, ⊎_elim, arith}
 use Rattle.std.specs.List.{All}
 use Rattle.std.proofs.Math.Nat.{mul-le-mul_left}
 use Rattle.std.proofs.lemmas.Bool.{cases_eq, cases_lt}
@@ -34,10 +34,10 @@ counted_all counters items i s n l within h size =
     let v : ℕ = get_or counters s 0 + n in
     ⊎_elim
     (λ (e : size ≡ s).
-        let at : get_or counters s 0 ≡ count s items = rw e at here in
-        rw e (omega (arith, at, count-append s items (replicate n s), count_replicate_this n s s refl, get_or-set_same counters s v 0 within)))
+    let at : get_or counters s 0 ≡ count s items = rw e at here in
+    rw e (omega (arith, at, count-append s items (replicate n s), count_replicate_this n s s refl, get_or-set_same counters s v 0 within)))
     (λ (ne : size ≢ s).
-        omega (arith, here, count-append size items (replicate n s), count_replicate_other n s size ne, get_or-set_other counters s size v 0 ne))
+    omega (arith, here, count-append size items (replicate n s), count_replicate_other n s size ne, get_or-set_other counters s size v 0 ne))
     (cases_eq size s)
 
 size_at : (items : List ℕ) (i : ℕ) → All (IsSize 120) items → i < length items → IsSize 120 (get_or items i 0)

@@ -1,4 +1,4 @@
-use Rattle.std.proofs.Common.{◌≡◌, ◌∙◌, ◌<◌, ◌==◌, false, true, sym, ap, arith, refl, length, get_or, ℕ}
+use Rattle.std.proofs.Common.{◌∙◌, ◌<◌, sym, arith, refl, length, get_or}
 use Rattle.std.proofs.lemmas.Bool.{eq-eqb, ne_eqb, false≢true}
 use Rattle.strategy_text.specs.Words.{first_word}
 use Rattle.strategy_text.proofs.FirstWord.{number_none, number_empty, number_leads, number_is, first_byte, first_word-short}

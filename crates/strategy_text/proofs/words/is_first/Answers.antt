@@ -1,4 +1,3 @@
-use Rattle.std.proofs.Common.{◌≡◌}
 use Rattle.std.proofs.lemmas.Bool.{false≢true}
 use Rattle.strategy_text.proofs.FirstWord.{too_short}
 use Rattle.strategy_text.proofs.words.is_first.Goals as goal

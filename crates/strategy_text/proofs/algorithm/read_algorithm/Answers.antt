@@ -1,11 +1,11 @@
 use Rattle.std.proofs.Common.{sym, ap, ◌∙◌, arith}
 use Rattle.strategy_text.specs.Reading.{algorithm_at}
 use Rattle.strategy_text.proofs.NodeLines.{algorithm_line_takes, algorithm_refused}
-use Rattle.strategy_text.proofs.algorithm.parse_algorithm_in.Goals as goal
+use Rattle.strategy_text.proofs.algorithm.read_algorithm.Goals as goal
 
 pub returns-in-Ok-clause-spelled : goal.returns-in-Ok-clause-spelled
 returns-in-Ok-clause-spelled c =
-    algorithm_line_takes c.args.format c.args.number c.args.line.now c.in-Ok.node (omega arith)
+    algorithm_line_takes c.args.format c.args.number c.args.line.now c.algorithm.new.node (omega arith)
     (sym (ap (algorithm_at c.args.format c.args.number) c.new.ensures) ∙ c.in-Ok.ensures)
 
 pub returns-in-Err-Form-clause-refused : goal.returns-in-Err-Form-clause-refused

@@ -1,11 +1,11 @@
 use Rattle.std.proofs.Common.{sym, ap, ◌∙◌, arith}
 use Rattle.strategy_text.specs.Reading.{adversary_at}
 use Rattle.strategy_text.proofs.NodeLines.{adversary_line_takes, adversary_refused}
-use Rattle.strategy_text.proofs.adversary.parse_adversary_in.Goals as goal
+use Rattle.strategy_text.proofs.adversary.read_adversary.Goals as goal
 
 pub returns-in-Ok-clause-spelled : goal.returns-in-Ok-clause-spelled
 returns-in-Ok-clause-spelled c =
-    adversary_line_takes c.args.format c.args.number c.args.line.now c.in-Ok.node (omega arith)
+    adversary_line_takes c.args.format c.args.number c.args.line.now c.adversary.new.node (omega arith)
     (sym (ap (adversary_at c.args.format c.args.number) c.new.ensures) ∙ c.in-Ok.ensures)
 
 pub returns-in-Err-Form-clause-refused : goal.returns-in-Err-Form-clause-refused

@@ -1,6 +1,6 @@
 use Rattle.strategy_text.specs.Reading.{numbers_at}
 use Rattle.strategy_text.proofs.Loops.{numbers_more, numbers_end, number_shrinks}
-use Rattle.strategy_text.proofs.position.numbers.Goals as goal
+use Rattle.strategy_text.proofs.position.read_numbers.Goals as goal
 
 pub loop-number-smaller : goal.loop-number-smaller
 loop-number-smaller c = number_shrinks 65535 c.loop-number.left (c.in-Some.number, c.size.new.self) c.in-Some.ensures
