@@ -141,7 +141,8 @@ serves_not_allowed game pass told s position size entries none spare unnamed beh
     Serving-refl game spare unnamed s entries _ (IsBehind-less game (0 + spare) spare unnamed s entries (omega arith) behind) (λ allowed. absurd (none allowed))
 
 -- a size that wins
-pub serves_won : (game : GameNumbers) (told : Told) (s0 s1 : Search) (wins : adversary_pools.Pool) (position : Position) (number : ℕ) (e0 e1 : List (Position × Verdict)) (M : List Position → Type 0)
+pub serves_won : (game : GameNumbers) (told : Told) (s0 s1 : Search) (wins : adversary_pools.Pool) (position : Position) (number : ℕ)
+    (e0 e1 : List (Position × Verdict)) (M : List Position → Type 0)
     → PutsWin s1.wins wins position number → KeepsServing game 0 s0 e0 s1 e1 M
     → KeepsServingTold game told position 1 s0 e0 (record s1 { wins = wins }) e1 (λ later. Unit {0})
 serves_won game told s0 s1 wins position number e0 e1 M puts f spare unnamed behind tried =

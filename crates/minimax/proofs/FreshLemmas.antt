@@ -154,10 +154,15 @@ is_fresh-other pass (Algorithm number) h = absurd (h tt)
 is_fresh-other pass (Held held) h = not_from_false (eqb held pass) (false_from_ne_true (eqb held pass) (λ e. h (eqb-true held pass e)))
 
 -- where the table does not settle a position it is to be visited
-pub fresh_told : (pass : ℕ) (o : Option Verdict) (told : Told) → IsTold pass o told → ((verdict : Verdict) → told ≡ Settled verdict → ⊥) → is_fresh pass o ≡ true
+fresh_told : (pass : ℕ) (o : Option Verdict) (told : Told) → IsTold pass o told → ((verdict : Verdict) → told ≡ Settled verdict → ⊥) → is_fresh pass o ≡ true
 fresh_told pass o (Settled verdict) h not_settled = absurd (not_settled verdict refl)
 fresh_told pass o (Earlier held) h not_settled = subst (λ x. is_fresh pass x ≡ true) (sym h.0) (is_fresh-other pass (Held held) h.1)
 fresh_told pass o Unknown h not_settled = subst (λ x. is_fresh pass x ≡ true) (sym h) refl
+
+pub fresh_at : (pass : ℕ) (entries : List (Position × Verdict)) (key position : Position) (told : Told) → key ≡ position → IsTold pass (verdict_of entries key) told
+    → ((verdict : Verdict) → told ≡ Settled verdict → ⊥) → is_fresh pass (verdict_of entries position) ≡ true
+fresh_at pass entries key position told e h not_settled =
+    subst (λ p. is_fresh pass (verdict_of entries p) ≡ true) e (fresh_told pass (verdict_of entries key) told h not_settled)
 
 -- a position that finishes and is to be visited has no entry
 pub none_for_finish : (game : GameNumbers) (pass : ℕ) (wins : List AdvNode) (replies : List Reply) (entries : List (Position × Verdict)) (position : Position)

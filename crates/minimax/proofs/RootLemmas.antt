@@ -133,7 +133,8 @@ module _ (game : GameNumbers) (pass : ℕ) where
       algorithm_lemmas.root_from_position nodes number root stands (subst IsEmptyPosition (sym is) empty_is)
 
   -- the strategy up to the root has no more nodes than visits were made
-  pub IsFor-win : (budget : ℕ) (s : Search) (entries : List (Position × Verdict)) (root : ℕ) (strategy : Strategy) → IsSound game pass s entries → HasSpare game 0 s entries → s.meter.budget ≡ budget
+  pub IsFor-win : (budget : ℕ) (s : Search) (entries : List (Position × Verdict)) (root : ℕ) (strategy : Strategy) → IsSound game pass s entries
+      → HasSpare game 0 s entries → s.meter.budget ≡ budget
       → strategy ≡ adversary_pools.strategy_of (adversary_pools.pool_of s.wins.format s.wins.game (adversary_pools.nodes_up_to root s.wins.nodes)) → IsFor game budget strategy
   IsFor-win budget s entries root strategy sound behind b is = subst (IsFor game budget) (sym is) (record {
     of_game = sound.wins_game;

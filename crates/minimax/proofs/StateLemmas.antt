@@ -26,7 +26,8 @@ use Rattle.monotone.specs.Visits.{Visit, Metered, IsLater, IsVisit, counted}
 use Rattle.monotone.proofs.VisitLemmas.{CountsVisits-counted}
 use Rattle.transposition.specs.declared.verdict.Verdict.{Verdict}
 use Rattle.transposition.specs.declared.verdict.Verdict.TheVariants.{Adversary, Algorithm, Held}
-use Rattle.minimax.specs.State.{AreKnown, AreReady, AreSound, FollowsUp, GoesOn, IsLed, IsNeverWon, IsNoWin, IsPending, IsReady, IsReply, IsSound, IsWonIn, KeepsReply, position_of_reply}
+use Rattle.minimax.specs.State.{AreKnown, AreReady, AreSound, FollowsUp, GoesOn, IsLed, IsNeverWon, IsNoWin}
+use Rattle.minimax.specs.State.{IsPending, IsReady, IsReply, IsSound, IsWonIn, KeepsReply, position_of_reply}
 use Rattle.minimax.specs.State.{PutsOnly, PutsWin, Says, Tells, allowed_by}
 use Rattle.minimax.specs.declared.expanding.Search.{Search}
 use Rattle.minimax.specs.declared.replies.Reply.{Reply}

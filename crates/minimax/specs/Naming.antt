@@ -1,5 +1,6 @@
 -- Serves private contracts: the nodes of positions that finish, which are put where a reply leads to them.
-use Rattle.std.specs.Prelude.{◌≡◌, ℕ, ◌+◌, ◌<◌, ◌≤◌, ◌⊎◌, List, Option, Some, None, IsSome, length, map, slice_index_or, if◌then◌else◌}
+use Rattle.std.specs.Prelude.{◌≡◌, ℕ, ◌+◌, ◌<◌, ◌≤◌, ◌⊎◌, List, Option, Some, None, IsSome, length, map}
+use Rattle.std.specs.Prelude.{slice_index_or, if◌then◌else◌}
 use Rattle.std.specs.Prelude.{All, Contains}
 use Rattle.items.specs.Game.{GameNumbers}
 use Rattle.loads.specs.Packed.{are_equal}
@@ -84,7 +85,8 @@ pub record IsNamed (before after : Written) (position : Position) (entry named :
 -- nodes that finish were put where entries lead
 pub data NamesAll (game : GameNumbers) (position : Position) (entries : List Entry) : Written → Written → Type 0 where
   none_named : (written : Written) → NamesAll game position entries written written
-  one_named : (before middle after : Written) (entry : Entry) (number : ℕ) → NamesAll game position entries before middle
+  one_named : (before middle after : Written) (entry : Entry) (number : ℕ)
+      → NamesAll game position entries before middle
       → Contains entries entry → entry.to ≡ FINISHES → Names middle after (led_to position entry) number
       → NamesAll game position entries before after
 
@@ -116,7 +118,8 @@ pub record MayNameAll (game : GameNumbers) (earlier : List Reply) (written : Wri
   pub placed : All (IsEntryPlaced unnamed written position) entries
 
 -- the entries are the same but for the numbers, and each leads to a node
-pub record AreNamed (game : GameNumbers) (written : Written) (position : Position) (entries named : List Entry) : Type 0 where
+pub record AreNamed (game : GameNumbers) (written : Written) (position : Position)
+    (entries named : List Entry) : Type 0 where
   pub sizes : map (λ (entry : Entry). entry.size) named ≡ map (λ (entry : Entry). entry.size) entries
   pub each : All (IsReply game written.pool.nodes position) named
 

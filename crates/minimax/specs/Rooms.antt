@@ -8,4 +8,5 @@ use Rattle.transposition.specs.Bounded.{found}
 
 -- each entry has the room of its items
 abbrev pub AreRooms : GameNumbers → List (Position × ℕ) → Type 0
-AreRooms game entries = (position : Position) (room : ℕ) → found are_equal entries position ≡ Some room → IsRoom game position.items room
+AreRooms game entries =
+    (position : Position) (room : ℕ) → found are_equal entries position ≡ Some room → IsRoom game position.items room

@@ -1,5 +1,5 @@
--- Serves private contracts: a position that finishes has no node until a strategy is written. That there are no more nodes
--- than visits rests on a list of the positions that finish and were visited.
+-- Serves private contracts: a position that finishes has no node until a strategy is written. That there are no more
+-- nodes than visits rests on a list of the positions that finish and were visited.
 use Rattle.std.specs.Prelude.{◌≡◌, ℕ, ◌+◌, ◌<◌, ◌≤◌, IsTrue, List, [], ◌∷◌, ◌++◌, Some, length, All, Contains}
 use Rattle.items.specs.Game.{GameNumbers}
 use Rattle.items.specs.Packable.{Packable}
@@ -69,7 +69,8 @@ pub record AreServed (game : GameNumbers) (unnamed : List Position) (replies : L
     (entries : List (Position × Verdict)) : Type 0 where
   pub known : (position : Position) (verdict : Verdict) → verdict_of entries position ≡ Some verdict
       → IsServedBy game unnamed position verdict
-  pub replied : (reply : Reply) → Contains replies reply → All (IsEntryServed unnamed reply.position) reply.entries.items
+  pub replied : (reply : Reply) → Contains replies reply
+      → All (IsEntryServed unnamed reply.position) reply.entries.items
 
 abbrev pub IsBehind : GameNumbers → ℕ → List Position → Search → List (Position × Verdict) → Type 0
 IsBehind game spare unnamed search entries =

@@ -371,7 +371,8 @@ pub record PlacesAll (game : GameNumbers) (wins : List AdvNode) (position : Posi
       (after position placement.load size)) placements
 
 -- replies at this position were put at the end of a list
-pub record KeepsReply (before after : List Reply) (position : Position) (entries : List Entry) (number : ℕ) : Type 0 where
+pub record KeepsReply (before after : List Reply) (position : Position) (entries : List Entry)
+    (number : ℕ) : Type 0 where
   pub reply : Reply
   pub stands : reply.position ≡ position
   pub kept : reply.entries.items ≡ entries

@@ -47,5 +47,6 @@ pub record IsWrittenUpTo (game : GameNumbers) (replies : List Reply) (root : Pos
   pub numbered : AreNumbered (take k replies) written
   pub left : List Position
   pub under : LeavesRoom budget (length replies - k) left written
-  pub placed : (reply : Reply) → Contains replies reply → All (IsEntryPlaced left written reply.position) reply.entries.items
+  pub placed : (reply : Reply) → Contains replies reply
+      → All (IsEntryPlaced left written reply.position) reply.entries.items
   pub root_placed : told ≡ FINISHES → IsPlaced left written root

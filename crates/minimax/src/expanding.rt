@@ -6,10 +6,12 @@ ghost use Rattle.good_situations.specs.Finish.{Finishes};
 ghost use Rattle.monotone.specs.Visits.{visit};
 ghost use Rattle.transposition.specs.Memo.{verdict_of};
 ghost use Rattle.minimax.specs.Fresh.{KeepsCount, progress};
-ghost use Rattle.minimax.specs.Serving.{HasSpare, IsServedAt, IsServedBy, IsServedFor, IsServedWith, KeepsServing, KeepsServingTold};
+ghost use Rattle.minimax.specs.Serving.{HasSpare, IsServedAt, IsServedBy, IsServedFor, IsServedWith};
+ghost use Rattle.minimax.specs.Serving.{KeepsServing, KeepsServingTold};
 ghost use Rattle.minimax.specs.Serving.{taken_by};
 ghost use Rattle.minimax.specs.State.{IsSound, HasReached, HasTried, HasWeighed, FindsVerdict};
-ghost use Rattle.minimax.specs.State.{IsBound, IsOpenAt, IsOpenFrom, IsTold, MayCome, MayVisit, StandsAtPath, Stops, WentOn};
+ghost use Rattle.minimax.specs.State.{IsBound, IsOpenAt, IsOpenFrom, IsTold, MayCome, MayVisit, StandsAtPath};
+ghost use Rattle.minimax.specs.State.{Stops, WentOn};
 ghost use Rattle.minimax.specs.State.{kept_of, reached_by, with_move};
 
 use crate::finish_nodes::FINISHES;

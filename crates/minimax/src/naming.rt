@@ -2,7 +2,8 @@
 
 ghost use Rattle.std.specs.Prelude.{List, IfOk};
 ghost use Rattle.minimax.specs.declared.replies.Reply.{Reply};
-ghost use Rattle.minimax.specs.Naming.{AreNamed, IsNamed, MayFinish, MayName, MayNameAll, MayNumber, Names, NamesAll, Numbers};
+ghost use Rattle.minimax.specs.Naming.{AreNamed, IsNamed, MayFinish, MayName, MayNameAll, MayNumber, Names};
+ghost use Rattle.minimax.specs.Naming.{NamesAll, Numbers};
 ghost use Rattle.minimax.specs.Naming.{PutsNamed};
 ghost use Rattle.minimax.specs.State.{AreOfAll};
 

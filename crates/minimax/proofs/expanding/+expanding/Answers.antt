@@ -31,7 +31,7 @@ use Rattle.minimax.proofs.StepLemmas.{sound_visited, WentOn-later, WentOn-refl, 
 use Rattle.minimax.proofs.ServingLemmas.{AreServed-same, IsBehind-less, KeepsServing-then, KeepsServing-weaker, Serving-refl, spare_after}
 use Rattle.minimax.proofs.FreshLemmas.{CountsFresh-above, CountsFresh-refl, CountsFresh-same, CountsFresh-trans, CountsFresh-visited}
 use Rattle.minimax.proofs.FreshLemmas.{IsShort-above, IsShort-after}
-use Rattle.minimax.proofs.FreshLemmas.{IsShort-fault, IsShort-visited, IsVisited, fresh_told, none_for_finish, volume_after}
+use Rattle.minimax.proofs.FreshLemmas.{IsShort-fault, IsShort-visited, IsVisited, fresh_at, none_for_finish, volume_after}
 use Rattle.minimax.proofs.WinLemmas.{IsWon-by, not_won}
 use Rattle.minimax.proofs.ExpansionLemmas.{entries_served, first_served, served_at, serves_expanded, serves_finished, serves_kept, serves_known, serves_more}
 use Rattle.minimax.proofs.ExpansionLemmas.{serves_not_allowed, serves_nothing, serves_replied, serves_size, serves_skipped, serves_won, sizes_tried}
@@ -55,7 +55,8 @@ pub expand-returns-in-Settled-clause-serves : goal.expand-returns-in-Settled-cla
 expand-returns-in-Settled-clause-serves g t c =
     let at = subst (IsTold c.args.pass (verdict_of (g.M.Memo.entries c.args.memo.now) c.in_ok-key.key)) c.in-Settled.is c.known-told.ensures.told in
     let told = subst (λ (p : Position). verdict_of (g.M.Memo.entries c.args.memo.now) p ≡ Some c.in-Settled.verdict) c.in_ok-key.ensures.ok at.0 in
-    serves_known c.args.game.now c.args.search.now c.args.position.now (g.M.Memo.entries c.args.memo.now) (g.M.Memo.entries c.known-told.new.memo) c.in-Settled.verdict told c.known-told.ensures.same
+    serves_known c.args.game.now c.args.search.now c.args.position.now (g.M.Memo.entries c.args.memo.now) (g.M.Memo.entries c.known-told.new.memo)
+    c.in-Settled.verdict told c.known-told.ensures.same
 
 pub expand-decide-requires : goal.expand-decide-requires
 expand-decide-requires g t c κs l =
@@ -124,7 +125,8 @@ pub expand-returns-clause-serves : goal.expand-returns-clause-serves
 expand-returns-clause-serves g t c =
     let e2 = g.M.Memo.entries c.decide.new.memo in
     let e3 = g.M.Memo.entries c.remember.new.memo in
-    serves_expanded c.args.game.now c.args.search.now c.decide.new.search c.visit.new.self (visit c.args.pass c.args.search.now.path) c.args.position.now (g.M.Memo.entries c.args.memo.now)
+    serves_expanded c.args.game.now c.args.search.now c.decide.new.search c.visit.new.self (visit c.args.pass c.args.search.now.path) c.args.position.now
+    (g.M.Memo.entries c.args.memo.now)
     (g.M.Memo.entries c.known-told.new.memo) e2 e3 c.in_ok-verdict.verdict c.in_ok-visit.ensures.ok c.known-told.ensures.same c.in_ok-verdict.ensures.serves
     (subst (λ (p : Position). PutsOnly e2 e3 p c.in_ok-verdict.verdict) c.in_ok-key.ensures.ok c.in_ok-remember.ensures.only)
 
@@ -148,7 +150,8 @@ decide-weigh_all-requires g t c κs l = (
 
 pub decide-returns-clause-found : goal.decide-returns-clause-found
 decide-returns-clause-found g t c =
-    finds_decided c.args.game.now c.args.pass c.args.search.now c.weigh_all.new.search c.room_up_to.new.self c.in_ok-room.room c.args.position.now (g.M.Memo.entries c.weigh_all.new.memo)
+    finds_decided c.args.game.now c.args.pass c.args.search.now c.weigh_all.new.search c.room_up_to.new.self c.in_ok-room.room c.args.position.now (g.M.Memo.entries
+    c.weigh_all.new.memo)
     c.in_ok-verdict.verdict c.in_ok-verdict.ensures.found
 
 pub decide-returns-clause-counts : goal.decide-returns-clause-counts
@@ -237,7 +240,8 @@ try_size-try_load-requires g t c κs l =
                 c.distinct_at-load.ensures.value c.distinct_at-load.ensures.member,
             (
               c.requires.may_come,
-              spare_after c.args.game.now 0 0 c.args.search.now c.loop-i.search (g.M.Memo.entries c.args.memo.now) (g.M.Memo.entries c.loop-i.memo) (λ later. Unit {0}) i.serves c.requires.behind,
+              spare_after c.args.game.now 0 0 c.args.search.now c.loop-i.search (g.M.Memo.entries c.args.memo.now) (g.M.Memo.entries c.loop-i.memo)
+              (λ later. Unit {0}) i.serves c.requires.behind,
             ),
           ),
         ),
@@ -269,7 +273,8 @@ try_size-returns-in-Answers-clause-serves g t c =
     let e1 = g.M.Memo.entries c.loop-i.memo in
     let e2 = g.M.Memo.entries c.try_load.new.memo in
     let load = c.distinct_at-load.result in
-    let next = subst (λ r. KeepsServing c.args.game.now 0 s1 e1 s2 e2 (λ later. IsServedAt c.args.game.now later c.args.position.now c.args.size load r)) c.in-Answers.is c.in_ok-next.ensures.serves in
+    let next = subst (λ r. KeepsServing c.args.game.now 0 s1 e1 s2 e2 (λ later. IsServedAt c.args.game.now later c.args.position.now c.args.size load r))
+    c.in-Answers.is c.in_ok-next.ensures.serves in
     KeepsServing-then c.args.game.now 0 0 0 c.args.search.now s1 s2 (g.M.Memo.entries c.args.memo.now) e1 e2 (λ later. Unit {0}) _ refl c.loop-i.invariant.serves next
 
 pub try_size-loop-i-preserved : goal.try_size-loop-i-preserved
@@ -290,7 +295,8 @@ try_size-loop-i-preserved g t c =
     record {
       went = subst (λ l. WentOn game c.args.pass (c.args.search.now.path ++ moved c.args.size l ∷ []) c.args.search.now c.try_load.new.search e2) (here ∙ sym next) went;
       counts = CountsFresh-trans game c.args.pass (sum p.items + 1) _ _ _ i.counts c.in_ok-next.ensures.counts;
-      serves = KeepsServing-then c.args.game.now 0 0 0 c.args.search.now c.loop-i.search c.try_load.new.search (g.M.Memo.entries c.args.memo.now) e1 e2 (λ later. Unit {0}) (λ later. Unit {0}) refl
+      serves = KeepsServing-then c.args.game.now 0 0 0 c.args.search.now c.loop-i.search c.try_load.new.search (g.M.Memo.entries c.args.memo.now) e1 e2
+          (λ later. Unit {0}) (λ later. Unit {0}) refl
           i.serves (KeepsServing-weaker c.args.game.now 0 c.loop-i.search c.try_load.new.search e1 e2 _ (λ later. Unit {0}) (λ later m. tt) c.in_ok-next.ensures.serves);
       places = placed_more game c.args.pass p c.loop-i.i load c.in-ByNext.next c.loop-i.placements c.push.new.self here (omega (
         arith,
@@ -415,13 +421,15 @@ weigh-returns-in-Some-clause-serves g t c =
 pub weigh-push_win-requires-clause-room : goal.weigh-push_win-requires-clause-room
 weigh-push_win-requires-clause-room g t c =
     let e1 = g.M.Memo.entries c.try_size.new.memo in
-    let after = spare_after c.args.game.now 1 0 c.args.search.now c.try_size.new.search (g.M.Memo.entries c.args.memo.now) e1 _ c.in_ok-placements.ensures.serves c.requires.behind in
+    let after = spare_after c.args.game.now 1 0 c.args.search.now c.try_size.new.search (g.M.Memo.entries c.args.memo.now) e1 _ c.in_ok-placements.ensures.serves
+    c.requires.behind in
     let sound = c.in_ok-placements.ensures.found.0.sound in
     omega (arith, after.1.0, sound.within, sound.budget)
 
 pub weigh-returns-in_ok-number-in-Wins-clause-serves : goal.weigh-returns-in_ok-number-in-Wins-clause-serves
 weigh-returns-in_ok-number-in-Wins-clause-serves g t c =
-    serves_won c.args.game.now c.args.told c.args.search.now c.try_size.new.search c.push_win.new.wins c.args.position.now c.in_ok-number-in-Wins.number (g.M.Memo.entries c.args.memo.now)
+    serves_won c.args.game.now c.args.told c.args.search.now c.try_size.new.search c.push_win.new.wins c.args.position.now c.in_ok-number-in-Wins.number
+    (g.M.Memo.entries c.args.memo.now)
     (g.M.Memo.entries c.try_size.new.memo) _ c.in_ok-number-in-Wins.ensures c.in_ok-placements.ensures.serves
 
 pub weigh-returns-in-Answered-clause-serves : goal.weigh-returns-in-Answered-clause-serves
@@ -456,7 +464,8 @@ weigh_all-weigh-requires g t c κs l =
                 c.requires.from_room i.went i.none,
             (
               Packable-from_room game c.args.position.now.items c.args.room size c.requires.is_room (omega (arith, c.loop-tried-test.true)) (omega arith),
-              spare_after c.args.game.now 1 0 c.args.search.now c.loop-tried.search (g.M.Memo.entries c.args.memo.now) (g.M.Memo.entries c.loop-tried.memo) _ i.serves c.requires.behind,
+              spare_after c.args.game.now 1 0 c.args.search.now c.loop-tried.search (g.M.Memo.entries c.args.memo.now) (g.M.Memo.entries
+              c.loop-tried.memo) _ i.serves c.requires.behind,
             ),
           ),
         ),
@@ -509,7 +518,10 @@ weigh_all-returns-in-Won-clause-serves g t c =
     let weighed = subst (λ w. KeepsServingTold game c.args.told p (taken_by w) s1 e1 s2 e2 (λ later. IsServedFor game c.args.pass later p size w)) c.in-Won.is
     c.in_ok-number.ensures.serves in
     serves_size game c.args.told p 1 c.args.search.now s1 s2 (g.M.Memo.entries c.args.memo.now) e1 e2 _ _ _ c.loop-tried.invariant.serves weighed (λ later m. m.2)
-    (λ before later keeps m n. (λ e. absurd (let no : Adversary c.in-Won.number ≡ Algorithm FINISHES = e in cc), λ k e. absurd (let no : Adversary c.in-Won.number ≡ Held k = e in cc)))
+    (λ before later keeps m n. (
+      (λ e. absurd (let no : Adversary c.in-Won.number ≡ Algorithm FINISHES = e in cc)),
+      (λ k e. absurd (let no : Adversary c.in-Won.number ≡ Held k = e in cc)),
+    ))
 
 pub weigh_all-loop-tried-preserved : goal.weigh_all-loop-tried-preserved
 weigh_all-loop-tried-preserved g t c =
@@ -645,7 +657,7 @@ expand-returns-then-finishes-clause-counts g t c =
     let e1 = g.M.Memo.entries c.known-told.new.memo in
     let b = progress c.visit.new.self e1 (g.M.Memo.room c.known-told.new.memo) in
     let e2 = g.M.Memo.entries c.remember_finish.new.memo in
-    let fresh = subst (λ (p : Position). is_fresh c.args.pass (verdict_of a.entries p) ≡ true) c.in_ok-key.ensures.ok (fresh_told c.args.pass _ c.known-told.result c.known-told.ensures.told c.in_default.not-Settled) in
+    let fresh = fresh_at c.args.pass a.entries c.in_ok-key.key p c.known-told.result c.in_ok-key.ensures.ok c.known-told.ensures.told c.in_default.not-Settled in
     let visited : IsVisited game c.args.pass p path a b =
     record { stands = c.requires.may.stands; fresh = fresh; meter = c.in_ok-visit.ensures.ok; same = c.known-told.ensures.same; room = c.known-told.ensures.capacity } in
     let finishes = c.finishes.ensures.exact.0 c.if-finishes.true in
@@ -674,7 +686,7 @@ expand-returns-clause-counts g t c =
     let e1 = g.M.Memo.entries c.decide.new.memo in
     let e2 = g.M.Memo.entries c.remember.new.memo in
     let r1 = g.M.Memo.room c.decide.new.memo in
-    let fresh = subst (λ (p : Position). is_fresh c.args.pass (verdict_of a.entries p) ≡ true) c.in_ok-key.ensures.ok (fresh_told c.args.pass _ c.known-told.result c.known-told.ensures.told c.in_default.not-Settled) in
+    let fresh = fresh_at c.args.pass a.entries c.in_ok-key.key p c.known-told.result c.in_ok-key.ensures.ok c.known-told.ensures.told c.in_default.not-Settled in
     let visited : IsVisited game c.args.pass p path a b =
     record { stands = c.requires.may.stands; fresh = fresh; meter = c.in_ok-visit.ensures.ok; same = c.known-told.ensures.same; room = c.known-told.ensures.capacity } in
     CountsFresh-visited game c.args.pass p path a b (progress c.decide.new.search.meter e1 r1) e2 (g.M.Memo.room c.remember.new.memo) verdict visited c.in_ok-verdict.ensures.counts
@@ -688,7 +700,7 @@ expand-returns-in_err-visit-clause-counts g t c =
     let p = c.args.position.now in
     let fault = c.in_err-visit.field-0.0 in
     let a = progress c.args.search.now.meter (g.M.Memo.entries c.args.memo.now) (g.M.Memo.room c.args.memo.now) in
-    let fresh = subst (λ (p : Position). is_fresh c.args.pass (verdict_of a.entries p) ≡ true) c.in_ok-key.ensures.ok (fresh_told c.args.pass _ c.known-told.result c.known-told.ensures.told c.in_default.not-Settled) in
+    let fresh = fresh_at c.args.pass a.entries c.in_ok-key.key p c.known-told.result c.in_ok-key.ensures.ok c.known-told.ensures.told c.in_default.not-Settled in
     let short = IsShort-fault game c.args.pass p c.args.search.now.path a fault c.requires.may.stands fresh (λ e. c.in_err-visit.ensures.spent.0 (ap Err e)) in
     passed_on _ (IsShort game c.args.pass (sum p.items) a) fault c.from_residual-in_err-visit.result c.from_residual-in_err-visit.ensures.1 short
 
@@ -700,7 +712,7 @@ expand-returns-in_err-verdict-clause-counts g t c =
     let fault = c.in_err-verdict.field-0.0 in
     let a = progress c.args.search.now.meter (g.M.Memo.entries c.args.memo.now) (g.M.Memo.room c.args.memo.now) in
     let b = progress c.visit.new.self (g.M.Memo.entries c.known-told.new.memo) (g.M.Memo.room c.known-told.new.memo) in
-    let fresh = subst (λ (p : Position). is_fresh c.args.pass (verdict_of a.entries p) ≡ true) c.in_ok-key.ensures.ok (fresh_told c.args.pass _ c.known-told.result c.known-told.ensures.told c.in_default.not-Settled) in
+    let fresh = fresh_at c.args.pass a.entries c.in_ok-key.key p c.known-told.result c.in_ok-key.ensures.ok c.known-told.ensures.told c.in_default.not-Settled in
     let visited : IsVisited game c.args.pass p path a b =
     record { stands = c.requires.may.stands; fresh = fresh; meter = c.in_ok-visit.ensures.ok; same = c.known-told.ensures.same; room = c.known-told.ensures.capacity } in
     passed_on _ (IsShort game c.args.pass (sum p.items) a) fault c.from_residual-in_err-verdict.result c.from_residual-in_err-verdict.ensures.1

@@ -126,7 +126,8 @@ loop-pass-preserved g c =
       most = goes.most ∙ c.loop-pass.invariant.most;
       budget = goes.budget ∙ c.loop-pass.invariant.budget;
       none_before = none_more game pass c.loop-pass.invariant.none_before
-          (λ won. finds.tells.says.not_won (subst (IsWonIn game c.in-Ok-Held.field-0-0) (sym root) (subst (λ k. IsWonIn game k (empty_position game)) (sym finds.tells.of_pass) won)));
+          (λ won. finds.tells.says.not_won
+          (subst (IsWonIn game c.in-Ok-Held.field-0-0) (sym root) (subst (λ k. IsWonIn game k (empty_position game)) (sym finds.tells.of_pass) won)));
       later = λ path. finds.went.passed (visit (pass + 1) path) (inl (omega arith));
       of_game = omega (arith, finds.tells.says.before_last, finds.tells.of_pass);
     }
