@@ -1,8 +1,8 @@
 -- How the replies that a search kept become a strategy.
 use Rattle.std.proofs.Common.{◌≡◌, ℕ, zero, suc, ◌+◌, ◌-◌, ◌<◌, ◌≤◌, ◌⊎◌, Some, List, [], ◌∷◌, ◌++◌, length, map, take, get_or}
 use Rattle.std.proofs.Common.{refl, sym, ap, ◌∙◌, subst, append_assoc, inl, inr, arith}
-use Rattle.std.specs.Prelude.{Contains, IsSome, slice_get, true, false}
-use Rattle.std.proofs.lemmas.List.{get_or_append_left, get_or-append-add, length-map, length-take-le, length_push, take_all, take_more}
+use Rattle.std.specs.Prelude.{Contains, IsSome, slice_get}
+use Rattle.std.proofs.lemmas.List.{get_or_append_left, get_or-append-add, length-map, length-take-le, length_push, take_more}
 use Rattle.std.proofs.lemmas.List.FromFn.{length-map-range_with_len}
 use Rattle.std.proofs.lemmas.List.Elements.{All-weaker}
 use Rattle.std.proofs.lemmas.Option.{none-some}
@@ -16,8 +16,8 @@ use Rattle.strategy_text.specs.declared.node.Strategy.{Strategy}
 use Rattle.algorithm_graph.specs.Nodes as algorithm
 use Rattle.algorithm_graph.specs.Pools as algorithm_pools
 use Rattle.minimax.specs.Answers.{IsFor}
-use Rattle.minimax.specs.Naming.{AreNumbered, HasReplies, IsEntryPlaced, IsPlaced, MayNumber, Numbers, PutsNamed, number_of}
-use Rattle.minimax.specs.Serving.{IsEntryServed, led_to}
+use Rattle.minimax.specs.Naming.{AreNumbered, HasReplies, IsEntryPlaced, IsPlaced, Numbers, PutsNamed, number_of}
+use Rattle.minimax.specs.Serving.{led_to}
 use Rattle.minimax.specs.State.{AreOfAll, GoesOn, position_of_reply}
 use Rattle.minimax.specs.Writing.{IsWrittenUpTo, MayPut, MayWrite, Puts}
 use Rattle.minimax.specs.declared.replies.Reply.{Reply}
@@ -30,23 +30,6 @@ use Rattle.minimax.proofs.StateLemmas.{StandsAt-goes, StandsAt-last}
 pub entries_long : (game : GameNumbers) (position : Position) (room : ℕ) (entries : List Entry) → AreOfAll game position room entries → length entries ≡ room
 entries_long game position room entries of_all =
     sym (length-map entries (λ (entry : Entry). entry.size)) ∙ ap length of_all.sizes ∙ length-map-range_with_len (λ k. room - k) 0 room
-
--- ---- the first reply
-
-pub written_none : (game : GameNumbers) (replies : List Reply) (root : Position) (told budget : ℕ) (w : Written) → MayWrite game replies root told budget
-    → w.pool ≡ algorithm_pools.pool_of One game [] → w.finishes ≡ [] → w.numbers.items ≡ [] → IsWrittenUpTo game replies root told budget 0 w
-written_none game replies root told budget w may p f n = record {
-  has = record { of_game = ap (λ (x : algorithm_pools.Pool). x.game) p; of_format = ap (λ (x : algorithm_pools.Pool). x.format) p };
-  numbered = record { one_each = ap length n; stand = λ k position h. absurd (none-some position h) };
-  left = may.unnamed;
-  under = record {
-    few = omega (arith, may.few, ap (λ (x : algorithm_pools.Pool). length x.nodes) p);
-    named = λ position k told. absurd (none-some k (subst (λ fs. number_of fs position ≡ Some k) f told));
-  };
-  placed = λ reply c. All-weaker (IsEntryServed may.unnamed reply.position) (IsEntryPlaced may.unnamed w reply.position) (λ e h told. inl (h told))
-      reply.entries.items (may.served reply c);
-  root_placed = λ e. inl (may.root_served e);
-}
 
 -- ---- the next reply
 
@@ -158,22 +141,6 @@ written_more game replies root told budget k w next reply d up l e puts =
           (λ entry h f. keeps (led_to one.position entry) (h f)) one.entries.items (up.placed one c);
       root_placed = λ f. keeps root (up.root_placed f);
     }
-
--- ---- the root
-
-pub may_number_root : (game : GameNumbers) (replies : List Reply) (root : Position) (told budget k : ℕ) (w : Written) → MayWrite game replies root told budget
-    → IsWrittenUpTo game replies root told budget k w → length replies ≤ k → MayNumber game replies w root told
-may_number_root game replies root told budget k w may up l = record {
-  replies = up.has;
-  playable = may.playable;
-  led = may.led;
-  numbered = subst (λ xs. AreNumbered xs w) (take_all k replies l) up.numbered;
-  few = omega (arith, may.few, may.limit);
-  room = λ e none. elim (up.root_placed e) [
-    | inl c ↦ omega (arith, up.under.few, may.limit, c.1)
-    | inr some ↦ let no : false ≡ true = subst IsSome none some in cc
-  ];
-}
 
 -- the strategy up to the root has no more nodes than the budget
 pub written_root : (game : GameNumbers) (replies : List Reply) (root : Position) (told budget k number : ℕ) (w next : Written) → MayWrite game replies root told budget

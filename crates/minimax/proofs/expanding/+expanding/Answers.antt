@@ -1,4 +1,4 @@
-use Rattle.std.proofs.Common.{◌≡◌, ◌∙◌, ◌+◌, ◌-◌, ◌<◌, ◌≤◌, ◌⊎◌, ◌++◌, ◌∷◌, [], ℕ, List, Some, None, true, length}
+use Rattle.std.proofs.Common.{◌≡◌, ◌∙◌, ◌+◌, ◌-◌, ◌<◌, ◌≤◌, ◌⊎◌, ◌++◌, ◌∷◌, [], ℕ, List, Some, None, length}
 use Rattle.std.proofs.Common.{get_or, map, sum, refl, sym, ap, subst, inl, inr, arith, below_more, Vec, Global}
 use Rattle.std.specs.Prelude.{All, Err, IsTrue}
 use Rattle.std.proofs.lemmas.Bool.{false≢true, true≢false}
@@ -15,7 +15,7 @@ use Rattle.packing_witness.proofs.PackingLemmas.{size_of_last, le_room, Packable
 use Rattle.strategy_text.specs.declared.node.Entry.{Entry}
 use Rattle.transposition.specs.Bounded.{Puts}
 use Rattle.transposition.specs.Memo.{verdict_of}
-use Rattle.minimax.specs.Fresh.{IsShort, is_fresh, progress}
+use Rattle.minimax.specs.Fresh.{IsShort, progress}
 use Rattle.minimax.specs.State.{AreOfAll, HasReached, HasTried, HasWeighed, IsPending, IsTold, IsWonIn, PutsOnly, WentOn, allowed_by, numbers_down}
 use Rattle.minimax.specs.Serving.{IsEntryServed, IsServedAt, IsServedFor, IsServedWith, KeepsServing, KeepsServingTold, led_to, taken_by}
 use Rattle.minimax.specs.declared.finish_nodes.TheConstants.{FINISHES}
@@ -241,7 +241,7 @@ try_size-try_load-requires g t c κs l =
             (
               c.requires.may_come,
               spare_after c.args.game.now 0 0 c.args.search.now c.loop-i.search (g.M.Memo.entries c.args.memo.now) (g.M.Memo.entries c.loop-i.memo)
-              (λ later. Unit {0}) i.serves c.requires.behind,
+                  (λ later. Unit {0}) i.serves c.requires.behind,
             ),
           ),
         ),
@@ -465,7 +465,7 @@ weigh_all-weigh-requires g t c κs l =
             (
               Packable-from_room game c.args.position.now.items c.args.room size c.requires.is_room (omega (arith, c.loop-tried-test.true)) (omega arith),
               spare_after c.args.game.now 1 0 c.args.search.now c.loop-tried.search (g.M.Memo.entries c.args.memo.now) (g.M.Memo.entries
-              c.loop-tried.memo) _ i.serves c.requires.behind,
+                  c.loop-tried.memo) _ i.serves c.requires.behind,
             ),
           ),
         ),
