@@ -1,5 +1,5 @@
 use super::*;
-use items::{Game, Items};
+use items::{Game, Items, Sizes};
 use std::alloc::Global;
 use std::collections::HashSet;
 use std::test::Fail;
@@ -181,5 +181,34 @@ fn packed_positions_are_found_by_their_number(rt: HostRuntime) -> Result<(), Fai
     assert!(rt; list.is_at(0, &loads, &Items::empty()) && list.is_at(1, &loads, &items));
     assert!(rt; !list.is_at(0, &loads, &items) && !list.is_at(2, &loads, &items));
     assert!(rt; list.get(1).is_some() && list.get(2).is_none());
+    Ok(())
+}
+
+#[test]
+fn a_position_given_as_lists_is_found_after_an_item(rt: HostRuntime) -> Result<(), Fail> {
+    let game = small_game()?;
+    let before = Loads::from_slice(rt.alloc(), &game, &[3, 2, 2]).ok_or("refused")?;
+    let mut list = PackedPositions::new(rt.alloc());
+    list.push_lists(&[4, 2, 2], &[1, 1, 1, 2, 3])?;
+    list.push_lists(&[3, 3, 2], &[1, 1, 1, 2, 3])?;
+    assert_eq!(rt; list.len(), 2);
+    assert!(rt; list.is_after(0, &before, &[1, 1, 2, 3], 3, 1));
+    assert!(rt; list.is_after(1, &before, &[1, 1, 2, 3], 2, 1));
+    assert!(rt; !list.is_after(0, &before, &[1, 1, 2, 3], 2, 1));
+    assert!(rt; !list.is_after(0, &before, &[1, 1, 1, 3], 3, 1));
+    assert!(rt; !list.is_after(2, &before, &[1, 1, 2, 3], 3, 1));
+    Ok(())
+}
+
+#[test]
+fn items_of_loads_ascend_to_their_sum(rt: HostRuntime) -> Result<(), Fail> {
+    let game = small_game()?;
+    let loads = Loads::from_slice(rt.alloc(), &game, &[3, 2, 2]).ok_or("refused")?;
+    let sizes = Sizes::of_game(&game);
+    assert!(rt; are_items_of(&sizes, &loads, &[1, 1, 2, 3]));
+    assert!(rt; !are_items_of(&sizes, &loads, &[1, 2, 1, 3]));
+    assert!(rt; !are_items_of(&sizes, &loads, &[1, 1, 2, 2]));
+    assert!(rt; !are_items_of(&sizes, &loads, &[1, 1, 1, 4]));
+    assert!(rt; !are_items_of(&sizes, &loads, &[3, 3, 3]));
     Ok(())
 }

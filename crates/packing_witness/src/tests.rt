@@ -75,11 +75,9 @@ fn a_packing_has_each_item_once_in_a_bin_of_at_most_the_capacity(
         ("//", false),
     ];
     for (bins, want) in cases {
-        assert_eq!(rt;
-            packing(rt.alloc(), bins)?.holds(&game, &items),
-            want,
-            "{bins}"
-        );
+        let packing = packing(rt.alloc(), bins)?;
+        assert_eq!(rt; packing.holds(&game, &items), want, "{bins}");
+        assert_eq!(rt; packing.holds_list(&game, &[2], 1, 2), want, "{bins}");
     }
     Ok(())
 }

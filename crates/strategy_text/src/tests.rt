@@ -276,6 +276,36 @@ fn a_node_of_the_algorithm_has_the_parts_of_its_line(rt: HostRuntime) -> Result<
 }
 
 #[test]
+fn a_node_is_read_in_place_of_the_last_one(rt: HostRuntime) -> Result<(), Fail> {
+    let alloc = rt.alloc();
+    let mut node = AdvNode::empty(alloc);
+    let burst = b"0 loads 2 1 0 items 1 1 1 burst 20 3 pack 3 3 / 1 1";
+    assert!(rt; read_adversary(alloc, Format::Two, burst, 0, &mut node)?);
+    let send = b"1 loads 1 0 items - send 12 pack 1 / - on 1 to 0";
+    assert!(rt; read_adversary(alloc, Format::One, send, 1, &mut node)?);
+    assert_eq!(rt; node.loads.as_slice(), [1, 0].as_slice());
+    assert!(rt; node.items.is_empty());
+    assert!(rt; !read_adversary(alloc, Format::One, burst, 0, &mut node)?);
+
+    let mut node = AlgNode::empty(alloc);
+    let reply = b"0 loads 3 1 items 1 1 2 reply 1 on 1 to 4 2 on 3 to 6";
+    assert!(rt; read_algorithm(alloc, Format::One, reply, 0, &mut node)?);
+    assert!(rt;
+        read_algorithm(
+            alloc,
+            Format::One,
+            b"1 loads 1 items 1 finish",
+            1,
+            &mut node
+        )?
+    );
+    assert_eq!(rt; node.loads.as_slice(), [1].as_slice());
+    assert_eq!(rt; node.items.as_slice(), [1].as_slice());
+    assert!(rt; matches!(node.act, Act::Finish));
+    Ok(())
+}
+
+#[test]
 fn a_node_that_keeps_bins_has_their_number(rt: HostRuntime) -> Result<(), Fail> {
     let line = b"0 loads 2 2 items 2 2 big 1";
     let node = parse_algorithm(rt.alloc(), Format::Two, line, 0)?.ok_or("a node")?;
