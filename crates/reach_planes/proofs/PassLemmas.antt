@@ -1,6 +1,6 @@
 -- What each pass over the words of a plane does to its bits.
 use Rattle.std.proofs.Common.{◌≡◌, ◌↔◌, ℕ, ◌+◌, ◌-◌, ◌*◌, ◌/◌, ◌%◌, ◌<◌, ◌≤◌, List}
-use Rattle.std.proofs.Common.{length, get_or, set, refl, sym, ap, ◌∙◌, subst, inl, inr, ◌⊎◌, ⊎_elim, arith}
+use Rattle.std.proofs.Common.{length, get_or, set, sym, ap, ◌∙◌, subst, inl, inr, ◌⊎◌, ⊎_elim, arith}
 use Rattle.std.specs.Prelude.{bit_and}
 use Rattle.std.specs.Int.{bit_at}
 use Rattle.std.proofs.lemmas.Bool.{cases_lt}
@@ -8,7 +8,7 @@ use Rattle.std.proofs.lemmas.List.{get_or-set_same, get_or-set_other}
 use Rattle.std.proofs.lemmas.Nat.{mul-add-lt}
 use Rattle.std.proofs.Math.Nat.{mul-le-mul_right}
 use Rattle.reach_planes.specs.Words.{IsSet, AreJoined, moved}
-use Rattle.reach_planes.specs.Layout.{IsKept, IsPutInFirst, IsPutInBin, word_at}
+use Rattle.reach_planes.specs.Layout.{IsPutInBin, word_at}
 use Rattle.reach_planes.proofs.BitLemmas.{set_or, set_and, set_moved, set_up_to, HasMovedBit}
 
 -- the ones of a mask are those from a bit on
@@ -22,9 +22,6 @@ IsOnesUpTo high mask = (i : ℕ) → i < 64 → (bit_at mask i ≡ 1) ↔ (i ≤
 pub record IsKeptUpTo (from rows lack : ℕ) (sums before after : List ℕ) : Type 0 where
   pub kept : (row bit : ℕ) → row < rows → bit < 64 → IsSet after (from + row) bit ↔ (IsSet before (from + row) bit × (lack ≤ bit + get_or sums row 0))
   pub others : (i : ℕ) → (i < from) ⊎ (from + rows ≤ i) → get_or after i 0 ≡ get_or before i 0
-
-pub IsKeptUpTo-start : (from lack : ℕ) (sums before : List ℕ) → IsKeptUpTo from 0 lack sums before before
-IsKeptUpTo-start from lack sums before = record { kept = λ row bit l m. absurd (omega arith); others = λ i h. refl }
 
 pub IsKeptUpTo-more : (from row lack mask : ℕ) (sums before words : List ℕ) → from + row < length words → IsOnesFrom (lack - get_or sums row 0) mask
     → IsKeptUpTo from row lack sums before words → IsKeptUpTo from (row + 1) lack sums before (set words (from + row) (bit_and (get_or words (from + row) 0) mask))
@@ -56,34 +53,9 @@ pub record AreKeptUpTo (halves lack : ℕ) (sums before after : List ℕ) : Type
       ↔ (IsSet before (word_at (length sums) half row) bit × (lack ≤ 64 * half + bit + get_or sums row 0))
   pub others : (i : ℕ) → halves * length sums ≤ i → get_or after i 0 ≡ get_or before i 0
 
-pub AreKeptUpTo-start : (lack : ℕ) (sums before : List ℕ) → AreKeptUpTo 0 lack sums before before
-AreKeptUpTo-start lack sums before = record { kept = λ half row bit h l m. absurd (omega arith); others = λ i h. refl }
-
 -- a place in an earlier half comes before the half
 pub before_half : (rows half later row : ℕ) → half < later → row < rows → word_at rows half row < later * rows
 before_half rows half later row l m = let p = mul-add-lt half rows row later l m in omega (arith, p)
-
-pub AreKeptUpTo-more : (half lack : ℕ) (sums before words after : List ℕ) → AreKeptUpTo half lack sums before words
-    → IsKeptUpTo (half * length sums) (length sums) (lack - 64 * half) sums words after → AreKeptUpTo (half + 1) lack sums before after
-AreKeptUpTo-more half lack sums before words after k one = record {
-  kept = λ h row bit lh lr lb. elim (cases_lt h half) [
-    | inl early ↦ subst (λ w. (bit_at w bit ≡ 1) ↔ (IsSet before (word_at (length sums) h row) bit
-        × (lack ≤ 64 * h + bit + get_or sums row 0))) (sym (one.others (word_at (length sums) h row)
-        (inl (before_half (length sums) h half row early lr)))) (k.kept h row bit early lr lb)
-    | inr late ↦
-        let e : h ≡ half = omega (arith, lh, late) in
-        let p = one.kept row bit lr lb in
-        let same : get_or words (half * length sums + row) 0 ≡ get_or before (half * length sums + row) 0 = k.others (half * length sums + row) (omega arith) in
-        subst (λ n. IsSet after (word_at (length sums) n row) bit ↔ (IsSet before (word_at (length sums) n row) bit × (lack ≤ 64 * n + bit + get_or sums row 0))) (sym e) (
-          λ q. let b = p.0 q in (sym (ap (λ w. bit_at w bit) same) ∙ b.0, omega (arith, b.1)),
-          λ q. p.1 (ap (λ w. bit_at w bit) same ∙ q.0, omega (arith, q.1)),
-        )
-  ];
-  others = λ i h. let far : half * length sums + length sums ≤ i = omega (arith, h) in one.others i (inr far) ∙ k.others i (omega (arith, far));
-}
-
-pub IsKept-all : (halves lack : ℕ) (sums before after : List ℕ) → AreKeptUpTo halves lack sums before after → IsKept halves lack sums before after
-IsKept-all halves lack sums before after k = record { exact = λ half row bit p. k.kept half row bit p.in_halves p.in_rows p.in_word }
 
 -- a bit of a word that was joined to
 pub joined_bit : (up down mask count to from : ℕ) (source before after : List ℕ) (k bit : ℕ) → AreJoined up down mask count to from source before after → k < count
@@ -187,9 +159,6 @@ pub record HaveGoneUpTo (halves rows capacity s : ℕ) (source before after : Li
       ↔ (IsSet before (word_at rows half row) bit ⊎ HasGone rows capacity s half row bit source)
   pub others : (i : ℕ) → halves * rows ≤ i → get_or after i 0 ≡ get_or before i 0
 
-pub HaveGoneUpTo-start : (rows capacity s : ℕ) (source before : List ℕ) → HaveGoneUpTo 0 rows capacity s source before before
-HaveGoneUpTo-start rows capacity s source before = record { put = λ half row bit h l m. absurd (omega arith); others = λ i h. refl }
-
 pub HaveGoneUpTo-more : (half rows capacity s : ℕ) (source before words after : List ℕ) → HaveGoneUpTo half rows capacity s source before words
     → ((row bit : ℕ) → row < rows → bit < 64 → IsSet after (word_at rows half row) bit ↔ (IsSet words (word_at rows half row) bit ⊎ HasGone rows capacity s half row bit source))
     → ((i : ℕ) → (i < half * rows) ⊎ (half * rows + rows ≤ i) → get_or after i 0 ≡ get_or words i 0)
@@ -208,18 +177,11 @@ HaveGoneUpTo-more half rows capacity s source before words after k put others = 
   others = λ i h. let far : half * rows + rows ≤ i = omega (arith, h) in others i (inr far) ∙ k.others i (omega (arith, far));
 }
 
-pub IsPutInFirst-all : (rows capacity s halves : ℕ) (source before after : List ℕ) → halves ≡ capacity / 64 + 1 → HaveGoneUpTo halves rows capacity s source before after
-    → IsPutInFirst rows capacity s source before after
-IsPutInFirst-all rows capacity s halves source before after e k = record { exact = λ half row bit p. k.put half row bit (omega (arith, p.in_halves, e)) p.in_rows p.in_word }
-
 -- the blocks up to one have their rows moved
 pub record ArePutUpTo (blocks width shift : ℕ) (source before after : List ℕ) : Type 0 where
   pub put : (block offset bit : ℕ) → block < blocks → offset < width → bit < 64 → IsSet after (block * width + offset) bit
       ↔ (IsSet before (block * width + offset) bit ⊎ ((shift ≤ offset) × IsSet source (block * width + offset - shift) bit))
   pub others : (i : ℕ) → blocks * width ≤ i → get_or after i 0 ≡ get_or before i 0
-
-pub ArePutUpTo-start : (width shift : ℕ) (source before : List ℕ) → ArePutUpTo 0 width shift source before before
-ArePutUpTo-start width shift source before = record { put = λ block offset bit h l m. absurd (omega arith); others = λ i h. refl }
 
 -- a bit that does not move
 stays : (word bit : ℕ) → bit < 64 → HasMovedBit 0 0 18446744073709551615 word bit ↔ (bit_at word bit ≡ 1)

@@ -41,9 +41,6 @@ pub record IsMoved (game : GameNumbers) (s bins : ℕ) (source before after : Li
   pub exact : (half bit : ℕ) (digits : List ℕ) → AreDigits game digits → half < halves_of game → bit < 64
       → IsSet after (place_of game half digits) bit ↔ (IsSet before (place_of game half digits) bit ⊎ ((j : ℕ) × (j < bins) × CameFromBin game s source half bit digits j))
 
-pub IsMoved-start : (game : GameNumbers) (s : ℕ) (source before : List ℕ) → IsMoved game s 0 source before before
-IsMoved-start game s source before = record { exact = λ half bit digits d lh lb. (λ h. inl h, λ h. ⊎_elim (λ x. x) (λ x. absurd (omega (arith, x.1))) h) }
-
 -- the place of a word by its block and the offset in it
 pub record IsSplit (game : GameNumbers) (half k : ℕ) (digits : List ℕ) : Type 0 where
   pub block : ℕ

@@ -170,9 +170,6 @@ pub record WentTo (game : GameNumbers) (items first : List ℕ) (size k : ℕ) :
   pub held : size ≤ get_or first k 0
   pub before : IsStart game items (set first k (get_or first k 0 - size))
 
-pub length-IsStart : (game : GameNumbers) (items first : List ℕ) → IsStart game items first → length first + 1 ≡ game.bins
-length-IsStart game items first h = omega (arith, length_push first h.0, length-HasTotals game items (first ++ h.0 ∷ []) h.1)
-
 went : (game : GameNumbers) (items first : List ℕ) (last size : ℕ) → HasTotals game (items ++ size ∷ []) (first ++ last ∷ []) → WentLast game items first size
     ⊎ ((k : ℕ) × WentTo game items first size k)
 went game items first last size h =

@@ -6,3 +6,4 @@ pub mod PlacingLemmas
 pub mod RoomLemmas
 pub mod ContentsLemmas
 pub mod BestFitLemmas
+pub mod SumLemmas

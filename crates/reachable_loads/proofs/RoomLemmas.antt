@@ -1,18 +1,17 @@
 -- The room, told from the least load of any assignment.
 use Rattle.std.proofs.Common.{◌≡◌, ◌↔◌, ℕ, sum, ◌*◌, ◌+◌, ◌-◌, ◌<◌, ◌≤◌, List, [], ◌∷◌, ◌++◌, length, get_or, set, drop, refl, sym, ap, ◌∙◌, subst, arith}
-use Rattle.std.specs.Prelude.{All, Contains}
+use Rattle.std.specs.Prelude.{Contains}
 use Rattle.std.proofs.lemmas.List.{get_or-set_same, get_or_default, length-set, set-set, set-get_or}
 use Rattle.std.proofs.lemmas.List.Elements.{All-contains}
 use Rattle.std.proofs.lemmas.List.Sums.{sum_by-append, sum_by-cons}
 use Rattle.items.specs.Game.{GameNumbers}
-use Rattle.items.specs.Multiset.{IsSize, Same}
-use Rattle.items.specs.Packable.{IsAssignment, Packable, IsRoom, bin_total}
+use Rattle.items.specs.Multiset.{Same}
+use Rattle.items.specs.Packable.{Packable, IsRoom}
 use Rattle.items.proofs.SameLemmas.{Same-append_comm, Same-push, Same-refl, Same-sym}
 use Rattle.packing_witness.proofs.PackableLemmas.{Packable-Same, sum-Packable-le}
 use Rattle.packing_witness.proofs.PackingLemmas.{size_of_last}
 use Rattle.loads.proofs.CountLemmas.{Contains-Same}
 use Rattle.reach_planes.specs.Reached.{totals, HasTotals, IsLeastLoad}
-use Rattle.reach_planes.proofs.AssignmentLemmas.{length-totals, get_or-totals, IsAssignment-push}
 use Rattle.reach_planes.proofs.TotalsLemmas.{All-HasTotals, bin_to_take, HasTotals-put}
 use Rattle.reach_planes.proofs.LoadLemmas.{descending_form, Same-descending_form, IsReached-from_totals, HasTotals-reached}
 
@@ -65,9 +64,6 @@ pub least-le_capacity_of_game : (game : GameNumbers) (items : List ℕ) (least :
 least-le_capacity_of_game game items least h =
     All-contains (λ load. load ≤ game.capacity) h.loads least (All-HasTotals game items h.loads (HasTotals-reached game items h.loads h.reached)) h.member
 
-pub Packable-from_least : (game : GameNumbers) (items : List ℕ) (least : ℕ) → IsLeastLoad game items least → Packable game items
-Packable-from_least game items least h = (h.reached.0, h.reached.1.assigned)
-
 -- lists of the same items have the same room
 pub IsRoom-Same : (game : GameNumbers) (xs ys : List ℕ) (room : ℕ) → Same xs ys → IsRoom game xs room → IsRoom game ys room
 IsRoom-Same game xs ys room s r = record {
@@ -91,23 +87,6 @@ pub bound_by_volume : (game : GameNumbers) (items : List ℕ) (size : ℕ) → P
 bound_by_volume game items size p =
     let total = sum-Packable-le game (items ++ size ∷ []) p in
     ((size_of_last game items size p).high, omega (arith, total, sum_by-append (λ x. x) items (size ∷ []), sum_by-cons (λ x. x) size []))
-
--- an item that one bin of an assignment has room for may come
-pub Packable-with_room : (game : GameNumbers) (items bins loads : List ℕ) (size bin : ℕ) → IsAssignment game items bins → loads ≡ totals game items bins → IsSize game.capacity size
-    → bin < length loads → get_or loads bin 0 + size ≤ game.capacity → Packable game (items ++ size ∷ [])
-Packable-with_room game items bins loads size bin a e s l fit =
-    let within : bin < game.bins = omega (arith, l, ap length e, length-totals game items bins) in
-    let at : get_or loads bin 0 ≡ bin_total bin items bins = ap (λ xs. get_or xs bin 0) e ∙ get_or-totals game items bins bin 0 within in
-    (bins ++ bin ∷ [], IsAssignment-push game items bins size bin a s within (omega (arith, fit, at)))
-
--- the loads of an assignment are within the capacity
-pub loads_fit : (game : GameNumbers) (items bins loads : List ℕ) → IsAssignment game items bins → loads ≡ totals game items bins → All (λ load. load ≤ game.capacity) loads
-loads_fit game items bins loads a e =
-    subst (All (λ load. load ≤ game.capacity)) (sym e) (All-HasTotals game items (totals game items bins) (bins, a, Same-refl (totals game items bins)))
-
--- what is known of an assignment with its loads that was found
-abbrev pub HasLoads : (game : GameNumbers) (items bins loads : List ℕ) → Type 0
-HasLoads game items bins loads = IsAssignment game items bins × (loads ≡ totals game items bins)
 
 -- a size at the first place of a list, before the others
 first_is : (list : List ℕ) (size : ℕ) → 1 ≤ length list → set list 0 size ≡ size ∷ drop 1 list

@@ -1,5 +1,4 @@
 pub mod Reached
-pub mod Pack
 pub mod Kept
 pub mod Placing
 pub mod BestFit

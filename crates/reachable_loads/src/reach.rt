@@ -1,7 +1,6 @@
 //! A list of items with the loads that its assignments reach.
 
 ghost use Rattle.std.specs.Prelude.{◌≡◌, ◌↔◌, ℕ, ◌+◌, ◌<◌, ◌≤◌, [], ◌∷◌, ◌++◌, length, IsTrue, All, MatchOption, IfOk};
-ghost use Rattle.items.specs.Multiset.{IsSize};
 ghost use Rattle.items.specs.Packable.{Packable, IsRoom};
 ghost use Rattle.reachable_loads.specs.Reached.{HasTotals, sent};
 
@@ -87,48 +86,6 @@ impl Reach {
             Kept::Lists(sets) => sets.room(),
         }
     }
-
-    // The loads of some assignment; None exactly where the items do not fit.
-    pub(crate) fn some_loads(&self, alloc: Global) -> Result<Option<Nums>, AllocError>
-        ensures { IfOk result (λ found. MatchOption found
-            (¬ Packable self.now.game self.now.items) (HasTotals self.now.game self.now.items)) }
-    {
-        match &self.loads {
-            Kept::Bits(planes) => planes.some_loads(),
-            Kept::Lists(sets) => loads_by_lists(alloc, sets),
-        }
-    }
-
-    // Whether some assignment of the items has these loads, whatever the bins' numbers.
-    pub(crate) fn reaches(&self, loads: &[u16]) -> bool
-        requires one_each { length loads.now ≡ self.now.game.bins }
-        requires fits { All (λ load. load ≤ self.now.game.capacity) loads.now }
-        ensures { IsTrue result ↔ HasTotals self.now.game self.now.items loads.now }
-    {
-        match &self.loads {
-            Kept::Bits(planes) => planes.contains(loads),
-            Kept::Lists(sets) => sets.reaches(loads),
-        }
-    }
-}
-
-/// Whether the loads that so many items reach tell sooner than a placing whether they fit: in games of up to three
-/// bins, from twelve items on.
-pub fn loads_tell_sooner(game: &Game, count: usize) -> bool {
-    game.m() <= 3 && count >= 12
-}
-
-/// These items, with the loads of all their assignments. Fails only where memory runs out.
-pub fn reach_of(alloc: Global, game: &Game, items: &[u16]) -> Result<Reach, AllocError>
-    requires { All (IsSize game.now.capacity) items.now }
-    ensures { IfOk result (λ made. made ≡ sent game.now items.now) }
-{
-    let mut reach = Reach::start(alloc, game)?;
-    for size in items {
-        let more = reach.add(*size)?;
-        reach = more;
-    }
-    Ok(reach)
 }
 
 // Whether the items of some planes fit.
@@ -150,19 +107,5 @@ fn room_by_bits(planes: &Planes) -> u16
     match planes.least_load() {
         Some(least) => planes.game().g() - least,
         None => 0,
-    }
-}
-
-// The loads of some assignment of the items of some sets.
-fn loads_by_lists(alloc: Global, sets: &Sets) -> Result<Option<Nums>, AllocError>
-    ensures { IfOk result (λ found. MatchOption found
-        (¬ Packable sets.now.game sets.now.items) (HasTotals sets.now.game sets.now.items)) }
-{
-    match sets.some_loads() {
-        Some(loads) => {
-            let list = Nums::from_slice(alloc, loads.as_slice())?;
-            Ok(Some(list))
-        }
-        None => Ok(None),
     }
 }

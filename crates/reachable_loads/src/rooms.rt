@@ -7,7 +7,6 @@ ghost use Rattle.items.specs.Packable.{IsRoom, Packable};
 
 use crate::best_fit::{COMMON, descending, fits_by_best_fit, push_descending, room_by_best_fit};
 use crate::placing::place_all;
-use crate::reach::{loads_tell_sooner, reach_of};
 use items::{Game, Items};
 use std::alloc::{AllocError, Global};
 
@@ -47,7 +46,7 @@ pub fn packable(alloc: Global, game: &Game, items: &Items) -> Result<bool, Alloc
         return Ok(true);
     }
     let list = descending(alloc, items)?;
-    let fits = fits_exactly(alloc, game, list.as_slice())?;
+    let fits = fits_by_placing(alloc, game, list.as_slice())?;
     Ok(fits)
 }
 
@@ -68,18 +67,6 @@ fn room_by_volume(game: &Game, items: &Items) -> u16
 }
 
 // Whether a list of items fits.
-fn fits_exactly(alloc: Global, game: &Game, list: &[u16]) -> Result<bool, AllocError>
-    requires { All (IsSize game.now.capacity) list.now }
-    ensures { IfOk result (λ fits. IsTrue fits ↔ Packable game.now list.now) }
-{
-    if loads_tell_sooner(game, list.len()) {
-        let reach = reach_of(alloc, game, list)?;
-        return Ok(reach.packable());
-    }
-    fits_by_placing(alloc, game, list)
-}
-
-// The same, by placing the list.
 fn fits_by_placing(alloc: Global, game: &Game, list: &[u16]) -> Result<bool, AllocError>
     requires { All (IsSize game.now.capacity) list.now }
     ensures { IfOk result (λ fits. IsTrue fits ↔ Packable game.now list.now) }
@@ -108,42 +95,12 @@ fn room_exactly(
     let mut list = Vec::with_capacity(alloc, COMMON)?;
     list.push(most)?;
     push_descending(&mut list, items)?;
-    let room = room_of_list(alloc, game, list.as_mut_slice(), least, most)?;
+    let room = room_by_placing(alloc, game, list.as_mut_slice(), least, most)?;
     Ok(room)
 }
 
-// The room of a list but for its first place, from a size on that may come, or from 0.
-fn room_of_list(
-    alloc: Global,
-    game: &Game,
-    list: &mut [u16],
-    least: u16,
-    most: u16,
-) -> Result<u16, AllocError>
-    requires first { 1 ≤ length list.old }
-    requires sizes { All (IsSize game.now.capacity) (drop 1 list.old) }
-    requires order { least ≤ most }
-    requires within { most ≤ game.now.capacity }
-    requires may_come { 1 ≤ least → Packable game.now (drop 1 list.old ++ least ∷ []) }
-    requires bound { (size : ℕ) → Packable game.now (drop 1 list.old ++ size ∷ []) → size ≤ most }
-    ensures { IfOk result (IsRoom game.now (drop 1 list.old)) }
-{
-    if loads_tell_sooner(game, list.len() - 1) {
-        return room_by_loads(alloc, game, &list[1..]);
-    }
-    room_by_placing(alloc, game, list, least, most)
-}
-
-// The room of a list, from the loads that are reached.
-fn room_by_loads(alloc: Global, game: &Game, list: &[u16]) -> Result<u16, AllocError>
-    requires { All (IsSize game.now.capacity) list.now }
-    ensures { IfOk result (IsRoom game.now list.now) }
-{
-    let reach = reach_of(alloc, game, list)?;
-    Ok(reach.room())
-}
-
-// The same, by placing the list with each larger size at its first place.
+// The room of a list but for its first place, from a size on that may come, or from 0, by placing the list with each
+// larger size there.
 fn room_by_placing(
     alloc: Global,
     game: &Game,

@@ -84,15 +84,7 @@ impl Sets {
         room
     }
 
-    /// Some sorted loads of an assignment; None exactly where the items do not fit.
-    pub fn some_loads(&self) -> Option<&Loads>
-        ensures { MatchOption result
-            (¬ Packable self.now.game self.now.items) (λ loads. IsReached self.now.game self.now.items loads.now) }
-    {
-        self.members.first()
-    }
-
-    /// Whether some assignment of the items has these loads, whatever the bins' numbers.
+    /// Whether some assignment of the items has these loads, whatever the bins' numbers. Tests compare it with planes.
     pub fn reaches(&self, loads: &[u16]) -> bool
         requires one_each { length loads.now ≡ self.now.game.bins }
         requires fits { All (λ load. load ≤ self.now.game.capacity) loads.now }

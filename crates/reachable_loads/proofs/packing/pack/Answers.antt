@@ -1,9 +1,9 @@
-use Rattle.std.proofs.Common.{◌≡◌, ℕ, Vec, Global, Option, None, sym, subst, arith}
-use Rattle.std.specs.Prelude.{MatchOption}
+use Rattle.std.proofs.Common.{sym, subst, arith}
 use Rattle.items.specs.Multiset.{IsSize, Same}
 use Rattle.items.specs.Packable.{IsAssignment, Packable}
 use Rattle.items.proofs.SameLemmas.{All-Same, Same-sym}
 use Rattle.packing_witness.proofs.PackableLemmas.{Packable-Same}
+use Rattle.reachable_loads.proofs.BestFitLemmas.{none_found}
 use Rattle.reachable_loads.proofs.PackLemmas.{sizes_from_largest, not_packable_from_largest}
 use Rattle.reachable_loads.proofs.packing.pack.Goals as goal
 use Rattle.reachable_loads.proofs.packing.pack.Goals.{After-as_slice}
@@ -11,10 +11,6 @@ use Rattle.reachable_loads.proofs.packing.pack.Goals.{After-as_slice}
 -- the list has the items
 same : (c : After-as_slice) → Same c.as_slice.result.now c.args.items.now
 same c = subst (λ xs. Same xs c.args.items.now) (sym c.as_slice.ensures.value) c.in_ok-list.ensures
-
--- where no bins were found
-none_found : (o : Option (Vec ℕ Global)) (P : Type 0) (Q : Vec ℕ Global → Type 0) → MatchOption o P Q → o ≡ None → P
-none_found o P Q m e = subst (λ (x : Option (Vec ℕ Global)). MatchOption x P Q) e m
 
 pub returns-then-largest-g : goal.returns-then-largest-g
 returns-then-largest-g c =

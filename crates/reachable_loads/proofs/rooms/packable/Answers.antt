@@ -24,9 +24,9 @@ fits_by_best_fit-requires c =
 same : (c : After-as_slice) → Same c.as_slice.result.now c.args.items.now
 same c = subst (λ xs. Same xs c.args.items.now) (sym c.as_slice.ensures.value) c.in_ok-list.ensures
 
-pub fits_exactly-requires : goal.fits_exactly-requires
-fits_exactly-requires c =
-    let s = same (goal.at.fits_exactly-requires c).After-as_slice in
+pub fits_by_placing-requires : goal.fits_by_placing-requires
+fits_by_placing-requires c =
+    let s = same (goal.at.fits_by_placing-requires c).After-as_slice in
     let sizes = sizes_from_largest c.args.game.now c.args.items.now c.largest.ensures.multiset (omega (arith, c.if-largest-g.false, c.largest.ensures.value, c.g.ensures.value)) in
     All-Same (IsSize c.args.game.now.capacity) c.args.items.now c.as_slice.result.now (Same-sym c.as_slice.result.now c.args.items.now s) sizes
 

@@ -15,26 +15,26 @@ whole c =
 same : (c : After-as_mut_slice) → Same (drop 1 c.as_mut_slice.result.now) c.args.items.now
 same c = subst (λ xs. Same (drop 1 xs) c.args.items.now) (sym (whole c)) c.in_ok-push_descending.ensures.1
 
-pub room_of_list-requires-clause-first : goal.room_of_list-requires-clause-first
-room_of_list-requires-clause-first c = omega (arith, ap length (whole (goal.at.room_of_list-requires-clause-first c).After-as_mut_slice))
+pub room_by_placing-requires-clause-first : goal.room_by_placing-requires-clause-first
+room_by_placing-requires-clause-first c = omega (arith, ap length (whole (goal.at.room_by_placing-requires-clause-first c).After-as_mut_slice))
 
-pub room_of_list-requires-clause-sizes : goal.room_of_list-requires-clause-sizes
-room_of_list-requires-clause-sizes c =
+pub room_by_placing-requires-clause-sizes : goal.room_by_placing-requires-clause-sizes
+room_by_placing-requires-clause-sizes c =
     let list = drop 1 c.as_mut_slice.result.now in
-    let s = same (goal.at.room_of_list-requires-clause-sizes c).After-as_mut_slice in
+    let s = same (goal.at.room_by_placing-requires-clause-sizes c).After-as_mut_slice in
     All-Same (IsSize c.args.game.now.capacity) c.args.items.now list (Same-sym list c.args.items.now s) c.requires.sizes
 
-pub room_of_list-requires-clause-may_come : goal.room_of_list-requires-clause-may_come
-room_of_list-requires-clause-may_come c some =
+pub room_by_placing-requires-clause-may_come : goal.room_by_placing-requires-clause-may_come
+room_by_placing-requires-clause-may_come c some =
     let list = drop 1 c.as_mut_slice.result.now in
-    let s = same (goal.at.room_of_list-requires-clause-may_come c).After-as_mut_slice in
+    let s = same (goal.at.room_by_placing-requires-clause-may_come c).After-as_mut_slice in
     Packable-Same c.args.game.now (c.args.items.now ++ c.args.least ∷ []) (list ++ c.args.least ∷ []) (Same-push c.args.items.now list c.args.least
     (Same-sym list c.args.items.now s)) (c.requires.may_come some)
 
-pub room_of_list-requires-clause-bound : goal.room_of_list-requires-clause-bound
-room_of_list-requires-clause-bound c size p =
+pub room_by_placing-requires-clause-bound : goal.room_by_placing-requires-clause-bound
+room_by_placing-requires-clause-bound c size p =
     let list = drop 1 c.as_mut_slice.result.now in
-    let s = same (goal.at.room_of_list-requires-clause-bound c).After-as_mut_slice in
+    let s = same (goal.at.room_by_placing-requires-clause-bound c).After-as_mut_slice in
     c.requires.bound size (Packable-Same c.args.game.now (list ++ size ∷ []) (c.args.items.now ++ size ∷ []) (Same-push list c.args.items.now size s) p)
 
 pub returns : goal.returns
