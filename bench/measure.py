@@ -26,19 +26,38 @@ def run(command, path):
     return child.returncode, written, used.ru_utime + used.ru_stime
 
 
+def held(child):
+    """The greatest memory in MiB that a process has held so far; 0 where it has ended."""
+    try:
+        with open(f"/proc/{child.pid}/status", encoding="ascii") as told:
+            return next((int(line.split()[1]) for line in told if line.startswith("VmHWM:")), 0) / 1024
+    except ProcessLookupError:
+        return 0.0
+
+
 def peak(command, path):
     """The greatest memory in MiB that a command's process has held, read again and again while it runs."""
-    most = 0
+    most = 0.0
     with open(path, "rb") as file:
         child = subprocess.Popen(command, stdin=file, stdout=subprocess.DEVNULL)
         while child.poll() is None:
-            try:
-                with open(f"/proc/{child.pid}/status") as told:
-                    most = max([most, *(int(line.split()[1]) for line in told if line.startswith("VmHWM:"))])
-            except ProcessLookupError:
-                pass
+            most = max(most, held(child))
             time.sleep(0.001)
-    return most / 1024
+    return most
+
+
+def timed(command, path):
+    """Runs a command that reads nothing, with its output in a file: its status, the seconds of the processor that it
+    takes, and the greatest memory in MiB that it has held."""
+    most, ended = 0.0, 0
+    with open(path, "wb") as file:
+        child = subprocess.Popen(command, stdin=subprocess.DEVNULL, stdout=file, stderr=subprocess.DEVNULL)
+        while not ended:
+            most = max(most, held(child))
+            time.sleep(0.002)
+            ended, status, used = os.wait4(child.pid, os.WNOHANG)
+        child.returncode = os.waitstatus_to_exitcode(status)
+    return child.returncode, used.ru_utime + used.ru_stime, most
 
 
 def main():
