@@ -5,7 +5,8 @@ ghost use Rattle.strategy_text.specs.declared.node.AlgNode.{AlgNode};
 ghost use Rattle.std.specs.Bool.{OnTrue, OnFalse};
 ghost use Rattle.strategy_text.specs.Text.{AnyNode, of_algorithm};
 ghost use Rattle.strategy_text.specs.Spelling.{SpellsNode};
-ghost use Rattle.strategy_text.specs.Reading.{Takes, Reads, GivesInto, more_words, each_at, entry_at, entries_at, big_at};
+ghost use Rattle.strategy_text.specs.Reading.{Takes, Reads, GivesInto, more_words};
+ghost use Rattle.strategy_text.specs.Reading.{each_at, entry_at, entries_at, big_at};
 ghost use Rattle.strategy_text.specs.Reading.{reply_at, act_at, algorithm_at};
 
 use crate::node::{Act, AlgNode, Entries, Entry, Format};

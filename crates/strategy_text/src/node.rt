@@ -1,6 +1,8 @@
 //! Strategies, their nodes and the parts of nodes.
 
-ghost use Rattle.std.specs.Prelude.{◌≡◌, length};
+ghost use Rattle.std.specs.Prelude.{◌≡◌, [], None, length};
+ghost use Rattle.strategy_text.specs.declared.node.Act.TheVariants.{Finish};
+ghost use Rattle.strategy_text.specs.declared.node.Step.TheVariants.{Send};
 ghost use Rattle.strategy_text.specs.Text.{side_word, nodes_of, side_of};
 
 use items::{Game, Nums, Sequence};
@@ -96,7 +98,11 @@ pub struct AdvNode {
 
 impl AdvNode {
     /// A node without loads or items, which sends size 0 and has no placements. Takes no memory.
-    pub fn empty(alloc: Global) -> AdvNode {
+    pub fn empty(alloc: Global) -> AdvNode
+        ensures loads { result.loads ≡ [] }
+        ensures items { result.items ≡ [] }
+        ensures step { result.step ≡ Send 0 None [] }
+    {
         AdvNode {
             loads: Sequence::new(alloc),
             items: Sequence::new(alloc),
@@ -152,7 +158,11 @@ pub struct AlgNode {
 
 impl AlgNode {
     /// A node without loads or items, which finishes. Takes no memory.
-    pub fn empty(alloc: Global) -> AlgNode {
+    pub fn empty(alloc: Global) -> AlgNode
+        ensures loads { result.loads ≡ [] }
+        ensures items { result.items ≡ [] }
+        ensures act { result.act ≡ Finish }
+    {
         AlgNode {
             loads: Sequence::new(alloc),
             items: Sequence::new(alloc),

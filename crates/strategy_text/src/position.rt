@@ -2,7 +2,8 @@
 
 ghost use Rattle.std.specs.Prelude.{◌≡◌, OnOk, false, MatchBool, Some, None, codes};
 ghost use Rattle.strategy_text.specs.Words.{has_space};
-ghost use Rattle.strategy_text.specs.Reading.{Reads, ReadsInto, numbers_at, list_at, numbered_at, labelled_at, position_at};
+ghost use Rattle.strategy_text.specs.Reading.{Reads, ReadsInto};
+ghost use Rattle.strategy_text.specs.Reading.{numbers_at, list_at, numbered_at, labelled_at, position_at};
 
 use crate::stop::Stop;
 use crate::words::Words;

@@ -3,7 +3,8 @@
 ghost use Rattle.std.specs.Prelude.{◌≡◌, ◌<◌, ◌≤◌, ◌==◌, ◌+◌, ◌↔◌, [], IsTrue, None, Some, false, drop, length};
 ghost use Rattle.std.specs.Prelude.{slice_index, MatchBool, MatchOption, IfSome};
 ghost use Rattle.std.specs.Option.{option_copied};
-ghost use Rattle.strategy_text.specs.Words.{words_left, digits_after, number_of, after, number_at, first_word, left_after};
+ghost use Rattle.strategy_text.specs.Words.{words_left, digits_after, number_of, after, number_at};
+ghost use Rattle.strategy_text.specs.Words.{first_word, left_after};
 ghost use Rattle.strategy_text.specs.Words.{has_space};
 
 use std::marker::Model;
