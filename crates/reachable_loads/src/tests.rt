@@ -1,6 +1,7 @@
 ghost use Rattle.std.specs.Prelude.{◌≡◌, ◌<◌};
 
 use super::*;
+use crate::best_fit::{fits_by_best_fit, room_by_best_fit};
 use crate::sets::Sets;
 use items::{Game, Items, Nums};
 use reach_planes::Planes;
@@ -315,5 +316,27 @@ fn rooms_that_best_fit_does_not_tell(rt: HostRuntime) -> Result<(), Fail> {
     assert!(rt; answers_rightly(rt.alloc(), 6, 14, &tight, true, 1)?);
     let over = [3u16, 4, 4, 4, 5, 5, 5, 6, 7, 7, 8, 8, 9, 9];
     assert!(rt; answers_rightly(rt.alloc(), 6, 14, &over, false, 0)?);
+    Ok(())
+}
+
+// What best fit tells of a list: the room that it leaves, and whether it places the items.
+fn best_fit_tells(game: &Game, list: &[u16]) -> Option<(u16, bool)> {
+    match Items::from_slice(game, list) {
+        Some(items) => Some((
+            room_by_best_fit(game, &items),
+            fits_by_best_fit(game, &items),
+        )),
+        None => None,
+    }
+}
+
+#[test]
+fn best_fit_fills_the_fullest_bin_first(rt: HostRuntime) -> Result<(), Fail> {
+    let game = Game::new(3, 14, 19)?;
+    assert_eq!(rt; best_fit_tells(&game, &[4, 5, 5]), Some((14, true)));
+    assert_eq!(rt; best_fit_tells(&game, &[2, 3, 8, 9, 10]), Some((6, true)));
+    let small = Game::new(2, 3, 4)?;
+    assert_eq!(rt; best_fit_tells(&small, &[1, 1, 2, 2]), Some((0, true)));
+    assert_eq!(rt; best_fit_tells(&small, &[2, 2, 2]), Some((0, false)));
     Ok(())
 }
