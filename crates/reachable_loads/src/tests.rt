@@ -1,7 +1,7 @@
 ghost use Rattle.std.specs.Prelude.{◌≡◌, ◌<◌};
 
 use super::*;
-use crate::best_fit::{fits_by_best_fit, room_by_best_fit};
+use crate::best_fit::{best_fit, descending, fits_by_best_fit, room_by_best_fit};
 use crate::sets::Sets;
 use items::{Game, Items, Nums};
 use reach_planes::Planes;
@@ -330,8 +330,28 @@ fn best_fit_tells(game: &Game, list: &[u16]) -> Option<(u16, bool)> {
     }
 }
 
+// Whether best fit gives each of the items, in descending order, this bin.
+fn best_fit_gives(
+    alloc: Global,
+    game: &Game,
+    items: &Items,
+    wanted: &[usize],
+) -> Result<bool, AllocError> {
+    if items.largest() > game.g() {
+        return Ok(false);
+    }
+    let list = descending(alloc, items)?;
+    match best_fit(alloc, game, list.as_slice())? {
+        Some(bins) => Ok(bins.as_slice() == wanted),
+        None => Ok(false),
+    }
+}
+
 #[test]
 fn best_fit_fills_the_fullest_bin_first(rt: HostRuntime) -> Result<(), Fail> {
+    let wide = Game::new(3, 20, 25)?;
+    let items = Items::empty().add(1).add(9).add(10).add(12);
+    assert!(rt; best_fit_gives(rt.alloc(), &wide, &items, &[0, 1, 1, 1])?);
     let game = Game::new(3, 14, 19)?;
     assert_eq!(rt; best_fit_tells(&game, &[4, 5, 5]), Some((14, true)));
     assert_eq!(rt; best_fit_tells(&game, &[2, 3, 8, 9, 10]), Some((6, true)));
