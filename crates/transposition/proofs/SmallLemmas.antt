@@ -1,19 +1,21 @@
 -- Positions with few and small items: what their bytes stand for.
-use Rattle.std.proofs.Common.{◌≡◌, ◌↔◌, ◌&&◌, ℕ, zero, suc, ◌+◌, ◌-◌, ◌*◌, ◌<◌, ◌≤◌, Bool, true, false, cond, IsTrue, All, List, [], ◌∷◌, ◌++◌, length, get_or, take, drop, replicate, sum}
+use Rattle.std.proofs.Common.{◌≡◌, ◌↔◌, ◌&&◌, ℕ, zero, suc, ◌+◌, ◌-◌, ◌*◌, ◌<◌, ◌≤◌, max, Bool, true, false, cond, IsTrue, All, List, [], ◌∷◌, ◌++◌, length}
+use Rattle.std.proofs.Common.{get_or, set, take, drop, replicate, sum}
 use Rattle.std.proofs.Common.{refl, sym, ap, ◌∙◌, subst, append_assoc, eqb, leb, arith}
 use Rattle.std.specs.Bool.{Decides}
 use Rattle.std.specs.Cmp.Lexicographic.{pointwise}
-use Rattle.std.proofs.lemmas.Bool.{leb-true, le-leb, and_from}
+use Rattle.std.proofs.lemmas.Bool.{leb-true, le-leb, lt-leb, and_from}
 use Rattle.std.proofs.lemmas.Bool.Decides.{Decides-eqb, Decides-and}
 use Rattle.std.proofs.lemmas.Slice.Eq.{slice_eq-Decides}
 use Rattle.std.proofs.lemmas.List.{append-nil, length-append, length-replicate, length-take, length-take-le, get_or-take, take-append-drop, take-append-le, take_all}
-use Rattle.std.proofs.lemmas.List.Elements.{All-from_get_or}
+use Rattle.std.proofs.lemmas.List.Elements.{All-from_get_or, All-weaker}
 use Rattle.std.proofs.lemmas.List.Sums.{sum_by-append}
-use Rattle.items.specs.Multiset.{IsMultiset, largest_of, put_times}
+use Rattle.items.specs.Multiset.{IsMultiset, IsSize, largest_of, put_ascending, put_times}
 use Rattle.items.specs.Counters.{counters_of, expanded}
 use Rattle.items.proofs.MultisetLemmas.{RisesFrom, IsNonDecreasing-from_rises, same_ascending, sum-put_times, Same-push_times, IsNonDecreasing-put_times}
 use Rattle.items.proofs.CounterLemmas.{RisesFrom-expanded, counters_of-expanded, expanded-counters_of, expanded-past}
-use Rattle.items.proofs.CounterLemmas.{expanded-drop, same_counters, counter-le-sum, length-counters_of}
+use Rattle.items.proofs.CounterLemmas.{expanded-drop, same_counters, counter-le-sum, length-counters_of, put-expanded, IsBetween, All-expanded}
+use Rattle.items.proofs.MultisetLemmas.{largest_of-le, largest_of-put_ascending, sum-put_ascending}
 use Rattle.loads.specs.Loads.{AreLoads}
 use Rattle.loads.specs.Packed.{bytes_of}
 use Rattle.loads.specs.Position.{position}
@@ -95,55 +97,102 @@ put_next i cs xs l e =
     }
 
 -- the bytes of a position are found again in it
-pub same_bytes : (b d : ℕ) (xs ys cs ds : List ℕ) → IsSmallPosition b xs cs → IsSmallPosition d ys ds → length xs ≡ 8 → length ys ≡ 8 → length cs ≡ length ds
+pub same_bytes : (b d v w : ℕ) (xs ys cs ds : List ℕ) → IsSmallPosition b v xs cs → IsSmallPosition d w ys ds → length xs ≡ 8 → length ys ≡ 8 → length cs ≡ length ds
     → counted_position b xs cs ≡ counted_position d ys ds → (b ≡ d) × (xs ≡ ys) × (cs ≡ ds)
-same_bytes b d xs ys cs ds p q m n l e =
+same_bytes b d v w xs ys cs ds p q m n l e =
     let loads : take b xs ≡ take d ys = ap (λ r. r.loads) e in (
       omega (arith, ap length loads, length-take-le b xs (omega (arith, m, p.few)), length-take-le d ys (omega (arith, n, q.few))),
       sym p.rest ∙ ap padded loads ∙ q.rest,
       same_counters 1 cs ds l (ap (λ r. r.items) e),
     )
 
-pub record AreBytesOf (b d : ℕ) (xs ys cs ds : List ℕ) : Type 0 where
-  pub first : IsSmallPosition b xs cs
-  pub second : IsSmallPosition d ys ds
+pub record AreBytesOf (b d v w : ℕ) (xs ys cs ds : List ℕ) : Type 0 where
+  pub first : IsSmallPosition b v xs cs
+  pub second : IsSmallPosition d w ys ds
   pub first_loads : length xs ≡ 8
   pub second_loads : length ys ≡ 8
   pub counters : length cs ≡ length ds
 
-pub same_positions : (b d : ℕ) (xs ys cs ds : List ℕ) (r s : Bool) → AreBytesOf b d xs ys cs ds → r ≡ pointwise eqb xs ys → s ≡ pointwise eqb cs ds
+pub same_positions : (b d v w : ℕ) (xs ys cs ds : List ℕ) (r s : Bool) → AreBytesOf b d v w xs ys cs ds → r ≡ pointwise eqb xs ys → s ≡ pointwise eqb cs ds
     → IsTrue ((eqb b d && r) && s) ↔ (counted_position b xs cs ≡ counted_position d ys ds)
-same_positions b d xs ys cs ds r s h e f =
+same_positions b d v w xs ys cs ds r s h e f =
     let loads = slice_eq-Decides Decides-eqb xs ys r e in
     let counters = slice_eq-Decides Decides-eqb cs ds s f in
     let both = Decides-and _ _ (Decides-and _ _ (Decides-eqb b d) loads) counters in (
       λ t. let equal = both.0 t in
           ap (λ n. counted_position n xs cs) equal.0.0 ∙ ap (λ zs. counted_position d zs cs) equal.0.1 ∙ ap (counted_position d ys) equal.1,
-      λ q. let equal = same_bytes b d xs ys cs ds h.first h.second h.first_loads h.second_loads h.counters q in both.1 ((equal.0, equal.1), equal.2),
+      λ q. let equal = same_bytes b d v w xs ys cs ds h.first h.second h.first_loads h.second_loads h.counters q in both.1 ((equal.0, equal.1), equal.2),
     )
 
 -- the first loads are found again among the padded ones
 take-padded : (loads : List ℕ) → take (length loads) (padded loads) ≡ loads
 take-padded loads = take-append-le (length loads) loads (replicate (8 - length loads) 0) (omega arith) ∙ take_all (length loads) loads (omega arith)
 
+-- loads and counters with a small total are a small position
+pub IsSmallPosition-from : (loads cs : List ℕ) (v : ℕ) → AreLoads loads → v ≡ sum (expanded 1 cs) → v ≤ 255
+    → IsSmallPosition (length loads) v (padded loads) cs
+IsSmallPosition-from loads cs v legal e l =
+    let same = take-padded loads in
+    record { few = legal.few; legal = subst AreLoads (sym same) legal; rest = ap padded same; total = omega (arith, e, l); volume_is = e }
+
+pub counted_position-from : (loads cs : List ℕ) → counted_position (length loads) (padded loads) cs ≡ position loads (expanded 1 cs)
+counted_position-from loads cs = ap (λ ls. position ls (expanded 1 cs)) (take-padded loads)
+
 -- a position with small items, in its bytes
 pub IsSmallPosition-of : (loads xs : List ℕ) → AreLoads loads → IsMultiset 120 xs → are_small xs ≡ true
-    → IsSmallPosition (length loads) (padded loads) (take 32 (counters_of xs))
+    → IsSmallPosition (length loads) (sum xs) (padded loads) (take 32 (counters_of xs))
 IsSmallPosition-of loads xs legal m small =
-    let e = take-padded loads in
     let test = small_from_test xs small in
-    record {
-      few = legal.few;
-      legal = subst AreLoads (sym e) legal;
-      rest = ap padded e;
-      total = omega (arith, ap sum (expanded-first 32 xs (omega arith) m test.0), test.1);
-    }
+    IsSmallPosition-from loads (take 32 (counters_of xs)) (sum xs) legal (ap sum (sym (expanded-first 32 xs (omega arith) m test.0))) test.1
 
 pub counted_position-of : (loads xs : List ℕ) → IsMultiset 120 xs → are_small xs ≡ true
     → counted_position (length loads) (padded loads) (take 32 (counters_of xs)) ≡ position loads xs
 counted_position-of loads xs m small =
     let test = small_from_test xs small in
-    ap (λ ls. position ls (expanded 1 (take 32 (counters_of xs)))) (take-padded loads) ∙ ap (position loads) (expanded-first 32 xs (omega arith) m test.0)
+    counted_position-from loads (take 32 (counters_of xs)) ∙ ap (position loads) (expanded-first 32 xs (omega arith) m test.0)
+
+-- the test of small items after one more item
+with_small : (s : ℕ) (cs : List ℕ) → largest_of (put_ascending s (expanded 1 cs)) ≡ max s (largest_of (expanded 1 cs))
+with_small s cs = largest_of-put_ascending 1 s (expanded 1 cs) (RisesFrom-expanded 1 cs)
+
+pub small_with : (s v : ℕ) (cs : List ℕ) → length cs ≡ 32 → v ≡ sum (expanded 1 cs) → s ≤ 32
+    → leb (v + s) 255 ≡ are_small (put_ascending s (expanded 1 cs))
+small_with s v cs n e l =
+    let ys = put_ascending s (expanded 1 cs) in
+    let sizes = All-weaker (IsBetween 1 (length cs)) (IsSize 32) (λ x h. record { low = h.0; high = omega (arith, h.1, n) }) (expanded 1 cs) (All-expanded 1 cs) in
+    let largest = le-leb (largest_of ys) 32 (omega (arith, with_small s cs, largest_of-le 32 (expanded 1 cs) sizes, l)) in
+    ap (λ t. leb t 255) (omega (arith, sum-put_ascending s (expanded 1 cs), e)) ∙ sym (ap (λ b. b && leb (sum ys) 255) largest)
+
+pub large_with : (s : ℕ) (cs : List ℕ) → 32 < s → false ≡ are_small (put_ascending s (expanded 1 cs))
+large_with s cs l =
+    let ys = put_ascending s (expanded 1 cs) in
+    sym (ap (λ b. b && leb (sum ys) 255) (lt-leb (largest_of ys) 32 (omega (arith, with_small s cs, l))))
+
+-- one more item is counted
+pub record IsCountedOn (s v : ℕ) (loads cs : List ℕ) : Type 0 where
+  pub low : s ≤ 32
+  pub total : v + s ≤ 255
+  pub counter : get_or cs (s - 1) 0 + 1 ≤ 255
+  pub legal : IsSmallPosition (length loads) (v + s) (padded loads) (set cs (s - 1) (get_or cs (s - 1) 0 + 1))
+  pub counted : counted_position (length loads) (padded loads) (set cs (s - 1) (get_or cs (s - 1) 0 + 1))
+      ≡ position loads (put_ascending s (expanded 1 cs))
+
+pub IsCountedOn-small : (s v : ℕ) (loads cs : List ℕ) → length cs ≡ 32 → v ≡ sum (expanded 1 cs) → AreLoads loads → 1 ≤ s
+    → are_small (put_ascending s (expanded 1 cs)) ≡ true → IsCountedOn s v loads cs
+IsCountedOn-small s v loads cs n e legal low small =
+    let test = small_from_test (put_ascending s (expanded 1 cs)) small in
+    let few : s ≤ 32 = omega (arith, with_small s cs, test.0) in
+    let total = sum-put_ascending s (expanded 1 cs) in
+    let more = set cs (s - 1) (get_or cs (s - 1) 0 + 1) in
+    let put = put-expanded 1 (s - 1) s cs (omega (arith, low)) (omega (arith, low, few, n)) in
+    let fits : v + s ≤ 255 = omega (arith, total, test.1, e) in
+    record {
+      low = few;
+      total = fits;
+      counter = omega (arith, counter-le-sum (s - 1) cs, e, fits, low);
+      legal = IsSmallPosition-from loads more (v + s) legal (omega (arith, ap sum put, total, e)) fits;
+      counted = counted_position-from loads more ∙ ap (position loads) put;
+    }
 
 -- what a hash takes in, by the form of the position
 pub hashed-small : (loads xs : List ℕ) → are_small xs ≡ true → hashed loads xs ≡ padded loads ∷ take 32 (counters_of xs) ∷ []

@@ -22,12 +22,13 @@ padded loads = loads ++ replicate (MOST_BINS - length loads) 0
 abbrev pub counted_position : ℕ → List ℕ → List ℕ → Position
 counted_position bins loads counters = position (take bins loads) (expanded 1 counters)
 
--- the loads of so many bins and the counters of items with a small total
-pub record IsSmallPosition (bins : ℕ) (loads counters : List ℕ) : Type 0 where
+-- the loads of so many bins, the counters of items with a small total, and this total
+pub record IsSmallPosition (bins volume : ℕ) (loads counters : List ℕ) : Type 0 where
   pub few : bins ≤ MOST_BINS
   pub legal : AreLoads (take bins loads)
   pub rest : padded (take bins loads) ≡ loads
   pub total : sum (expanded 1 counters) ≤ MOST_SMALL_VOLUME
+  pub volume_is : volume ≡ sum (expanded 1 counters)
 
 -- what a hash takes in of these loads and items
 unfoldable pub hashed : List ℕ → List ℕ → List (List ℕ)

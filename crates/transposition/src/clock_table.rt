@@ -1,6 +1,6 @@
 //! A table of bounded size in which a hand goes round and drops an entry that was not used of late.
 
-ghost use Rattle.std.specs.Prelude.{◌≡◌, ◌<◌, ◌≤◌, ◌+◌, ◌-◌, ◌*◌, ◌^◌, [], IsSome, IsOk, IfOk, IsTrue, OnOk, OnErr};
+ghost use Rattle.std.specs.Prelude.{◌≡◌, ◌↔◌, ◌<◌, ◌≤◌, ◌+◌, ◌-◌, ◌*◌, ◌^◌, [], IsSome, IsOk, IfOk, IsTrue, OnOk, OnErr};
 ghost use Rattle.std.specs.Prelude.{None, length};
 ghost use Rattle.transposition.specs.Clock.{Drops};
 ghost use Rattle.indexmap.specs.IndexMap.{spare};
@@ -77,9 +77,10 @@ impl<K: Eq + Hash + Drop, V: Copy + Drop> ClockTable<K, V> {
         Some(value)
     }
 
-    /// Puts a value at a key. A key that is there keeps its entry, takes the value, takes no memory and cannot fail.
-    /// A new key adds an entry, and at capacity one other entry is dropped. Where memory is refused, the entries stay.
-    pub fn put(&mut self, key: K, value: V) -> Result<(), AllocError>
+    /// Puts a value at a key, and tells whether the key is new. A key that is there keeps its entry, takes the value,
+    /// takes no memory and cannot fail. A new key adds an entry, and at capacity one other entry is dropped. Where
+    /// memory is refused, the entries stay.
+    pub fn insert(&mut self, key: K, value: V) -> Result<bool, AllocError>
         ensures present { IsSome (found K.eq self.old.entries key)
             → IsOk result × Puts K.eq self.old.entries self.new.entries key value 0 }
         ensures below { OnOk result (found K.eq self.old.entries key ≡ None
@@ -89,24 +90,25 @@ impl<K: Eq + Hash + Drop, V: Copy + Drop> ClockTable<K, V> {
             → self.old.capacity ≤ length self.old.entries
             → (dropped : K) × PutsForOther K.eq self.old.entries self.new.entries key value dropped) }
         ensures err { OnErr result (SameEntries K.eq self.old.entries self.new.entries) }
+        ensures is_new { IfOk result (λ is_new. IsTrue is_new ↔ (found K.eq self.old.entries key ≡ None)) }
         ensures capacity { self.new.capacity ≡ self.old.capacity }
     {
         if !has_room(&self.map, &self.clock) {
             if self.map.contains_key(&key) {
                 self.map.insert(key, value).unwrap();
-                return Ok(());
+                return Ok(false);
             }
             make_room(&mut self.map, &mut self.clock, self.capacity)?;
         }
         if self.map.insert(key, value).unwrap().is_some() {
-            return Ok(());
+            return Ok(false);
         }
         if self.map.len() <= self.capacity {
             self.clock.add();
         } else {
             drop_one(&mut self.map, &mut self.clock);
         }
-        Ok(())
+        Ok(true)
     }
 }
 

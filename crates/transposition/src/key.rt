@@ -1,11 +1,12 @@
 //! Positions as keys of a table.
 
-ghost use Rattle.std.specs.Prelude.{◌≡◌, true, IfOk, IsOk};
+ghost use Rattle.std.specs.Prelude.{◌≡◌, ◌+◌, ◌≤◌, true, sum, IfOk, IsOk};
+ghost use Rattle.items.specs.Multiset.{put_ascending};
 ghost use Rattle.loads.specs.Position.{position};
 ghost use Rattle.transposition.specs.SmallPositions.{are_small};
 
 use crate::small_position::{SmallPosition, have_small_counters};
-use items::Items;
+use items::{Items, MOST_SIZE, MOST_VOLUME};
 use loads::{Loads, PackedPosition, Position};
 use std::alloc::{AllocError, Global};
 use std::hash::{Hash, Hasher};
@@ -52,6 +53,37 @@ impl Key {
         }
         let form = Form::Large(PackedPosition::of(alloc, loads, items)?);
         Ok(Key { form })
+    }
+
+    /// The position of these loads and of the items with one more, of size `s`.
+    pub fn after(&self, alloc: Global, loads: &Loads, s: u16) -> Result<Key, AllocError>
+        requires low { 1 ≤ s }
+        requires high { s ≤ MOST_SIZE }
+        requires fits { sum self.now.items + s ≤ MOST_VOLUME }
+        ensures ok { IfOk result (λ made. made ≡ position loads.now (put_ascending s self.now.items)) }
+        ensures small { are_small (put_ascending s self.now.items) ≡ true → IsOk result }
+    {
+        if let Form::Small(small) = &self.form {
+            if small.may_take(s) {
+                let form = Form::Small(small.after(loads, s));
+                return Ok(Key { form });
+            }
+        }
+        Key::of(alloc, loads, &self.items().add(s))
+    }
+
+    /// The position of these loads and the same items.
+    pub fn with_loads(&self, alloc: Global, loads: &Loads) -> Result<Key, AllocError>
+        ensures ok { IfOk result (λ made. made ≡ position loads.now self.now.items) }
+        ensures small { are_small self.now.items ≡ true → IsOk result }
+    {
+        match &self.form {
+            Form::Small(small) => {
+                let form = Form::Small(small.with_loads(loads));
+                Ok(Key { form })
+            }
+            Form::Large(packed) => Key::of(alloc, loads, &packed.items()),
+        }
     }
 
     /// The position. Takes no memory.

@@ -1,6 +1,6 @@
 //! A table of bounded size that drops the entry that was used least recently.
 
-ghost use Rattle.std.specs.Prelude.{◌≡◌, ◌<◌, ◌≤◌, ◌+◌, [], IsSome, IsOk, IfOk, OnOk, OnErr, None, length};
+ghost use Rattle.std.specs.Prelude.{◌≡◌, ◌↔◌, ◌<◌, ◌≤◌, ◌+◌, [], IsSome, IsOk, IfOk, IsTrue, OnOk, OnErr, None, length};
 ghost use Rattle.transposition.specs.Bounded.{bounded, found, IsBoundedMap, SameEntries, Puts, PutsForOther};
 
 use lru::LruCache;
@@ -61,9 +61,10 @@ impl<K: Eq + Hash + Drop, V: Copy + Drop> LruTable<K, V> {
         self.cache.peek(key).copied()
     }
 
-    /// Puts a value at a key. A key that is there keeps its entry, takes the value, takes no memory and cannot fail.
-    /// A new key adds an entry, and at capacity one other entry is dropped. Where memory is refused, the entries stay.
-    pub fn put(&mut self, key: K, value: V) -> Result<(), AllocError>
+    /// Puts a value at a key, and tells whether the key is new. A key that is there keeps its entry, takes the value,
+    /// takes no memory and cannot fail. A new key adds an entry, and at capacity one other entry is dropped. Where
+    /// memory is refused, the entries stay.
+    pub fn insert(&mut self, key: K, value: V) -> Result<bool, AllocError>
         ensures present { IsSome (found K.eq self.old.entries key)
             → IsOk result × Puts K.eq self.old.entries self.new.entries key value 0 }
         ensures below { OnOk result (found K.eq self.old.entries key ≡ None
@@ -73,10 +74,11 @@ impl<K: Eq + Hash + Drop, V: Copy + Drop> LruTable<K, V> {
             → self.old.capacity ≤ length self.old.entries
             → (dropped : K) × PutsForOther K.eq self.old.entries self.new.entries key value dropped) }
         ensures err { OnErr result (SameEntries K.eq self.old.entries self.new.entries) }
+        ensures is_new { IfOk result (λ is_new. IsTrue is_new ↔ (found K.eq self.old.entries key ≡ None)) }
         ensures capacity { self.new.capacity ≡ self.old.capacity }
     {
         prove!(self.cache.len() <= self.cache.cap().get());
-        self.cache.put(key, value)?;
-        Ok(())
+        let old = self.cache.put(key, value)?;
+        Ok(old.is_none())
     }
 }

@@ -1,6 +1,7 @@
 //! The transposition table of a search: what it found at positions.
 
-ghost use Rattle.std.specs.Prelude.{◌≡◌, ◌<◌, ◌≤◌, ℕ, List, IsSome, IsOk, OnOk, OnErr, None, length};
+ghost use Rattle.std.specs.Prelude.{◌≡◌, ◌↔◌, ◌<◌, ◌≤◌, ℕ, List, IsSome, IsOk, IfOk, IsTrue, OnOk, OnErr, None, length};
+ghost use Rattle.std.specs.Prelude.{if◌then◌else◌};
 ghost use Rattle.loads.specs.Packed.{are_equal};
 ghost use Rattle.loads.specs.declared.position.Position.{Position};
 ghost use Rattle.transposition.specs.Bounded.{bounded, IsBoundedMap, SameEntries, Puts, PutsForOther};
@@ -50,6 +51,15 @@ pub trait Memo {
             → (dropped : Position) × PutsForOther are_equal (entries self.old) (entries self.new) key verdict dropped) }
         ensures err { OnErr result (SameEntries are_equal (entries self.old) (entries self.new)) }
         ensures capacity { room self.new ≡ room self.old };
+
+    /// Puts a verdict at a position where there are fewer entries than the capacity, as `put` does, and tells whether
+    /// the position is new: one look-up in place of two.
+    fn insert(&mut self, key: Key, verdict: Verdict) -> Result<bool, AllocError>
+        requires below { length (entries self.old) < room self.old }
+        ensures puts { IfOk result (λ is_new. (IsTrue is_new ↔ (verdict_of (entries self.old) key ≡ None))
+            × Puts are_equal (entries self.old) (entries self.new) key verdict (if is_new then 1 else 0)) }
+        ensures err { OnErr result (SameEntries are_equal (entries self.old) (entries self.new)) }
+        ensures capacity { room self.new ≡ room self.old };
 }
 
 /// A table that drops the entry that was used least recently.
@@ -76,7 +86,12 @@ impl Memo for LruMemo {
     }
 
     fn put(&mut self, key: Key, verdict: Verdict) -> Result<(), AllocError> {
-        LruTable::put(self, key, verdict)
+        LruTable::insert(self, key, verdict)?;
+        Ok(())
+    }
+
+    fn insert(&mut self, key: Key, verdict: Verdict) -> Result<bool, AllocError> {
+        LruTable::insert(self, key, verdict)
     }
 }
 
@@ -98,6 +113,11 @@ impl Memo for ClockMemo {
     }
 
     fn put(&mut self, key: Key, verdict: Verdict) -> Result<(), AllocError> {
-        ClockTable::put(self, key, verdict)
+        ClockTable::insert(self, key, verdict)?;
+        Ok(())
+    }
+
+    fn insert(&mut self, key: Key, verdict: Verdict) -> Result<bool, AllocError> {
+        ClockTable::insert(self, key, verdict)
     }
 }

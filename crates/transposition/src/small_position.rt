@@ -1,12 +1,13 @@
-//! Positions with few and small items, in 41 bytes.
+//! Positions with few and small items, in 42 bytes.
 
-ghost use Rattle.std.specs.Prelude.{◌≡◌, ◌↔◌, ◌<◌, ◌≤◌, All, IsTrue, fold, length, take, true, ◌∷◌, []};
+ghost use Rattle.std.specs.Prelude.{◌≡◌, ◌↔◌, ◌+◌, ◌*◌, ◌<◌, ◌≤◌, All, IsTrue, fold, length, sum, take, true, ◌∷◌, []};
 ghost use Rattle.items.specs.Counters.{counters_of};
+ghost use Rattle.items.specs.Multiset.{put_ascending, put_times};
 ghost use Rattle.loads.specs.Loads.{AreLoads};
 ghost use Rattle.loads.specs.Position.{position};
 ghost use Rattle.transposition.specs.SmallPositions.{are_small, padded};
 
-use items::{Items, MOST_BINS};
+use items::{Items, MOST_BINS, MOST_SIZE, MOST_VOLUME};
 use loads::{Loads, loads_from_bytes};
 use std::alloc::Global;
 use std::hash::Hasher;
@@ -18,11 +19,12 @@ pub(crate) const SIZES: u16 = 32;
 // The greatest total of the items, so that each counter is a byte.
 pub(crate) const MOST_SMALL_VOLUME: u16 = 255;
 
-/// A position whose items have sizes up to 32 and a total of at most 255: the loads in a byte each, and how many items
-/// have each size. Clauses see the position. The allocator that is kept is never asked.
+/// A position whose items have sizes up to 32 and a total of at most 255: the loads in a byte each, how many items
+/// have each size, and their total. Clauses see the position. The allocator that is kept is never asked.
 #[derive(Debug, Drop)]
 pub(crate) struct SmallPosition {
     bins: u8,
+    volume: u8,
     loads: [u8; MOST_BINS as usize],
     counters: [u8; SIZES as usize],
     alloc: Global,
@@ -36,7 +38,7 @@ impl Model for SmallPosition {
 
     ghost view = { λ a. counted_position a.bins a.loads a.counters };
 
-    ghost invariant = { λ a. IsSmallPosition a.bins a.loads a.counters };
+    ghost invariant = { λ a. IsSmallPosition a.bins a.volume a.loads a.counters };
 }
 
 impl SmallPosition {
@@ -48,9 +50,50 @@ impl SmallPosition {
         let loads = loads.as_slice();
         SmallPosition {
             bins: loads.len() as u8,
+            volume: items.volume() as u8,
             loads: load_bytes(loads),
             counters: counter_bytes(items.counters()),
             alloc,
+        }
+    }
+
+    /// Whether the position is a small one still after one more item, of size `s`.
+    pub(crate) fn may_take(&self, s: u16) -> bool
+        requires { 1 ≤ s }
+        ensures { result ≡ are_small (put_ascending s self.now.items) }
+    {
+        s <= SIZES && u16::from(self.volume) + s <= MOST_SMALL_VOLUME
+    }
+
+    /// The position of these loads and of the items with one more, of size `s`.
+    pub(crate) fn after(&self, loads: &Loads, s: u16) -> SmallPosition
+        requires low { 1 ≤ s }
+        requires small { are_small (put_ascending s self.now.items) ≡ true }
+        ensures { result ≡ position loads.now (put_ascending s self.now.items) }
+    {
+        let loads = loads.as_slice();
+        let mut counters = self.counters;
+        counters[usize::from(s) - 1] += 1;
+        SmallPosition {
+            bins: loads.len() as u8,
+            volume: self.volume + s as u8,
+            loads: load_bytes(loads),
+            counters,
+            alloc: self.alloc,
+        }
+    }
+
+    /// The position of these loads and the same items.
+    pub(crate) fn with_loads(&self, loads: &Loads) -> SmallPosition
+        ensures { result ≡ position loads.now self.now.items }
+    {
+        let loads = loads.as_slice();
+        SmallPosition {
+            bins: loads.len() as u8,
+            volume: self.volume,
+            loads: load_bytes(loads),
+            counters: self.counters,
+            alloc: self.alloc,
         }
     }
 
@@ -67,7 +110,7 @@ impl SmallPosition {
     {
         let mut items = Items::empty();
         for (i, n) in self.counters.iter().enumerate() {
-            items = items.add_times(i as u16 + 1, u16::from(*n));
+            put_times(&mut items, i as u16 + 1, *n);
         }
         items
     }
@@ -78,6 +121,7 @@ impl SmallPosition {
     {
         SmallPosition {
             bins: self.bins,
+            volume: self.volume,
             loads: self.loads,
             counters: self.counters,
             alloc: self.alloc,
@@ -101,6 +145,18 @@ impl SmallPosition {
     {
         state.write(&self.loads);
         state.write(&self.counters);
+    }
+}
+
+// Puts so many items of one size in.
+fn put_times(items: &mut Items, size: u16, number: u8)
+    requires low { 1 ≤ size }
+    requires high { size ≤ MOST_SIZE }
+    requires fits { sum items.old + number * size ≤ MOST_VOLUME }
+    ensures { items.new ≡ put_times number size items.old }
+{
+    for _i in 0..number {
+        items.put(size);
     }
 }
 

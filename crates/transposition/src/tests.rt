@@ -138,12 +138,12 @@ fn found(table: &mut ClockTable<u32, u32>, number: u32) -> usize {
 fn a_table_grows_to_its_capacity_and_stays_there(rt: HostRuntime) -> Result<(), Fail> {
     let mut table: ClockTable<u32, u32> = ClockTable::new(rt.alloc(), 1000)?;
     for key in 0..1000u32 {
-        table.put(key, key.wrapping_mul(2))?;
+        table.insert(key, key.wrapping_mul(2))?;
     }
     assert_eq!(rt; (found(&mut table, 1000), table.len()), (1000, 1000));
     for key in 1000..3000u32 {
-        table.put(key, key.wrapping_mul(2))?;
-        table.put(key, key.wrapping_mul(2))?;
+        table.insert(key, key.wrapping_mul(2))?;
+        table.insert(key, key.wrapping_mul(2))?;
     }
     assert_eq!(rt; (found(&mut table, 3000), table.len()), (1000, 1000));
     Ok(())
@@ -153,17 +153,17 @@ fn a_table_grows_to_its_capacity_and_stays_there(rt: HostRuntime) -> Result<(), 
 fn the_hand_passes_entries_that_were_used(rt: HostRuntime) -> Result<(), Fail> {
     let mut table: ClockTable<u32, u16> = ClockTable::new(rt.alloc(), 3)?;
     for key in [1, 2, 3] {
-        table.put(key, 10)?;
+        table.insert(key, 10)?;
     }
     assert_eq!(rt; (table.get(&1), table.get(&3)), (Some(10), Some(10)));
-    table.put(4, 40)?;
+    table.insert(4, 40)?;
     assert_eq!(rt;
         (table.get(&2), table.len(), table.capacity()),
         (None, 3, 3)
     );
     let kept = [table.get(&1), table.get(&3), table.get(&4)];
     assert_eq!(rt; kept, [Some(10), Some(10), Some(40)]);
-    table.put(5, 50)?;
+    table.insert(5, 50)?;
     assert_eq!(rt; (table.get(&5), table.len()), (Some(50), 3));
     Ok(())
 }
@@ -171,10 +171,10 @@ fn the_hand_passes_entries_that_were_used(rt: HostRuntime) -> Result<(), Fail> {
 #[test]
 fn the_entry_used_least_recently_goes(rt: HostRuntime) -> Result<(), Fail> {
     let mut table: LruTable<u32, u16> = LruTable::new(rt.alloc(), 2)?;
-    table.put(1, 10)?;
-    table.put(2, 20)?;
+    table.insert(1, 10)?;
+    table.insert(2, 20)?;
     assert_eq!(rt; table.get(&1), Some(10));
-    table.put(3, 30)?;
+    table.insert(3, 30)?;
     let kept = [table.get(&1), table.get(&2), table.get(&3)];
     assert_eq!(rt; kept, [Some(10), None, Some(30)]);
     assert_eq!(rt; (table.len(), table.capacity()), (2, 2));

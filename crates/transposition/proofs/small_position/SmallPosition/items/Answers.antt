@@ -10,4 +10,4 @@ loop-i-preserved c =
     let e : expanded 1 counters ≡ c.args.self.now.items = ap (λ r. r.items) c.self.view_is in
     let within : c.loop-i.i < length counters = omega arith in
     let next = put_next c.loop-i.i counters c.loop-i.items within (c.loop-i.invariant ∙ sym e) in
-    rw (c.add_times-items.ensures.added, c.from.ensures) (next.put ∙ e)
+    rw (c.put_times.ensures) (next.put ∙ e)

@@ -13,7 +13,7 @@ counter_bytes-requires-clause-low c =
 
 pub invariant_of-result : goal.invariant_of-result
 invariant_of-result c =
-    rw (c.counter_bytes.ensures, c.counters.ensures.value, c.load_bytes.ensures, c.as_slice-loads.ensures.value)
+    rw (c.counter_bytes.ensures, c.counters.ensures.value, c.load_bytes.ensures, c.as_slice-loads.ensures.value, c.volume.ensures.value)
     (IsSmallPosition-of c.args.loads.now c.args.items.now c.as_slice-loads.ensures.loads c.counters.ensures.multiset c.requires)
 
 pub returns : goal.returns

@@ -1,8 +1,8 @@
 use Rattle.std.proofs.Common.{◌≡◌, ap, ◌∙◌, length, subst, arith}
 use Rattle.transposition.specs.Clock.{Drops}
 use Rattle.transposition.proofs.DropLemmas.{put_for_other}
-use Rattle.transposition.proofs.clock_table.ClockTable.put.Goals.{then-not-has_room+else-contains_key+in_ok-make_room, else-not-has_room}
-use Rattle.transposition.proofs.clock_table.ClockTable.put.Goals as goal
+use Rattle.transposition.proofs.clock_table.ClockTable.insert.Goals.{then-not-has_room+else-contains_key+in_ok-make_room, else-not-has_room}
+use Rattle.transposition.proofs.clock_table.ClockTable.insert.Goals as goal
 
 pub returns-else-len-self-clause-full : goal.returns-else-len-self-clause-full
 returns-else-len-self-clause-full g c = rw (← c.self.view_is) (λ none full.
