@@ -1,5 +1,5 @@
 -- Positions that finish are never won.
-use Rattle.std.proofs.Common.{◌≡◌, ℕ, zero, suc, ◌+◌, ◌<◌, Bool, List, [], ◌∷◌, ◌++◌, Contains, length, get_or, set, subst}
+use Rattle.std.proofs.Common.{◌≡◌, ◌∙◌, ℕ, zero, suc, ◌+◌, ◌<◌, Bool, Option, Some, None, List, [], ◌∷◌, ◌++◌, Contains, length, get_or, set, refl, ap, subst}
 use Rattle.std.proofs.Common.{arith, get_or-set_same, inl, inr}
 use Rattle.std.proofs.lemmas.List.{get_or_default, length-set}
 use Rattle.items.specs.Game.{GameNumbers, IsGame}
@@ -12,7 +12,13 @@ use Rattle.good_situations.specs.Finish.{Finishes}
 use Rattle.good_situations.specs.KeptOrder.{KeptOrder, finish_bin, kept_order}
 use Rattle.good_situations.proofs.KeepingLemmas.{finish_stays_below, finishes_after}
 use Rattle.good_situations.proofs.OrderLemmas.{IsOrderOf-kept_order, finish_bin-lt}
-use Rattle.minimax.specs.State.{IsNeverWon, IsPlayable}
+use Rattle.transposition.specs.Memo.{verdict_of}
+use Rattle.transposition.specs.declared.verdict.Verdict.{Verdict}
+use Rattle.transposition.specs.declared.verdict.Verdict.TheVariants.{Adversary, Algorithm, Held}
+use Rattle.minimax.specs.State.{IsLed, IsNeverWon, IsPlayable, IsSound, allowed_by}
+use Rattle.minimax.specs.declared.expanding.Search.{Search}
+use Rattle.minimax.specs.declared.finish_nodes.TheConstants.{FINISHES}
+use Rattle.minimax.proofs.StateLemmas.{won_by_node}
 use Rattle.minimax.proofs.PlayableLemmas.{IsPlayable-after}
 
 -- a load that stays below the target with a size
@@ -57,3 +63,21 @@ finish_not_won game allowed (suc n) position g p finishes wins =
 pub IsNeverWon-finish : (game : GameNumbers) (position : Position) → IsGame game → IsPlayable game position → Finishes game position.loads
     → IsNeverWon game position
 IsNeverWon-finish game position g p finishes = λ allowed won. finish_not_won game allowed won.0 position g p finishes won.1
+
+-- where the table has a position that finishes, it tells so
+pub finish_told : (game : GameNumbers) (pass : ℕ) (s : Search) (entries : List (Position × Verdict)) (position : Position) → IsGame game → IsSound game pass s entries
+    → IsPlayable game position → Finishes game position.loads → (verdict_of entries position ≡ None → ⊥)
+    → verdict_of entries position ≡ Some (Algorithm FINISHES)
+finish_told game pass s entries position g sound playable finishes known = by_entry (verdict_of entries position) refl
+  where
+    led : (number : ℕ) → verdict_of entries position ≡ Some (Algorithm number) → IsLed game s.replies position number
+        → verdict_of entries position ≡ Some (Algorithm FINISHES)
+    led number e (inl node) = absurd (node.unfinished finishes)
+    led number e (inr finish) = e ∙ ap (λ n. Some (Algorithm n)) finish.told
+    by_entry : (o : Option Verdict) → verdict_of entries position ≡ o → verdict_of entries position ≡ Some (Algorithm FINISHES)
+    by_entry None e = absurd (known e)
+    by_entry (Some (Adversary number)) e =
+        absurd (IsNeverWon-finish game position g playable finishes (allowed_by game pass)
+        (won_by_node game pass s.meter s.wins s.replies entries position number sound (sound.known position (Adversary number) e)))
+    by_entry (Some (Algorithm number)) e = led number e (sound.known position (Algorithm number) e)
+    by_entry (Some (Held held)) e = absurd ((sound.known position (Held held) e).unfinished finishes)

@@ -1,6 +1,7 @@
 //! The search of one pass: the expansion of positions.
 
 ghost use Rattle.std.specs.Prelude.{◌≡◌, ◌+◌, ◌-◌, ◌++◌, ◌∷◌, [], IfOk, MatchResult, Some, sum};
+ghost use Rattle.items.specs.Game.{IsGame};
 ghost use Rattle.items.specs.Packable.{IsRoom, Packable};
 ghost use Rattle.good_situations.specs.Finish.{Finishes};
 ghost use Rattle.monotone.specs.Visits.{visit};
@@ -15,7 +16,7 @@ ghost use Rattle.minimax.specs.State.{Stops, WentOn};
 ghost use Rattle.minimax.specs.State.{kept_of, reached_by, with_move};
 
 use crate::finish_nodes::FINISHES;
-use crate::nodes::{after, push_win};
+use crate::nodes::{key_after, loads_after, push_win};
 use crate::replies::{Replies, keep, put};
 use crate::rooms::Rooms;
 use crate::skipping::skipped;
@@ -24,7 +25,7 @@ use adversary_graph::AdvPool;
 use good_situations::finishes;
 use items::Game;
 use items::laws::game_is_legal;
-use loads::Position;
+use loads::{Loads, Position};
 use monotone::{Meter, Path, PathMove, VisitFault, allows};
 use std::alloc::Global;
 use strategy_text::{Entry, Placement, Placements, Then};
@@ -66,41 +67,80 @@ pub(crate) enum Weighed {
     NoReply,
 }
 
-/// The verdict of the position that the path of the search leads to.
+/// The verdict of the position of this key and these loads, to which the path of the search leads.
 #[cycle(expanding)]
 pub(crate) fn expand<M: Memo>(
     game: &Game,
     pass: u16,
     search: &mut Search,
     memo: &mut M,
-    position: &Position,
+    loads: Loads,
+    key: Key,
 ) -> Result<Verdict, VisitFault>
+    requires of_key { loads ≡ key.loads }
     requires sound { IsSound game.now pass search.old (M.entries memo.old) }
-    requires may { MayVisit game.now pass search.old position.now }
+    requires may { MayVisit game.now pass search.old key }
     requires behind { HasSpare game.now 0 search.old (M.entries memo.old) }
     ensures found { MatchResult result
-        (FindsVerdict game.now pass position.now search.old search.new (M.entries memo.new))
+        (FindsVerdict game.now pass key search.old search.new (M.entries memo.new))
         (Stops game.now pass search.old.meter.budget search.new) }
-    ensures counts { KeepsCount game.now pass (sum position.now.items)
+    ensures counts { KeepsCount game.now pass (sum key.items)
         (progress search.old.meter (M.entries memo.old) (M.room memo.old))
         (progress search.new.meter (M.entries memo.new) (M.room memo.new)) result }
     ensures serves { IfOk result (λ verdict. KeepsServing game.now 0 search.old (M.entries memo.old)
-        search.new (M.entries memo.new) (λ later. IsServedBy game.now later position.now verdict)) }
+        search.new (M.entries memo.new) (λ later. IsServedBy game.now later key verdict)) }
 {
-    let key = Key::of(search.alloc, &position.loads, &position.items)?;
+    game_is_legal(game);
+    if finishes(game, &loads) {
+        return visit_finish(game, pass, search, memo, key);
+    }
     let told = known(memo, &key, pass);
     if let Told::Settled(verdict) = told {
         return Ok(verdict);
     }
     search.meter.visit(pass, &search.path)?;
-    game_is_legal(game);
-    if finishes(game, &position.loads) {
-        remember_finish(memo, key)?;
-        return Ok(Verdict::Algorithm(FINISHES));
-    }
-    let verdict = decide(game, pass, told, search, memo, position)?;
+    let position = position_of(loads, &key);
+    let verdict = decide(game, pass, told, search, memo, &position, &key)?;
     remember(memo, key, verdict)?;
     Ok(verdict)
+}
+
+// The verdict of a position that finishes. It is told from the loads alone, so it takes one look-up, which puts it.
+fn visit_finish<M: Memo>(
+    game: &Game,
+    pass: u16,
+    search: &mut Search,
+    memo: &mut M,
+    key: Key,
+) -> Result<Verdict, VisitFault>
+    requires legal { IsGame game.now }
+    requires sound { IsSound game.now pass search.old (M.entries memo.old) }
+    requires may { MayVisit game.now pass search.old key }
+    requires finishes { Finishes game.now key.loads }
+    ensures found { MatchResult result
+        (FindsVerdict game.now pass key search.old search.new (M.entries memo.new))
+        (Stops game.now pass search.old.meter.budget search.new) }
+    ensures counts { KeepsCount game.now pass (sum key.items)
+        (progress search.old.meter (M.entries memo.old) (M.room memo.old))
+        (progress search.new.meter (M.entries memo.new) (M.room memo.new)) result }
+    ensures serves { IfOk result (λ verdict. KeepsServing game.now 0 search.old (M.entries memo.old)
+        search.new (M.entries memo.new) (λ later. IsServedBy game.now later key verdict)) }
+{
+    if remember_finish(memo, key)? {
+        search.meter.visit(pass, &search.path)?;
+    }
+    Ok(Verdict::Algorithm(FINISHES))
+}
+
+// The position of a key and its loads.
+fn position_of(loads: Loads, key: &Key) -> Position
+    requires { loads ≡ key.now.loads }
+    ensures { result ≡ key.now }
+{
+    Position {
+        loads,
+        items: key.items(),
+    }
 }
 
 // The verdict of a position that was visited and does not finish.
@@ -112,7 +152,9 @@ fn decide<M: Memo>(
     search: &mut Search,
     memo: &mut M,
     position: &Position,
+    key: &Key,
 ) -> Result<Verdict, VisitFault>
+    requires of_key { key.now ≡ position.now }
     requires sound { IsSound game.now pass search.old (M.entries memo.old) }
     requires stands { StandsAtPath game.now pass search.old.path position.now }
     requires unfinished { Finishes game.now position.now.loads → ⊥ }
@@ -132,9 +174,9 @@ fn decide<M: Memo>(
     let most = search.most;
     let room = search
         .rooms
-        .room_up_to(search.alloc, game, &position.items, most)?;
+        .room_up_to(search.alloc, game, &position.items, key, most)?;
     search.most = room;
-    let verdict = weigh_all(game, pass, told, search, memo, position, room)?;
+    let verdict = weigh_all(game, pass, told, search, memo, position, key, room)?;
     search.most = most;
     Ok(verdict)
 }
@@ -148,8 +190,10 @@ fn weigh_all<M: Memo>(
     search: &mut Search,
     memo: &mut M,
     position: &Position,
+    key: &Key,
     room: u16,
 ) -> Result<Verdict, VisitFault>
+    requires of_key { key.now ≡ position.now }
     requires sound { IsSound game.now pass search.old (M.entries memo.old) }
     requires from_room { IsOpenFrom game.now pass room search.old position.now }
     requires is_room { IsRoom game.now position.now.items room }
@@ -166,7 +210,7 @@ fn weigh_all<M: Memo>(
 {
     let mut entries = Vec::new(search.alloc);
     for tried in 0..room {
-        match weigh(game, pass, told, search, memo, position, room - tried)? {
+        match weigh(game, pass, told, search, memo, position, key, room - tried)? {
             Weighed::Won(number) => return Ok(Verdict::Adversary(number)),
             Weighed::Replied(entry) => put(&mut entries, entry)?,
             Weighed::NoReply => {}
@@ -188,8 +232,10 @@ fn weigh<M: Memo>(
     search: &mut Search,
     memo: &mut M,
     position: &Position,
+    key: &Key,
     size: u16,
 ) -> Result<Weighed, VisitFault>
+    requires of_key { key.now ≡ position.now }
     requires sound { IsSound game.now pass search.old (M.entries memo.old) }
     requires from_size { IsOpenFrom game.now pass size search.old position.now }
     requires may_come { Packable game.now (position.now.items ++ size ∷ []) }
@@ -211,7 +257,7 @@ fn weigh<M: Memo>(
     if let Some(load) = skipped(game, told, position, size) {
         return Ok(kept(size, load, Verdict::Algorithm(FINISHES)));
     }
-    match try_size(game, pass, search, memo, position, size)? {
+    match try_size(game, pass, search, memo, position, key, size)? {
         Tried::Wins(placements) => {
             let number = push_win(search.alloc, &mut search.wins, position, size, placements)?;
             Ok(Weighed::Won(number))
@@ -238,8 +284,10 @@ fn try_size<M: Memo>(
     search: &mut Search,
     memo: &mut M,
     position: &Position,
+    key: &Key,
     size: u16,
 ) -> Result<Tried, VisitFault>
+    requires of_key { key.now ≡ position.now }
     requires sound { IsSound game.now pass search.old (M.entries memo.old) }
     requires from_size { IsOpenFrom game.now pass size search.old position.now }
     requires may_come { MayCome game.now pass position.now size }
@@ -257,7 +305,7 @@ fn try_size<M: Memo>(
     let mut placements = Placements::new(search.alloc);
     for i in 0..position.loads.distinct_count() {
         let load = position.loads.distinct_at(i);
-        match try_load(game, pass, search, memo, position, size, load)? {
+        match try_load(game, pass, search, memo, position, key, size, load)? {
             Reached::ByNext(next) => placements.push(Placement { load, next })?,
             Reached::Answers(verdict) => return Ok(Tried::Answered { load, verdict }),
         }
@@ -273,9 +321,11 @@ fn try_load<M: Memo>(
     search: &mut Search,
     memo: &mut M,
     position: &Position,
+    key: &Key,
     size: u16,
     load: u16,
 ) -> Result<Reached, VisitFault>
+    requires of_key { key.now ≡ position.now }
     requires sound { IsSound game.now pass search.old (M.entries memo.old) }
     requires at_load { IsOpenAt game.now pass size load search.old position.now }
     requires may_come { MayCome game.now pass position.now size }
@@ -294,9 +344,10 @@ fn try_load<M: Memo>(
     if load + size >= target {
         return Ok(Reached::ByNext(Then::Over));
     }
-    let next = after(game, position, size, load);
+    let loads = loads_after(game, position, size, load);
+    let next = key_after(search.alloc, game, key, &loads, size)?;
     search.path.push(PathMove { item: size, load })?;
-    let verdict = expand(game, pass, search, memo, &next)?;
+    let verdict = expand(game, pass, search, memo, loads, next)?;
     search.path.pop();
     Ok(reach_of(verdict))
 }

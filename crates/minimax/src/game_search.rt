@@ -22,7 +22,7 @@ use loads::{Loads, Position};
 use monotone::{Meter, Path, VisitFault};
 use std::alloc::{AllocError, Global};
 use strategy_text::Format;
-use transposition::{Memo, Verdict};
+use transposition::{Key, Memo, Verdict};
 
 /// Who wins a game, searched pass by pass under a budget of visits; the memo is empty at the start.
 ///
@@ -91,7 +91,8 @@ fn search_passes<M: Memo>(
         items: Items::empty(),
     };
     for pass in 0..game.g() {
-        match expand(game, pass, &mut search, memo, &root) {
+        let key = Key::of(alloc, &root.loads, &root.items)?;
+        match expand(game, pass, &mut search, memo, root.loads.copy(), key) {
             Ok(Verdict::Held(_)) => {}
             Ok(Verdict::Adversary(number)) => {
                 return Ok(Answer::Adversary(search.wins.into_strategy(number)));

@@ -2,7 +2,10 @@
 
 ghost use Rattle.std.specs.Prelude.{◌≡◌, ◌+◌, ◌<◌, ◌++◌, ◌∷◌, [], Contains, IfOk, length};
 ghost use Rattle.items.specs.Packable.{Packable};
+ghost use Rattle.items.specs.Multiset.{put_ascending};
 ghost use Rattle.loads.specs.After.{after};
+ghost use Rattle.loads.specs.Loads.{loads_after};
+ghost use Rattle.loads.specs.Position.{position};
 ghost use Rattle.strategy_text.specs.Spelling.{most_nodes};
 ghost use Rattle.strategy_text.specs.declared.node.Format.TheVariants.{One};
 ghost use Rattle.good_situations.specs.Finish.{Finishes};
@@ -12,10 +15,11 @@ use adversary_graph::AdvPool;
 use algorithm_graph::AlgPool;
 use items::laws::game_is_legal;
 use items::{Game, Nums};
-use loads::Position;
+use loads::{Loads, Position};
 use reachable_loads::pack;
 use std::alloc::{AllocError, Global};
 use strategy_text::{Act, AdvNode, AlgNode, Entries, Entry, Placements, Step};
+use transposition::Key;
 
 /// Puts the node of the adversary that sends an item of this size at the position, with a packing of its items and
 /// the sent one, and gives its number.
@@ -126,4 +130,30 @@ pub(crate) fn after(game: &Game, position: &Position, size: u16, load: u16) -> P
         loads: position.loads.place(game, load, size).unwrap(),
         items: position.items.add(size),
     }
+}
+
+/// The loads after an item of this size went to a bin of this load. Takes no memory.
+pub(crate) fn loads_after(game: &Game, position: &Position, size: u16, load: u16) -> Loads
+    requires playable { IsPlayable game.now position.now }
+    requires has_load { Contains position.now.loads load }
+    requires below_target { load + size < game.now.target }
+    ensures { result ≡ loads_after position.now.loads load size }
+{
+    position.loads.place(game, load, size).unwrap()
+}
+
+/// The key of the position of these loads after an item of this size.
+pub(crate) fn key_after(
+    alloc: Global,
+    game: &Game,
+    key: &Key,
+    loads: &Loads,
+    size: u16,
+) -> Result<Key, AllocError>
+    requires playable { IsPlayable game.now key.now }
+    requires may_come { Packable game.now (key.now.items ++ size ∷ []) }
+    ensures { IfOk result (λ made. made ≡ position loads.now (put_ascending size key.now.items)) }
+{
+    game_is_legal(game);
+    key.after(alloc, loads, size)
 }

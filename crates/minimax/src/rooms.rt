@@ -45,26 +45,28 @@ impl Rooms {
     }
 
     /// The greatest size of an item that may come next, where a bound on it is known. It is kept where the game is that
-    /// of the table.
+    /// of the table. The key is one of a position with these items.
     pub(crate) fn room_up_to(
         &mut self,
         alloc: Global,
         game: &Game,
         items: &Items,
+        key: &Key,
         most: u16,
     ) -> Result<u16, AllocError>
+        requires of_key { key.now.items ≡ items.now }
         requires bound { (size : ℕ) → Packable game.now (items.now ++ size ∷ []) → size ≤ most }
         ensures exact { IfOk result (IsRoom game.now items.now) }
     {
         if !is_same(&self.game, game) {
             return room_up_to(alloc, game, items, most);
         }
-        let key = Key::of(alloc, &self.no_loads, items)?;
+        let key = key.with_loads(alloc, &self.no_loads)?;
         if let Some(room) = self.table.get(&key) {
             return Ok(room);
         }
         let room = room_up_to(alloc, game, items, most)?;
-        self.table.put(key, room)?;
+        self.table.insert(key, room)?;
         Ok(room)
     }
 }

@@ -1,6 +1,6 @@
 //! What a search asks its table and puts there.
 
-ghost use Rattle.std.specs.Prelude.{◌≡◌, ◌<◌, ◌≤◌, ℕ, OnOk, Some, None, length};
+ghost use Rattle.std.specs.Prelude.{◌≡◌, ◌↔◌, ◌<◌, ℕ, IfOk, IsTrue, OnOk, Some, None, length};
 ghost use Rattle.loads.specs.Packed.{are_equal};
 ghost use Rattle.transposition.specs.Bounded.{IsBoundedMap, Puts, SameEntries, bounded};
 ghost use Rattle.transposition.specs.Memo.{verdict_of};
@@ -58,19 +58,21 @@ pub(crate) fn remember<M: Memo>(memo: &mut M, key: Key, verdict: Verdict) -> Res
     memo.put(key, verdict)
 }
 
-/// Puts that a position finishes, where the table is below its capacity: it is told from the loads alone, and drops no
-/// other entry.
-pub(crate) fn remember_finish<M: Memo>(memo: &mut M, key: Key) -> Result<(), AllocError>
+/// Puts that a position finishes, where the table is below its capacity, and tells whether the position had no entry:
+/// it is told from the loads alone, and drops no other entry.
+pub(crate) fn remember_finish<M: Memo>(memo: &mut M, key: Key) -> Result<bool, AllocError>
     ensures valid { IsBoundedMap are_equal (bounded (M.entries memo.old) (M.room memo.old)) }
+    ensures is_new { IfOk result (λ is_new. IsTrue is_new ↔ (verdict_of (M.entries memo.old) key ≡ None)) }
     ensures put { OnOk result (length (M.entries memo.old) < M.room memo.old
         → (more : ℕ) × Puts are_equal (M.entries memo.old) (M.entries memo.new) key (Algorithm FINISHES) more) }
     ensures only { OnOk result (PutsOnly (M.entries memo.old) (M.entries memo.new) key (Algorithm FINISHES)) }
-    ensures full { M.room memo.old ≤ length (M.entries memo.old)
-        → SameEntries are_equal (M.entries memo.old) (M.entries memo.new) }
+    ensures same { OnOk result (verdict_of (M.entries memo.old) key ≡ Some (Algorithm FINISHES)
+        → SameEntries are_equal (M.entries memo.old) (M.entries memo.new)) }
     ensures capacity { M.room memo.new ≡ M.room memo.old }
 {
     if memo.len() < memo.capacity() {
-        memo.put(key, Verdict::Algorithm(FINISHES))?;
+        memo.insert(key, Verdict::Algorithm(FINISHES))
+    } else {
+        Ok(memo.get(&key).is_none())
     }
-    Ok(())
 }

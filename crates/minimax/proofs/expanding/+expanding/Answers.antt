@@ -15,25 +15,26 @@ use Rattle.packing_witness.proofs.PackingLemmas.{size_of_last, le_room, Packable
 use Rattle.strategy_text.specs.declared.node.Entry.{Entry}
 use Rattle.transposition.specs.Bounded.{Puts}
 use Rattle.transposition.specs.Memo.{verdict_of}
-use Rattle.minimax.specs.Fresh.{IsShort, progress}
-use Rattle.minimax.specs.State.{AreOfAll, HasReached, HasTried, HasWeighed, IsPending, IsTold, IsWonIn, PutsOnly, WentOn, allowed_by, numbers_down}
-use Rattle.minimax.specs.Serving.{IsEntryServed, IsServedAt, IsServedFor, IsServedWith, KeepsServing, KeepsServingTold, led_to, taken_by}
+use Rattle.minimax.specs.Fresh.{CountsFresh, IsShort, progress}
+use Rattle.good_situations.specs.Finish.{Finishes}
+use Rattle.minimax.specs.State.{AreOfAll, FindsVerdict, HasReached, HasTried, HasWeighed, IsBound, IsPending, IsTold, IsWonIn, StandsAtPath, WentOn, allowed_by, numbers_down}
+use Rattle.minimax.specs.Serving.{IsEntryServed, IsServedAt, IsServedBy, IsServedFor, IsServedWith, KeepsServing, KeepsServingTold, led_to, taken_by}
 use Rattle.minimax.specs.declared.finish_nodes.TheConstants.{FINISHES}
 use Rattle.transposition.specs.declared.verdict.Verdict.TheVariants.{Adversary, Algorithm, Held}
 use Rattle.minimax.proofs.FinishLemmas.{IsNeverWon-finish}
-use Rattle.minimax.proofs.PlayableLemmas.{IsPlayable-after, total_with}
+use Rattle.minimax.proofs.PlayableLemmas.{IsPlayable-after, child_is, total_with}
 use Rattle.minimax.proofs.SizeLemmas.{finds_after, follows_more, ready_reply, next_bound, may_come_allowed, never_by_replies, none_more, not_allowed}
 use Rattle.minimax.proofs.SizeLemmas.{opens_load, opens_size, past_more, past_size}
 use Rattle.minimax.proofs.SizeLemmas.{placed_more, replies_more, replies_still, sizes_more, weighs, wins_by}
-use Rattle.minimax.proofs.StepLemmas.{finds_decided, finds_expanded, finds_finish, finds_held, finds_known, finds_reply, finds_win, may_visit_child, opens, passed_on}
+use Rattle.minimax.proofs.StepLemmas.{finds_decided, finds_expanded, finds_held, finds_known, finds_reply, finds_win, may_visit_child, opens, passed_on}
 use Rattle.minimax.proofs.StepLemmas.{reached_child, reached_over}
 use Rattle.minimax.proofs.StepLemmas.{sound_visited, WentOn-later, WentOn-refl, WentOn-then}
 use Rattle.minimax.proofs.ServingLemmas.{AreServed-same, IsBehind-less, KeepsServing-then, KeepsServing-weaker, Serving-refl, spare_after}
 use Rattle.minimax.proofs.FreshLemmas.{CountsFresh-above, CountsFresh-refl, CountsFresh-same, CountsFresh-trans, CountsFresh-visited}
 use Rattle.minimax.proofs.FreshLemmas.{IsShort-above, IsShort-after}
-use Rattle.minimax.proofs.FreshLemmas.{IsShort-fault, IsShort-visited, IsVisited, fresh_at, none_for_finish, volume_after}
+use Rattle.minimax.proofs.FreshLemmas.{IsShort-fault, IsShort-visited, IsVisited, fresh_at, volume_after}
 use Rattle.minimax.proofs.WinLemmas.{IsWon-by, not_won}
-use Rattle.minimax.proofs.ExpansionLemmas.{entries_served, first_served, served_at, serves_expanded, serves_finished, serves_kept, serves_known, serves_more}
+use Rattle.minimax.proofs.ExpansionLemmas.{entries_served, first_served, served_at, serves_expanded, serves_kept, serves_known, serves_more}
 use Rattle.minimax.proofs.ExpansionLemmas.{serves_not_allowed, serves_nothing, serves_replied, serves_size, serves_skipped, serves_won, sizes_tried}
 use Rattle.minimax.proofs.ExpansionLemmas.{tried_before, tried_still}
 use Rattle.monotone.proofs.PassLemmas.{allowed_in-exact}
@@ -45,49 +46,53 @@ use Rattle.minimax.proofs.expanding.+expanding.Goals.{weigh_all-in-Replied+in_ok
 
 pub expand-returns-in-Settled-clause-found : goal.expand-returns-in-Settled-clause-found
 expand-returns-in-Settled-clause-found g t c =
-    let game = c.args.game.now in
-    let at = subst (IsTold c.args.pass (verdict_of (g.M.Memo.entries c.args.memo.now) c.in_ok-key.key)) c.in-Settled.is c.known-told.ensures.told in
-    let told = subst (λ (p : Position). verdict_of (g.M.Memo.entries c.args.memo.now) p ≡ Some c.in-Settled.verdict) c.in_ok-key.ensures.ok at.0 in
-    finds_known game c.args.pass c.args.search.now c.args.position.now (g.M.Memo.entries c.args.memo.now) (g.M.Memo.entries c.known-told.new.memo) c.in-Settled.verdict
-    c.requires.sound c.requires.may told at.1 c.known-told.ensures.same
+    let at = subst (IsTold c.args.pass (verdict_of (g.M.Memo.entries c.args.memo.now) c.args.key)) c.in-Settled.is c.known-told.ensures.told in
+    finds_known c.args.game.now c.args.pass c.args.search.now c.args.key (g.M.Memo.entries c.args.memo.now) (g.M.Memo.entries c.known-told.new.memo)
+    c.in-Settled.verdict c.requires.sound c.requires.may at.0 at.1 c.known-told.ensures.same
 
 pub expand-returns-in-Settled-clause-serves : goal.expand-returns-in-Settled-clause-serves
 expand-returns-in-Settled-clause-serves g t c =
-    let at = subst (IsTold c.args.pass (verdict_of (g.M.Memo.entries c.args.memo.now) c.in_ok-key.key)) c.in-Settled.is c.known-told.ensures.told in
-    let told = subst (λ (p : Position). verdict_of (g.M.Memo.entries c.args.memo.now) p ≡ Some c.in-Settled.verdict) c.in_ok-key.ensures.ok at.0 in
-    serves_known c.args.game.now c.args.search.now c.args.position.now (g.M.Memo.entries c.args.memo.now) (g.M.Memo.entries c.known-told.new.memo)
-    c.in-Settled.verdict told c.known-told.ensures.same
+    let at = subst (IsTold c.args.pass (verdict_of (g.M.Memo.entries c.args.memo.now) c.args.key)) c.in-Settled.is c.known-told.ensures.told in
+    serves_known c.args.game.now c.args.search.now c.args.key (g.M.Memo.entries c.args.memo.now) (g.M.Memo.entries c.known-told.new.memo)
+    c.in-Settled.verdict at.0 c.known-told.ensures.same
 
 pub expand-decide-requires : goal.expand-decide-requires
 expand-decide-requires g t c κs l =
+    let game = c.args.game.now in
     let s = c.args.search.now in
+    let p = c.args.key in
     let e0 = g.M.Memo.entries c.args.memo.now in
     let e1 = g.M.Memo.entries c.known-told.new.memo in
+    let is = sym c.position_of-position.ensures in
     let counted = c.in_ok-visit.ensures.ok in
     let left : s.meter.count ≡ s.meter.budget → ⊥ = λ e. let bad = c.in_ok-visit.ensures.spent.1 e in cc in
-    let key = subst (λ (p : Position). IsTold c.args.pass (verdict_of e0 p) c.known-told.result) c.in_ok-key.ensures.ok c.known-told.ensures.told in
-    let told = subst (λ o. IsTold c.args.pass o c.known-told.result) (sym (c.known-told.ensures.same.values c.args.position.now)) key in
+    let told = subst (λ o. IsTold c.args.pass o c.known-told.result) (sym (c.known-told.ensures.same.values p)) c.known-told.ensures.told in
+    let unfinished : Finishes game p.loads → ⊥ =
+    λ finishes. false≢true (sym c.if-finishes.false ∙ c.finishes.ensures.exact.1 (subst (Finishes game) (sym c.requires.of_key) finishes)) in
     let behind = c.requires.behind.1 in
     let one : c.visit.new.self.count ≡ s.meter.count + 1 = ap (λ (m : Metered). m.count) counted in (
-      omega (arith, c.decreases),
+      omega (arith, c.decreases, ap (λ (q : Position). sum q.items) is),
       (
         l,
         (
-          sound_visited c.args.game.now c.args.pass s c.args.position.now e0 e1 c.visit.new.self c.requires.sound c.requires.may counted left c.known-told.ensures.same,
+          is,
           (
-            c.requires.may.stands,
+            sound_visited game c.args.pass s p e0 e1 c.visit.new.self c.requires.sound c.requires.may counted left c.known-told.ensures.same,
             (
-              (λ finishes. false≢true (sym c.if-finishes.false ∙ c.finishes.ensures.exact.1 finishes)),
+              subst (StandsAtPath game c.args.pass s.path) is c.requires.may.stands,
               (
-                ap (λ (m : Metered). m.last) counted,
+                subst (λ (q : Position). Finishes game q.loads → ⊥) is unfinished,
                 (
-                  told,
+                  ap (λ (m : Metered). m.last) counted,
                   (
+                    subst (λ (q : Position). IsTold c.args.pass (verdict_of e1 q) c.known-told.result) is told,
                     (
-                      c.requires.behind.0,
-                      (omega (arith, behind.0, one), AreServed-same c.args.game.now c.requires.behind.0 s.replies e0 e1 c.known-told.ensures.same behind.1),
+                      (
+                        c.requires.behind.0,
+                        (omega (arith, behind.0, one), AreServed-same game c.requires.behind.0 s.replies e0 e1 c.known-told.ensures.same behind.1),
+                      ),
+                      subst (λ (q : Position). IsBound game q.items s.most) is c.requires.may.bound,
                     ),
-                    c.requires.may.bound,
                   ),
                 ),
               ),
@@ -97,38 +102,16 @@ expand-decide-requires g t c κs l =
       ),
     )
 
-pub expand-returns-then-finishes-clause-found : goal.expand-returns-then-finishes-clause-found
-expand-returns-then-finishes-clause-found g t c =
-    let game = c.args.game.now in
-    let s = c.args.search.now in
-    let p = c.args.position.now in
-    let e0 = g.M.Memo.entries c.args.memo.now in
-    let e1 = g.M.Memo.entries c.known-told.new.memo in
-    let e2 = g.M.Memo.entries c.remember_finish.new.memo in
-    let counted = c.in_ok-visit.ensures.ok in
-    let left : s.meter.count ≡ s.meter.budget → ⊥ = λ e. let bad = c.in_ok-visit.ensures.spent.1 e in cc in
-    let finishes = c.finishes.ensures.exact.0 c.if-finishes.true in
-    let sound = sound_visited game c.args.pass s p e0 e1 c.visit.new.self c.requires.sound c.requires.may counted left c.known-told.ensures.same in
-    finds_finish game c.args.pass s c.visit.new.self p e1 e2 counted sound (ap (λ (m : Metered). m.last) counted)
-    (record { told = refl; finishes = finishes; never = IsNeverWon-finish game p c.game_is_legal.ensures c.requires.may.stands.playable finishes })
-    (subst (λ (p : Position). PutsOnly e1 e2 p (Algorithm FINISHES)) c.in_ok-key.ensures.ok c.in_ok-remember_finish.ensures.only)
-
-pub expand-returns-then-finishes-clause-serves : goal.expand-returns-then-finishes-clause-serves
-expand-returns-then-finishes-clause-serves g t c =
-    let e1 = g.M.Memo.entries c.known-told.new.memo in
-    let e2 = g.M.Memo.entries c.remember_finish.new.memo in
-    serves_finished c.args.game.now c.args.search.now c.visit.new.self (visit c.args.pass c.args.search.now.path) c.args.position.now (g.M.Memo.entries c.args.memo.now) e1 e2
-    c.in_ok-visit.ensures.ok c.known-told.ensures.same
-    (subst (λ (p : Position). PutsOnly e1 e2 p (Algorithm FINISHES)) c.in_ok-key.ensures.ok c.in_ok-remember_finish.ensures.only)
-
 pub expand-returns-clause-serves : goal.expand-returns-clause-serves
 expand-returns-clause-serves g t c =
+    let s1 = record c.args.search.now { meter = c.visit.new.self } in
+    let e1 = g.M.Memo.entries c.known-told.new.memo in
     let e2 = g.M.Memo.entries c.decide.new.memo in
     let e3 = g.M.Memo.entries c.remember.new.memo in
-    serves_expanded c.args.game.now c.args.search.now c.decide.new.search c.visit.new.self (visit c.args.pass c.args.search.now.path) c.args.position.now
-    (g.M.Memo.entries c.args.memo.now)
-    (g.M.Memo.entries c.known-told.new.memo) e2 e3 c.in_ok-verdict.verdict c.in_ok-visit.ensures.ok c.known-told.ensures.same c.in_ok-verdict.ensures.serves
-    (subst (λ (p : Position). PutsOnly e2 e3 p c.in_ok-verdict.verdict) c.in_ok-key.ensures.ok c.in_ok-remember.ensures.only)
+    let serves = subst (λ (q : Position). KeepsServing c.args.game.now 1 s1 e1 c.decide.new.search e2 (λ later. IsServedBy c.args.game.now later q c.in_ok-verdict.verdict))
+    c.position_of-position.ensures c.in_ok-verdict.ensures.serves in
+    serves_expanded c.args.game.now c.args.search.now c.decide.new.search c.visit.new.self (visit c.args.pass c.args.search.now.path) c.args.key
+    (g.M.Memo.entries c.args.memo.now) e1 e2 e3 c.in_ok-verdict.verdict c.in_ok-visit.ensures.ok c.known-told.ensures.same serves c.in_ok-remember.ensures.only
 
 -- ---- decide
 
@@ -138,13 +121,13 @@ decide-weigh_all-requires g t c κs l = (
   (
     l,
     (
-      c.requires.sound,
+      c.requires.of_key, (c.requires.sound,
       (
         opens c.args.game.now c.args.pass c.args.search.now c.room_up_to.new.self c.args.position.now c.in_ok-room.room c.requires.stands c.requires.visited
             c.requires.unfinished c.in_ok-room.ensures.exact,
         (c.in_ok-room.ensures.exact, (c.requires.told, c.requires.behind)),
       ),
-    ),
+    )),
   ),
 )
 
@@ -180,20 +163,24 @@ try_load-returns-then-load-size-clause-found g t c =
 
 pub try_load-expand-requires : goal.try_load-expand-requires
 try_load-expand-requires g t c κs l =
+    let is = child_is c.args.position.now c.args.key.now c.in_ok-next.next c.loads_after-loads.result c.args.size c.args.load c.requires.of_key c.loads_after-loads.ensures c.in_ok-next.ensures in
     let below : c.args.load + c.args.size < c.args.game.now.target = omega (arith, c.if-load-size.false, c.t-target.ensures.value) in
     let items = sum-put_ascending c.args.size c.args.position.now.items in
-    let child : sum c.after-next.result.items ≡ c.args.size + sum c.args.position.now.items = ap (λ (p : Position). sum p.items) c.after-next.ensures ∙ items in
+    let child : sum c.in_ok-next.next.items ≡ c.args.size + sum c.args.position.now.items = ap (λ (p : Position). sum p.items) is ∙ items in
     let total = total_with c.args.game.now c.args.position.now c.args.size c.requires.may_come.packable in
     let low = (size_of_last c.args.game.now c.args.position.now.items c.args.size c.requires.may_come.packable).low in (
       omega (arith, c.decreases, child, total, low),
       (
         l,
         (
-          c.requires.sound,
+          sym (ap (λ (p : Position). p.loads) c.in_ok-next.ensures),
           (
-            may_visit_child c.args.game.now c.args.pass c.args.search.now c.push.new.self c.args.position.now c.after-next.result c.args.size c.args.load
-                c.requires.at_load c.requires.may_come below c.in_ok-push.ensures.ok c.after-next.ensures,
-            c.requires.behind,
+            c.requires.sound,
+            (
+              may_visit_child c.args.game.now c.args.pass c.args.search.now c.push.new.self c.args.position.now c.in_ok-next.next c.args.size c.args.load
+                  c.requires.at_load c.requires.may_come below c.in_ok-push.ensures.ok is,
+              c.requires.behind,
+            ),
           ),
         ),
       ),
@@ -205,9 +192,10 @@ try_load-returns-then-load-size-clause-serves g t c =
 
 pub try_load-returns-clause-serves : goal.try_load-returns-clause-serves
 try_load-returns-clause-serves g t c spare unnamed behind =
+    let is = child_is c.args.position.now c.args.key.now c.in_ok-next.next c.loads_after-loads.result c.args.size c.args.load c.requires.of_key c.loads_after-loads.ensures c.in_ok-next.ensures in
     let h = c.in_ok-verdict.ensures.serves spare unnamed behind in
     let s = record c.expand.new.search { path = c.pop.new.self } in
-    let served = served_at c.args.game.now h.later c.args.position.now c.after-next.result c.args.size c.args.load c.in_ok-verdict.verdict c.after-next.ensures h.more in
+    let served = served_at c.args.game.now h.later c.args.position.now c.in_ok-next.next c.args.size c.args.load c.in_ok-verdict.verdict is h.more in
     record {
       later = h.later;
       behind = h.behind;
@@ -217,10 +205,11 @@ try_load-returns-clause-serves g t c spare unnamed behind =
 
 pub try_load-returns-clause-found : goal.try_load-returns-clause-found
 try_load-returns-clause-found g t c =
+    let is = child_is c.args.position.now c.args.key.now c.in_ok-next.next c.loads_after-loads.result c.args.size c.args.load c.requires.of_key c.loads_after-loads.ensures c.in_ok-next.ensures in
     let game = c.args.game.now in
     let below : c.args.load + c.args.size < game.target = omega (arith, c.if-load-size.false, c.t-target.ensures.value) in
-    let came = reached_child game c.args.pass c.args.search.now c.expand.new.search c.push.new.self c.pop.new.self c.pop.result c.args.position.now c.after-next.result
-    c.args.size c.args.load (g.M.Memo.entries c.expand.new.memo) c.in_ok-verdict.verdict below c.in_ok-push.ensures.ok c.after-next.ensures c.in_ok-verdict.ensures.found
+    let came = reached_child game c.args.pass c.args.search.now c.expand.new.search c.push.new.self c.pop.new.self c.pop.result c.args.position.now c.in_ok-next.next
+    c.args.size c.args.load (g.M.Memo.entries c.expand.new.memo) c.in_ok-verdict.verdict below c.in_ok-push.ensures.ok is c.in_ok-verdict.ensures.found
     c.pop.ensures.exact in
     (came.0, subst (HasReached game c.args.pass (record c.expand.new.search { path = c.pop.new.self }) c.args.position.now c.args.size c.args.load) (sym c.reach_of.ensures) came.1)
 
@@ -233,7 +222,7 @@ try_size-try_load-requires g t c κs l =
       (
         l,
         (
-          i.went.sound,
+          c.requires.of_key, (i.went.sound,
           (
             opens_load c.args.game.now c.args.pass c.args.search.now c.loop-i.search c.args.position.now c.args.size c.loop-i.i c.distinct_at-load.result
                 (g.M.Memo.entries c.loop-i.memo) c.requires.from_size i.went i.won (omega (arith, c.loop-i-test.true, c.distinct_count-i-end.ensures.value))
@@ -244,7 +233,7 @@ try_size-try_load-requires g t c κs l =
                   (λ later. Unit {0}) i.serves c.requires.behind,
             ),
           ),
-        ),
+        )),
       ),
     )
 
@@ -343,7 +332,7 @@ weigh-try_size-requires g t c κs l = (
   (
     l,
     (
-      c.requires.sound,
+      c.requires.of_key, (c.requires.sound,
       (
         c.requires.from_size,
         (
@@ -355,7 +344,7 @@ weigh-try_size-requires g t c κs l = (
           ),
         ),
       ),
-    ),
+    )),
   ),
 )
 
@@ -458,7 +447,7 @@ weigh_all-weigh-requires g t c κs l =
       (
         l,
         (
-          i.went.sound,
+          c.requires.of_key, (i.went.sound,
           (
             opens_size game c.args.pass c.args.search.now c.loop-tried.search c.args.position.now c.args.room size (g.M.Memo.entries c.loop-tried.memo)
                 c.requires.from_room i.went i.none,
@@ -468,7 +457,7 @@ weigh_all-weigh-requires g t c κs l =
                   c.loop-tried.memo) _ i.serves c.requires.behind,
             ),
           ),
-        ),
+        )),
       ),
     )
 
@@ -645,89 +634,72 @@ weigh_all-returns-clause-serves g t c =
 
 pub expand-returns-in-Settled-clause-counts : goal.expand-returns-in-Settled-clause-counts
 expand-returns-in-Settled-clause-counts g t c =
-    CountsFresh-same c.args.game.now c.args.pass (sum c.args.position.now.items) c.args.search.now.meter (g.M.Memo.entries c.args.memo.now) (g.M.Memo.entries c.known-told.new.memo)
+    CountsFresh-same c.args.game.now c.args.pass (sum c.args.key.items) c.args.search.now.meter (g.M.Memo.entries c.args.memo.now) (g.M.Memo.entries c.known-told.new.memo)
     (g.M.Memo.room c.args.memo.now) (g.M.Memo.room c.known-told.new.memo) c.known-told.ensures.same c.known-told.ensures.capacity
-
-pub expand-returns-then-finishes-clause-counts : goal.expand-returns-then-finishes-clause-counts
-expand-returns-then-finishes-clause-counts g t c =
-    let game = c.args.game.now in
-    let p = c.args.position.now in
-    let path = c.args.search.now.path in
-    let a = progress c.args.search.now.meter (g.M.Memo.entries c.args.memo.now) (g.M.Memo.room c.args.memo.now) in
-    let e1 = g.M.Memo.entries c.known-told.new.memo in
-    let b = progress c.visit.new.self e1 (g.M.Memo.room c.known-told.new.memo) in
-    let e2 = g.M.Memo.entries c.remember_finish.new.memo in
-    let fresh = fresh_at c.args.pass a.entries c.in_ok-key.key p c.known-told.result c.in_ok-key.ensures.ok c.known-told.ensures.told c.in_default.not-Settled in
-    let visited : IsVisited game c.args.pass p path a b =
-    record { stands = c.requires.may.stands; fresh = fresh; meter = c.in_ok-visit.ensures.ok; same = c.known-told.ensures.same; room = c.known-told.ensures.capacity } in
-    let finishes = c.finishes.ensures.exact.0 c.if-finishes.true in
-    let none = c.known-told.ensures.same.values p ∙ none_for_finish game c.args.pass c.args.search.now.wins.nodes c.args.search.now.replies a.entries p
-    c.requires.sound.known finishes fresh in
-    let put = subst (λ (p : Position). length e1 < b.room → (more : ℕ) × Puts are_equal e1 e2 p (Algorithm FINISHES) more) c.in_ok-key.ensures.ok
-    c.in_ok-remember_finish.ensures.put in
-    CountsFresh-visited game c.args.pass p path a b b e2 (g.M.Memo.room c.remember_finish.new.memo) (Algorithm FINISHES) visited
-    (CountsFresh-refl game c.args.pass (sum p.items + 1) b) tt c.remember_finish.ensures.valid (λ left. put (left none)) c.remember_finish.ensures.capacity
 
 pub expand-returns-clause-found : goal.expand-returns-clause-found
 expand-returns-clause-found g t c =
+    let s1 = record c.args.search.now { meter = c.visit.new.self } in
     let e1 = g.M.Memo.entries c.decide.new.memo in
     let e2 = g.M.Memo.entries c.remember.new.memo in
-    finds_expanded c.args.game.now c.args.pass c.args.search.now c.decide.new.search c.visit.new.self c.args.position.now e1 e2 c.in_ok-verdict.verdict c.in_ok-visit.ensures.ok
-    c.in_ok-verdict.ensures.found (subst (λ (p : Position). PutsOnly e1 e2 p c.in_ok-verdict.verdict) c.in_ok-key.ensures.ok c.in_ok-remember.ensures.only)
+    let found = subst (λ (q : Position). FindsVerdict c.args.game.now c.args.pass q s1 c.decide.new.search e1 c.in_ok-verdict.verdict)
+    c.position_of-position.ensures c.in_ok-verdict.ensures.found in
+    finds_expanded c.args.game.now c.args.pass c.args.search.now c.decide.new.search c.visit.new.self c.args.key e1 e2 c.in_ok-verdict.verdict c.in_ok-visit.ensures.ok
+    found c.in_ok-remember.ensures.only
 
 pub expand-returns-clause-counts : goal.expand-returns-clause-counts
 expand-returns-clause-counts g t c =
     let game = c.args.game.now in
-    let p = c.args.position.now in
+    let p = c.args.key in
     let path = c.args.search.now.path in
     let verdict = c.in_ok-verdict.verdict in
     let a = progress c.args.search.now.meter (g.M.Memo.entries c.args.memo.now) (g.M.Memo.room c.args.memo.now) in
     let b = progress c.visit.new.self (g.M.Memo.entries c.known-told.new.memo) (g.M.Memo.room c.known-told.new.memo) in
     let e1 = g.M.Memo.entries c.decide.new.memo in
-    let e2 = g.M.Memo.entries c.remember.new.memo in
-    let r1 = g.M.Memo.room c.decide.new.memo in
-    let fresh = fresh_at c.args.pass a.entries c.in_ok-key.key p c.known-told.result c.in_ok-key.ensures.ok c.known-told.ensures.told c.in_default.not-Settled in
+    let d = progress c.decide.new.search.meter e1 (g.M.Memo.room c.decide.new.memo) in
+    let fresh = fresh_at c.args.pass a.entries c.args.key c.args.key c.known-told.result refl c.known-told.ensures.told c.in_default.not-Settled in
     let visited : IsVisited game c.args.pass p path a b =
     record { stands = c.requires.may.stands; fresh = fresh; meter = c.in_ok-visit.ensures.ok; same = c.known-told.ensures.same; room = c.known-told.ensures.capacity } in
-    CountsFresh-visited game c.args.pass p path a b (progress c.decide.new.search.meter e1 r1) e2 (g.M.Memo.room c.remember.new.memo) verdict visited c.in_ok-verdict.ensures.counts
-    c.in_ok-verdict.ensures.found.tells.of_pass c.remember.ensures.valid
-    (subst (λ (p : Position). (verdict_of e1 p ≡ None → length e1 < r1) → (more : ℕ) × Puts are_equal e1 e2 p verdict more) c.in_ok-key.ensures.ok c.in_ok-remember.ensures.put)
-    c.remember.ensures.capacity
+    let counts = subst (λ (q : Position). CountsFresh game c.args.pass (sum q.items + 1) b d) c.position_of-position.ensures c.in_ok-verdict.ensures.counts in
+    CountsFresh-visited game c.args.pass p path a b d (g.M.Memo.entries c.remember.new.memo) (g.M.Memo.room c.remember.new.memo) verdict visited counts
+    c.in_ok-verdict.ensures.found.tells.of_pass c.remember.ensures.valid c.in_ok-remember.ensures.put c.remember.ensures.capacity
 
 pub expand-returns-in_err-visit-clause-counts : goal.expand-returns-in_err-visit-clause-counts
 expand-returns-in_err-visit-clause-counts g t c =
     let game = c.args.game.now in
-    let p = c.args.position.now in
+    let p = c.args.key in
     let fault = c.in_err-visit.field-0.0 in
     let a = progress c.args.search.now.meter (g.M.Memo.entries c.args.memo.now) (g.M.Memo.room c.args.memo.now) in
-    let fresh = fresh_at c.args.pass a.entries c.in_ok-key.key p c.known-told.result c.in_ok-key.ensures.ok c.known-told.ensures.told c.in_default.not-Settled in
+    let fresh = fresh_at c.args.pass a.entries c.args.key c.args.key c.known-told.result refl c.known-told.ensures.told c.in_default.not-Settled in
     let short = IsShort-fault game c.args.pass p c.args.search.now.path a fault c.requires.may.stands fresh (λ e. c.in_err-visit.ensures.spent.0 (ap Err e)) in
-    passed_on _ (IsShort game c.args.pass (sum p.items) a) fault c.from_residual-in_err-visit.result c.from_residual-in_err-visit.ensures.1 short
+    passed_on _ (IsShort game c.args.pass (sum p.items) a) fault c.from_residual.result c.from_residual.ensures.1 short
 
 pub expand-returns-in_err-verdict-clause-counts : goal.expand-returns-in_err-verdict-clause-counts
 expand-returns-in_err-verdict-clause-counts g t c =
     let game = c.args.game.now in
-    let p = c.args.position.now in
+    let p = c.args.key in
     let path = c.args.search.now.path in
     let fault = c.in_err-verdict.field-0.0 in
     let a = progress c.args.search.now.meter (g.M.Memo.entries c.args.memo.now) (g.M.Memo.room c.args.memo.now) in
     let b = progress c.visit.new.self (g.M.Memo.entries c.known-told.new.memo) (g.M.Memo.room c.known-told.new.memo) in
-    let fresh = fresh_at c.args.pass a.entries c.in_ok-key.key p c.known-told.result c.in_ok-key.ensures.ok c.known-told.ensures.told c.in_default.not-Settled in
+    let fresh = fresh_at c.args.pass a.entries c.args.key c.args.key c.known-told.result refl c.known-told.ensures.told c.in_default.not-Settled in
     let visited : IsVisited game c.args.pass p path a b =
     record { stands = c.requires.may.stands; fresh = fresh; meter = c.in_ok-visit.ensures.ok; same = c.known-told.ensures.same; room = c.known-told.ensures.capacity } in
+    let counts = subst (λ (q : Position). IsShort game c.args.pass (sum q.items + 1) b fault) c.position_of-position.ensures c.in_err-verdict.ensures.counts in
     passed_on _ (IsShort game c.args.pass (sum p.items) a) fault c.from_residual-in_err-verdict.result c.from_residual-in_err-verdict.ensures.1
-    (IsShort-visited game c.args.pass p path a b fault visited c.in_err-verdict.ensures.counts)
+    (IsShort-visited game c.args.pass p path a b fault visited counts)
 
 pub try_load-returns-in_err-verdict-clause-counts : goal.try_load-returns-in_err-verdict-clause-counts
 try_load-returns-in_err-verdict-clause-counts g t c =
+    let is = child_is c.args.position.now c.args.key.now c.in_ok-next.next c.loads_after-loads.result c.args.size c.args.load c.requires.of_key c.loads_after-loads.ensures c.in_ok-next.ensures in
     let game = c.args.game.now in
     let p = c.args.position.now in
     let fault = c.in_err-verdict.field-0.0 in
     let a = progress c.args.search.now.meter (g.M.Memo.entries c.args.memo.now) (g.M.Memo.room c.args.memo.now) in
     let up = volume_after game c.args.pass p c.args.load c.args.size c.requires.may_come.packable in
-    let more : sum p.items + 1 ≤ sum c.after-next.result.items = subst (λ (q : Position). sum p.items + 1 ≤ sum q.items) (sym c.after-next.ensures) up in
+    let more : sum p.items + 1 ≤ sum c.in_ok-next.next.items = subst (λ (q : Position). sum p.items + 1 ≤ sum q.items) (sym is) up in
     passed_on _ (IsShort game c.args.pass (sum p.items + 1) a) fault c.from_residual-in_err-verdict.result c.from_residual-in_err-verdict.ensures.1
-    (IsShort-above game c.args.pass (sum p.items + 1) (sum c.after-next.result.items) a fault more c.in_err-verdict.ensures.counts)
+    (IsShort-above game c.args.pass (sum p.items + 1) (sum c.in_ok-next.next.items) a fault more c.in_err-verdict.ensures.counts)
 
 pub try_size-returns-in_err-next-clause-counts : goal.try_size-returns-in_err-next-clause-counts
 try_size-returns-in_err-next-clause-counts g t c =
@@ -780,7 +752,8 @@ try_load-returns-then-load-size-clause-counts g t c = CountsFresh-refl c.args.ga
 
 pub try_load-returns-clause-counts : goal.try_load-returns-clause-counts
 try_load-returns-clause-counts g t c =
+    let is = child_is c.args.position.now c.args.key.now c.in_ok-next.next c.loads_after-loads.result c.args.size c.args.load c.requires.of_key c.loads_after-loads.ensures c.in_ok-next.ensures in
     let up = volume_after c.args.game.now c.args.pass c.args.position.now c.args.load c.args.size c.requires.may_come.packable in
-    let more : sum c.args.position.now.items + 1 ≤ sum c.after-next.result.items = subst (λ (p : Position). sum c.args.position.now.items + 1 ≤ sum p.items)
-    (sym c.after-next.ensures) up in
-    CountsFresh-above c.args.game.now c.args.pass (sum c.args.position.now.items + 1) (sum c.after-next.result.items) _ _ more c.in_ok-verdict.ensures.counts
+    let more : sum c.args.position.now.items + 1 ≤ sum c.in_ok-next.next.items = subst (λ (p : Position). sum c.args.position.now.items + 1 ≤ sum p.items)
+    (sym is) up in
+    CountsFresh-above c.args.game.now c.args.pass (sum c.args.position.now.items + 1) (sum c.in_ok-next.next.items) _ _ more c.in_ok-verdict.ensures.counts

@@ -10,7 +10,7 @@ use Rattle.minimax.specs.State.{FollowsUp, IsPending, IsWonIn, WentOn, WinsBy, n
 use Rattle.minimax.proofs.expanding.+expanding.Given as goal
 
 abbrev pub decreases-expand : goal.decreases-expand
-decreases-expand g l = 6 * (l.game.now.bins * l.game.now.capacity - sum l.position.now.items) + 5
+decreases-expand g l = 6 * (l.game.now.bins * l.game.now.capacity - sum l.key.items) + 5
 
 abbrev pub decreases-decide : goal.decreases-decide
 decreases-decide g l = 6 * (l.game.now.bins * l.game.now.capacity - sum l.position.now.items) + 4

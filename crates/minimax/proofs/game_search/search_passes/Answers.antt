@@ -6,6 +6,7 @@ use Rattle.monotone.specs.Visits.{IsLater, Metered, visit}
 use Rattle.minimax.specs.Serving.{IsServedBy, KeepsServing}
 use Rattle.minimax.specs.State.{FindsVerdict, IsNeverWon, IsPlayable, IsSpent, IsWonIn, Stops}
 use Rattle.minimax.specs.Fresh.{IsShort, progress}
+use Rattle.minimax.specs.Writing.{MayWrite}
 use Rattle.minimax.proofs.FreshLemmas.{IsLessThanEnds-short, IsWithinEnds-next, IsWithinEnds-start}
 use Rattle.minimax.proofs.StateLemmas.{AreSound-later, never_by_led}
 use Rattle.minimax.proofs.RootLemmas.{AreSound-new, HasSpare-new, IsDue-spent, IsFor-win, IsPlayable-empty, may_visit_root, may_write, none_more, root_of_win}
@@ -37,18 +38,18 @@ loop-pass-init g c = record {
 pub expand-requires-clause-may : goal.expand-requires-clause-may
 expand-requires-clause-may g c =
     let game = c.args.game.now in
-    let root = ap (λ xs. position xs c.empty.result) c.zero.ensures.value ∙ ap (position (empty_position game).loads) c.empty.ensures.none in
-    may_visit_root game c.loop-pass.pass c.loop-pass.search (position c.zero.result c.empty.result) c.loop-pass.invariant.of_game
+    let root = c.in_ok-key.ensures.ok ∙ ap (λ xs. position xs c.empty.result) c.zero.ensures.value ∙ ap (position (empty_position game).loads) c.empty.ensures.none in
+    may_visit_root game c.loop-pass.pass c.loop-pass.search c.in_ok-key.key c.loop-pass.invariant.of_game
     (subst (IsLoads game) c.zero.ensures.value c.zero.ensures.legal) root c.loop-pass.invariant.path c.loop-pass.invariant.most c.loop-pass.invariant.later
 
 pub into_strategy-requires : goal.into_strategy-requires
 into_strategy-requires g c =
     let game = c.args.game.now in
     let e = g.M.Memo.entries c.expand.new.memo in
-    let root = ap (λ xs. position xs c.empty.result) c.zero.ensures.value ∙ ap (position (empty_position game).loads) c.empty.ensures.none in
-    let finds = subst (FindsVerdict game c.loop-pass.pass (position c.zero.result c.empty.result) c.loop-pass.search c.expand.new.search e) c.in-Ok-Adversary.field-0-is
+    let root = c.in_ok-key.ensures.ok ∙ ap (λ xs. position xs c.empty.result) c.zero.ensures.value ∙ ap (position (empty_position game).loads) c.empty.ensures.none in
+    let finds = subst (FindsVerdict game c.loop-pass.pass c.in_ok-key.key c.loop-pass.search c.expand.new.search e) c.in-Ok-Adversary.field-0-is
     c.in-Ok-Adversary.ensures.found in
-    record { root = root_of_win game c.loop-pass.pass c.expand.new.search.wins.nodes c.in-Ok-Adversary.number (position c.zero.result c.empty.result) root finds.tells.says }
+    record { root = root_of_win game c.loop-pass.pass c.expand.new.search.wins.nodes c.in-Ok-Adversary.number c.in_ok-key.key root finds.tells.says }
 
 -- the root in the search, and what was found of it
 pub returns-in-Ok-Adversary-clause-answer : goal.returns-in-Ok-Adversary-clause-answer
@@ -57,7 +58,7 @@ returns-in-Ok-Adversary-clause-answer g c =
     let e0 = g.M.Memo.entries c.loop-pass.memo in
     let e = g.M.Memo.entries c.expand.new.memo in
     let s = c.expand.new.search in
-    let root = position c.zero.result c.empty.result in
+    let root = c.in_ok-key.key in
     let finds = subst (FindsVerdict game c.loop-pass.pass root c.loop-pass.search s e) c.in-Ok-Adversary.field-0-is c.in-Ok-Adversary.ensures.found in
     let behind = spare_after c.args.game.now 0 0 c.loop-pass.search s e0 e _ c.in-Ok-Adversary.ensures.serves c.loop-pass.invariant.behind in (
       c.into_strategy.ensures.legal,
@@ -71,17 +72,17 @@ write_replies-requires g c =
     let e0 = g.M.Memo.entries c.loop-pass.memo in
     let e = g.M.Memo.entries c.expand.new.memo in
     let s = c.expand.new.search in
-    let root = position c.zero.result c.empty.result in
+    let root = c.in_ok-key.key in
     let told : ℕ = c.in-Ok-Algorithm.told in
-    let is = ap (λ xs. position xs c.empty.result) c.zero.ensures.value ∙ ap (position (empty_position game).loads) c.empty.ensures.none in
+    let is = c.in_ok-key.ensures.ok ∙ ap (λ xs. position xs c.empty.result) c.zero.ensures.value ∙ ap (position (empty_position game).loads) c.empty.ensures.none in
     let finds = subst (FindsVerdict game c.loop-pass.pass root c.loop-pass.search s e) c.in-Ok-Algorithm.field-0-is c.in-Ok-Algorithm.ensures.found in
     let serves = subst (λ v. KeepsServing game 0 c.loop-pass.search e0 s e (λ later. IsServedBy game later root v)) c.in-Ok-Algorithm.field-0-is c.in-Ok-Algorithm.ensures.serves in
     let behind = c.loop-pass.invariant.behind in
     let h = serves 0 behind.0 behind.1 in
     let playable = subst (IsPlayable game) (sym is) (IsPlayable-empty game (subst (IsLoads game) c.zero.ensures.value c.zero.ensures.legal)) in
     record {
-      may = may_write game c.loop-pass.pass c.args.budget s e root told finds.went.sound (h.later, h.behind) (finds.went.goes.budget ∙ c.loop-pass.invariant.budget) h.more playable
-          is finds.tells.says;
+      may = subst (λ q. MayWrite game s.replies q told c.args.budget) c.in_ok-key.ensures.ok (may_write game c.loop-pass.pass c.args.budget s e root told finds.went.sound (h.later, h.behind) (finds.went.goes.budget ∙ c.loop-pass.invariant.budget) h.more playable
+          is finds.tells.says);
     }
 
 pub returns-in-Err-Spent-clause-answer : goal.returns-in-Err-Spent-clause-answer
@@ -94,7 +95,7 @@ pub returns-in-Err-Spent-clause-within : goal.returns-in-Err-Spent-clause-within
 returns-in-Err-Spent-clause-within g c =
     let game = c.args.game.now in
     let at = progress c.loop-pass.search.meter (g.M.Memo.entries c.loop-pass.memo) (g.M.Memo.room c.loop-pass.memo) in
-    let volume : ℕ = sum c.empty.result in
+    let volume : ℕ = sum c.in_ok-key.key.items in
     let short = subst (IsShort game c.loop-pass.pass volume at) c.in-Err-Spent.field-0-is c.in-Err-Spent.ensures.counts in
     IsLessThanEnds-short game (g.M.Memo.room c.args.memo.now) c.args.budget c.loop-pass.pass volume at c.loop-pass.invariant.ends short
 
@@ -103,10 +104,10 @@ returns-in-Ok-Algorithm-clause-within g c =
     let game = c.args.game.now in
     let e = g.M.Memo.entries c.expand.new.memo in
     let s = c.expand.new.search in
-    let root = ap (λ xs. position xs c.empty.result) c.zero.ensures.value ∙ ap (position (empty_position game).loads) c.empty.ensures.none in
-    let finds = subst (FindsVerdict game c.loop-pass.pass (position c.zero.result c.empty.result) c.loop-pass.search s e) c.in-Ok-Algorithm.field-0-is
+    let root = c.in_ok-key.ensures.ok ∙ ap (λ xs. position xs c.empty.result) c.zero.ensures.value ∙ ap (position (empty_position game).loads) c.empty.ensures.none in
+    let finds = subst (FindsVerdict game c.loop-pass.pass c.in_ok-key.key c.loop-pass.search s e) c.in-Ok-Algorithm.field-0-is
     c.in-Ok-Algorithm.ensures.found in
-    subst (IsNeverWon game) root (never_by_led game c.loop-pass.pass s.meter s.wins s.replies e (position c.zero.result c.empty.result)
+    subst (IsNeverWon game) root (never_by_led game c.loop-pass.pass s.meter s.wins s.replies e c.in_ok-key.key
     c.in-Ok-Algorithm.told finds.went.sound finds.tells.says)
 
 pub loop-pass-preserved : goal.loop-pass-preserved
@@ -115,13 +116,13 @@ loop-pass-preserved g c =
     let pass : ℕ = c.loop-pass.pass in
     let s2 = c.expand.new.search in
     let e = g.M.Memo.entries c.expand.new.memo in
-    let root = ap (λ xs. position xs c.empty.result) c.zero.ensures.value ∙ ap (position (empty_position game).loads) c.empty.ensures.none in
-    let finds = subst (FindsVerdict game pass (position c.zero.result c.empty.result) c.loop-pass.search s2 e) c.in-Ok-Held.field-0-is c.in-Ok-Held.ensures.found in
+    let root = c.in_ok-key.ensures.ok ∙ ap (λ xs. position xs c.empty.result) c.zero.ensures.value ∙ ap (position (empty_position game).loads) c.empty.ensures.none in
+    let finds = subst (FindsVerdict game pass c.in_ok-key.key c.loop-pass.search s2 e) c.in-Ok-Held.field-0-is c.in-Ok-Held.ensures.found in
     let goes = finds.went.goes in
     record {
       sound = AreSound-later game pass s2.meter s2.wins s2.replies e (pass + 1) (omega arith) finds.went.sound;
       behind = spare_after c.args.game.now 0 0 c.loop-pass.search s2 (g.M.Memo.entries c.loop-pass.memo) e _ c.in-Ok-Held.ensures.serves c.loop-pass.invariant.behind;
-      ends = IsWithinEnds-next game (g.M.Memo.room c.args.memo.now) c.args.budget pass (sum c.empty.result) _ _ c.loop-pass.invariant.ends c.in-Ok-Held.ensures.counts;
+      ends = IsWithinEnds-next game (g.M.Memo.room c.args.memo.now) c.args.budget pass (sum c.in_ok-key.key.items) _ _ c.loop-pass.invariant.ends c.in-Ok-Held.ensures.counts;
       path = goes.path ∙ c.loop-pass.invariant.path;
       most = goes.most ∙ c.loop-pass.invariant.most;
       budget = goes.budget ∙ c.loop-pass.invariant.budget;
