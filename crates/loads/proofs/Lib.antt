@@ -4,3 +4,4 @@ pub mod DistinctLemmas
 pub mod LoadsLemmas
 pub mod PackedLemmas
 pub mod ItemListLemmas
+pub mod MovedLemmas

@@ -13,7 +13,7 @@ use Rattle.loads.specs.Descending.{IsDescending, put_descending, take_out}
 use Rattle.loads.specs.Loads.{AreLoads, IsLoads, IsLowestBin, loads_after}
 use Rattle.loads.specs.Position.{AreItemsOf}
 use Rattle.loads.proofs.DescendingLemmas.{IsDescending-tail, IsDescending-head, IsDescending-put, IsDescending-take_out, All-put}
-use Rattle.loads.proofs.DescendingLemmas.{All-take_out, length-put, length-take_out, take_out-remove, put_descending-insert, unwrap_or-position}
+use Rattle.loads.proofs.DescendingLemmas.{All-take_out, length-put, length-take_out, unwrap_or-position}
 use Rattle.items.proofs.MultisetLemmas.{count-sum_by}
 use Rattle.loads.proofs.CountLemmas.{Contains-Same, sum_by-put, sum_by-take_out, equal_from_Same}
 
@@ -60,15 +60,6 @@ AreLoads-after loads load size h member below = record {
   descending = IsDescending-put (load + size) (take_out load loads) (IsDescending-take_out load loads h.descending);
   below = All-put (λ held. held < 240) (load + size) (take_out load loads) below (All-take_out (λ held. held < 240) load loads h.below);
 }
-
--- taking one such load out and putting the load with the item in at its place
-pub loads_after-edits : (xs rest ys : List ℕ) (load size k at : ℕ) → IsLowestBin xs load k → rest ≡ remove xs k
-    → at ≡ unwrap_or (position (λ held. nat_le held (load + size)) rest) (length rest) → ys ≡ insert rest at (load + size)
-    → ys ≡ loads_after xs load size
-loads_after-edits xs rest ys load size k at first removed place inserted =
-    let out : take_out load xs ≡ rest = take_out-remove load xs k first ∙ sym removed in
-    let here = place ∙ unwrap_or-position (λ held. nat_le held (load + size)) rest in
-    inserted ∙ ap (λ i. insert rest i (load + size)) here ∙ sym (put_descending-insert (load + size) rest) ∙ ap (put_descending (load + size)) (sym out)
 
 -- a bin with the load shows that the load is there
 pub Contains-from_lowest : (xs : List ℕ) (load bin : ℕ) → IsLowestBin xs load bin → Contains xs load

@@ -4,3 +4,4 @@ pub mod Position
 pub mod Packed
 pub mod After
 pub mod Wins
+pub mod Moved

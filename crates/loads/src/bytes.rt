@@ -181,8 +181,8 @@ fn are_moved(bytes: &[u8], loads: &[u16], load: u16, grown: u16) -> bool
     are_without(&bytes[at + 1..], &loads[at..], load)
 }
 
-// The first place of at most the grown load; the load itself is there.
-fn place_at_most(loads: &[u16], load: u16, grown: u16) -> usize
+/// The first place of at most the grown load; the load itself is there.
+pub(crate) fn place_at_most(loads: &[u16], load: u16, grown: u16) -> usize
     requires member { Contains loads.now load }
     requires grown { load ≤ grown }
     ensures { IsPlaceOfGrown grown loads.now result }

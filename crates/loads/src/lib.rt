@@ -7,6 +7,7 @@ mod earlier;
 mod from_bytes;
 mod item_list;
 pub mod laws;
+mod moved;
 mod packed;
 mod packed_list;
 mod position;
