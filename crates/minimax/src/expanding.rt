@@ -15,12 +15,12 @@ ghost use Rattle.minimax.specs.State.{Stops, WentOn};
 ghost use Rattle.minimax.specs.State.{kept_of, reached_by, with_move};
 
 use crate::finish_nodes::FINISHES;
-use crate::nodes::{after, push_win};
+use crate::nodes::after;
 use crate::replies::{Replies, keep, put};
 use crate::rooms::Rooms;
 use crate::skipping::skipped;
 use crate::table::{Told, known, remember, remember_finish};
-use adversary_graph::AdvPool;
+use crate::wins::{Wins, keep_win};
 use good_situations::finishes;
 use items::Game;
 use items::laws::game_is_legal;
@@ -35,7 +35,7 @@ use transposition::{Key, Memo, Verdict};
 pub(crate) struct Search {
     pub(crate) alloc: Global,
     pub(crate) meter: Meter,
-    pub(crate) wins: AdvPool,
+    pub(crate) wins: Wins,
     pub(crate) replies: Replies,
     pub(crate) rooms: Rooms,
     pub(crate) path: Path,
@@ -57,7 +57,7 @@ pub(crate) enum Tried {
     Answered { load: u16, verdict: Verdict },
 }
 
-// What was found of a size and kept: the number of the node that sends it, or the reply to it, or no more than that it
+// What was found of a size and kept: the number of its win, or the reply to it, or no more than that it
 // has no win in this pass.
 #[derive(Clone, Copy)]
 pub(crate) enum Weighed {
@@ -179,7 +179,7 @@ fn weigh_all<M: Memo>(
     Ok(Verdict::Algorithm(number))
 }
 
-// What a size comes to; where it wins, the node that sends it is put.
+// What a size comes to; where it wins, that is kept.
 #[cycle(expanding)]
 fn weigh<M: Memo>(
     game: &Game,
@@ -213,7 +213,7 @@ fn weigh<M: Memo>(
     }
     match try_size(game, pass, search, memo, position, size)? {
         Tried::Wins(placements) => {
-            let number = push_win(search.alloc, &mut search.wins, position, size, placements)?;
+            let number = keep_win(search.alloc, &mut search.wins, position, size, placements)?;
             Ok(Weighed::Won(number))
         }
         Tried::Answered { load, verdict } => Ok(kept(size, load, verdict)),

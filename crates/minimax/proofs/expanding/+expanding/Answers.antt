@@ -22,7 +22,7 @@ use Rattle.minimax.specs.declared.finish_nodes.TheConstants.{FINISHES}
 use Rattle.transposition.specs.declared.verdict.Verdict.TheVariants.{Adversary, Algorithm, Held}
 use Rattle.minimax.proofs.FinishLemmas.{IsNeverWon-finish}
 use Rattle.minimax.proofs.PlayableLemmas.{IsPlayable-after, total_with}
-use Rattle.minimax.proofs.SizeLemmas.{finds_after, follows_more, ready_reply, next_bound, may_come_allowed, never_by_replies, none_more, not_allowed}
+use Rattle.minimax.proofs.SizeLemmas.{finds_after, follows_more, ready_reply, next_bound, may_come_allowed, never_by_replies, none_more, not_allowed, ready_win}
 use Rattle.minimax.proofs.SizeLemmas.{opens_load, opens_size, past_more, past_size}
 use Rattle.minimax.proofs.SizeLemmas.{placed_more, replies_more, replies_still, sizes_more, weighs, wins_by}
 use Rattle.minimax.proofs.StepLemmas.{finds_decided, finds_expanded, finds_finish, finds_held, finds_known, finds_reply, finds_win, may_visit_child, opens, passed_on}
@@ -367,8 +367,11 @@ weigh-returns-in_ok-number-in-Wins-clause-found g t c =
     let tried = subst (HasTried game c.args.pass c.try_size.new.search p c.args.size) c.in-Wins.is c.in_ok-placements.ensures.found.1 in
     let may = may_come_allowed game c.args.pass p c.args.size c.requires.may_come (c.allows.ensures.exact.0 c.if-not-allows.false) in
     let won = IsWon-by game _ p c.args.size (wins_by game c.args.pass c.try_size.new.search p c.args.size c.in-Wins.placements may tried.0 tried.1) in
-    finds_win game c.args.pass c.args.search.now c.try_size.new.search c.push_win.new.wins (moved (c.args.size - 1) game.target) p e2 c.in_ok-number-in-Wins.number
-    c.in_ok-placements.ensures.found.0 c.in_ok-number-in-Wins.ensures won
+    let keeps = c.in_ok-number-in-Wins.ensures in
+    let ready = ready_win game c.args.pass c.try_size.new.search c.keep_win.new.wins p c.args.size c.in-Wins.placements c.in_ok-number-in-Wins.number keeps
+    c.requires.from_size.stands.playable c.requires.may_come tried.0 tried.1 in
+    finds_win game c.args.pass c.args.search.now c.try_size.new.search c.keep_win.new.wins (moved (c.args.size - 1) game.target) p c.args.size c.in-Wins.placements e2
+    c.in_ok-number-in-Wins.number c.in_ok-placements.ensures.found.0 keeps won ready
 
 pub weigh-returns-in-Answered-clause-found : goal.weigh-returns-in-Answered-clause-found
 weigh-returns-in-Answered-clause-found g t c =
@@ -418,19 +421,18 @@ weigh-returns-in-Some-clause-serves g t c =
     subst (λ w. KeepsServingTold game c.args.told p (taken_by w) s e s e (λ later. IsServedFor game c.args.pass later p c.args.size w)) (sym c.kept.ensures)
     (serves_skipped game c.args.pass c.args.told s p c.args.size c.in-Some.load e c.requires.may_come c.in-Some.ensures)
 
-pub weigh-push_win-requires-clause-room : goal.weigh-push_win-requires-clause-room
-weigh-push_win-requires-clause-room g t c =
+pub weigh-keep_win-requires : goal.weigh-keep_win-requires
+weigh-keep_win-requires g t c =
     let e1 = g.M.Memo.entries c.try_size.new.memo in
     let after = spare_after c.args.game.now 1 0 c.args.search.now c.try_size.new.search (g.M.Memo.entries c.args.memo.now) e1 _ c.in_ok-placements.ensures.serves
     c.requires.behind in
     let sound = c.in_ok-placements.ensures.found.0.sound in
-    omega (arith, after.1.0, sound.within, sound.budget)
+    record { room = omega (arith, after.1.0, sound.within, sound.budget) }
 
 pub weigh-returns-in_ok-number-in-Wins-clause-serves : goal.weigh-returns-in_ok-number-in-Wins-clause-serves
 weigh-returns-in_ok-number-in-Wins-clause-serves g t c =
-    serves_won c.args.game.now c.args.told c.args.search.now c.try_size.new.search c.push_win.new.wins c.args.position.now c.in_ok-number-in-Wins.number
-    (g.M.Memo.entries c.args.memo.now)
-    (g.M.Memo.entries c.try_size.new.memo) _ c.in_ok-number-in-Wins.ensures c.in_ok-placements.ensures.serves
+    serves_won c.args.game.now c.args.told c.args.search.now c.try_size.new.search c.keep_win.new.wins c.args.position.now c.args.size c.in-Wins.placements
+    c.in_ok-number-in-Wins.number (g.M.Memo.entries c.args.memo.now) (g.M.Memo.entries c.try_size.new.memo) _ c.in_ok-number-in-Wins.ensures c.in_ok-placements.ensures.serves
 
 pub weigh-returns-in-Answered-clause-serves : goal.weigh-returns-in-Answered-clause-serves
 weigh-returns-in-Answered-clause-serves g t c =
@@ -661,7 +663,7 @@ expand-returns-then-finishes-clause-counts g t c =
     let visited : IsVisited game c.args.pass p path a b =
     record { stands = c.requires.may.stands; fresh = fresh; meter = c.in_ok-visit.ensures.ok; same = c.known-told.ensures.same; room = c.known-told.ensures.capacity } in
     let finishes = c.finishes.ensures.exact.0 c.if-finishes.true in
-    let none = c.known-told.ensures.same.values p ∙ none_for_finish game c.args.pass c.args.search.now.wins.nodes c.args.search.now.replies a.entries p
+    let none = c.known-told.ensures.same.values p ∙ none_for_finish game c.args.pass c.args.search.now.wins c.args.search.now.replies a.entries p
     c.requires.sound.known finishes fresh in
     let put = subst (λ (p : Position). length e1 < b.room → (more : ℕ) × Puts are_equal e1 e2 p (Algorithm FINISHES) more) c.in_ok-key.ensures.ok
     c.in_ok-remember_finish.ensures.put in
