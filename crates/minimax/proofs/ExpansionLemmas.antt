@@ -11,13 +11,13 @@ use Rattle.loads.specs.Packed.{are_equal}
 use Rattle.loads.specs.declared.position.Position.{Position}
 use Rattle.strategy_text.specs.Spelling.{most_nodes}
 use Rattle.strategy_text.specs.declared.node.Entry.{Entry}
-use Rattle.adversary_graph.specs.Pools as adversary_pools
+use Rattle.strategy_text.specs.declared.node.Placement.{Placement}
 use Rattle.monotone.specs.Visits.{Metered, Visit, counted}
 use Rattle.transposition.specs.Bounded.{SameEntries}
 use Rattle.transposition.specs.Memo.{verdict_of}
 use Rattle.transposition.specs.declared.verdict.Verdict.{Verdict}
 use Rattle.transposition.specs.declared.verdict.Verdict.TheVariants.{Adversary, Algorithm, Held}
-use Rattle.minimax.specs.State.{HasTried, IsNoWin, IsPlayable, IsTold, KeepsReply, PutsOnly, PutsWin, Tells, allowed_by, kept_of, reached_by}
+use Rattle.minimax.specs.State.{HasTried, IsNoWin, IsPlayable, IsTold, KeepsReply, KeepsWin, PutsOnly, Tells, allowed_by, kept_of, reached_by}
 use Rattle.minimax.specs.declared.expanding.Search.{Search}
 use Rattle.minimax.specs.declared.expanding.Tried.TheVariants.{Answered}
 use Rattle.minimax.specs.declared.expanding.Weighed.TheVariants.{NoReply}
@@ -29,6 +29,7 @@ use Rattle.minimax.proofs.FinishLemmas.{IsNeverWon-finish}
 use Rattle.minimax.proofs.PlayableLemmas.{IsPlayable-after}
 use Rattle.minimax.proofs.ServingLemmas.{AreServed-put, AreServed-reply, AreServed-same, IsBehind-less, Serving-refl, serves_finish}
 use Rattle.minimax.specs.declared.replies.Reply.{Reply}
+use Rattle.minimax.specs.declared.wins.Win.{Win}
 use Rattle.std.proofs.lemmas.List.{length_push}
 
 -- ---- the parts of an expansion
@@ -141,15 +142,15 @@ serves_not_allowed game pass told s position size entries none spare unnamed beh
     Serving-refl game spare unnamed s entries _ (IsBehind-less game (0 + spare) spare unnamed s entries (omega arith) behind) (λ allowed. absurd (none allowed))
 
 -- a size that wins
-pub serves_won : (game : GameNumbers) (told : Told) (s0 s1 : Search) (wins : adversary_pools.Pool) (position : Position) (number : ℕ)
-    (e0 e1 : List (Position × Verdict)) (M : List Position → Type 0)
-    → PutsWin s1.wins wins position number → KeepsServing game 0 s0 e0 s1 e1 M
+pub serves_won : (game : GameNumbers) (told : Told) (s0 s1 : Search) (wins : List Win) (position : Position) (size : ℕ)
+    (placements : List Placement) (number : ℕ) (e0 e1 : List (Position × Verdict)) (M : List Position → Type 0)
+    → KeepsWin s1.wins wins position size placements number → KeepsServing game 0 s0 e0 s1 e1 M
     → KeepsServingTold game told position 1 s0 e0 (record s1 { wins = wins }) e1 (λ later. Unit {0})
-serves_won game told s0 s1 wins position number e0 e1 M puts f spare unnamed behind tried =
+serves_won game told s0 s1 wins position size placements number e0 e1 M keeps f spare unnamed behind tried =
     let h = f (1 + spare) unnamed (IsBehind-less game (1 + spare) (0 + (1 + spare)) unnamed s0 e0 (omega arith) behind) in
     record {
       later = h.later;
-      behind = (omega (arith, h.behind.0, ap (λ (w : adversary_pools.Pool). length w.nodes) puts.pool, length_push s1.wins.nodes puts.node), h.behind.1);
+      behind = (omega (arith, h.behind.0, ap (λ (ws : List Win). length ws) keeps.list, length_push s1.wins keeps.win), h.behind.1);
       keeps = h.keeps;
       more = tt;
     }

@@ -18,7 +18,7 @@ use Rattle.transposition.specs.declared.verdict.Verdict.TheVariants.{Adversary, 
 use Rattle.minimax.specs.State.{IsLed, IsNeverWon, IsPlayable, IsSound, allowed_by}
 use Rattle.minimax.specs.declared.expanding.Search.{Search}
 use Rattle.minimax.specs.declared.finish_nodes.TheConstants.{FINISHES}
-use Rattle.minimax.proofs.StateLemmas.{won_by_node}
+use Rattle.minimax.proofs.StateLemmas.{won_by_win}
 use Rattle.minimax.proofs.PlayableLemmas.{IsPlayable-after}
 
 -- a load that stays below the target with a size
@@ -78,6 +78,6 @@ finish_told game pass s entries position g sound playable finishes known = by_en
     by_entry None e = absurd (known e)
     by_entry (Some (Adversary number)) e =
         absurd (IsNeverWon-finish game position g playable finishes (allowed_by game pass)
-        (won_by_node game pass s.meter s.wins s.replies entries position number sound (sound.known position (Adversary number) e)))
+        (won_by_win game pass s.meter s.wins s.replies entries position number sound (sound.known position (Adversary number) e)))
     by_entry (Some (Algorithm number)) e = led number e (sound.known position (Algorithm number) e)
     by_entry (Some (Held held)) e = absurd ((sound.known position (Held held) e).unfinished finishes)

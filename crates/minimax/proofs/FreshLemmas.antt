@@ -21,8 +21,8 @@ use Rattle.loads.specs.Wins.{empty_position}
 use Rattle.loads.specs.declared.position.Position.{Position}
 use Rattle.packing_witness.proofs.PackingLemmas.{size_of_last}
 use Rattle.good_situations.specs.Finish.{Finishes}
-use Rattle.strategy_text.specs.declared.node.AdvNode.{AdvNode}
 use Rattle.minimax.specs.declared.replies.Reply.{Reply}
+use Rattle.minimax.specs.declared.wins.Win.{Win}
 use Rattle.monotone.specs.Paths.{IsLegalFrom}
 use Rattle.monotone.specs.Positions.{CountsAllEnds, CountsEndsOfPass, IsEnd}
 use Rattle.monotone.specs.Visits.{Metered, counted, unused, visit}
@@ -165,7 +165,7 @@ fresh_at pass entries key position told e h not_settled =
     subst (λ p. is_fresh pass (verdict_of entries p) ≡ true) e (fresh_told pass (verdict_of entries key) told h not_settled)
 
 -- a position that finishes and is to be visited has no entry
-pub none_for_finish : (game : GameNumbers) (pass : ℕ) (wins : List AdvNode) (replies : List Reply) (entries : List (Position × Verdict)) (position : Position)
+pub none_for_finish : (game : GameNumbers) (pass : ℕ) (wins : List Win) (replies : List Reply) (entries : List (Position × Verdict)) (position : Position)
     → AreKnown game wins replies entries → Finishes game position.loads → is_fresh pass (verdict_of entries position) ≡ true → verdict_of entries position ≡ None
 none_for_finish game pass wins replies entries position known finishes fresh = by_entry (verdict_of entries position) refl fresh
   where

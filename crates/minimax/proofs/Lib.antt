@@ -13,3 +13,5 @@ pub mod ServingLemmas
 pub mod ExpansionLemmas
 pub mod NamingLemmas
 pub mod WritingLemmas
+pub mod ReachedLemmas
+pub mod WinsWritingLemmas

@@ -191,7 +191,7 @@ some_packing game items size (Some bins) p h = h
 pub MayComeNext-win : (pool : adversary_pools.Pool) (position : Position) (size : ℕ) (pack : Option (List (List ℕ))) (placements : List Placement)
     (loads items : List ℕ) → loads ≡ position.loads → items ≡ position.items → IsPlayable pool.game position
     → Packable pool.game (position.items ++ size ∷ []) → pool.format ≡ One → length pool.nodes < most_nodes
-    → PlacesAll pool.game pool.nodes position size placements
+    → PlacesAll pool.game (map adversary.position_of pool.nodes) position size placements
     → MatchOption pack (Packable pool.game (put_ascending size position.items) → ⊥) (λ bins. IsPacking pool.game bins (put_ascending size position.items))
     → adversary_pools.MayComeNext pool (adversary_node loads items (Send size pack placements))
 MayComeNext-win pool position size pack placements loads items l i p may format few places packing =

@@ -5,7 +5,6 @@ use Rattle.std.proofs.lemmas.Bool.{cases_lt}
 use Rattle.std.specs.Prelude.{Contains, IfOk, Result, Ok, Err}
 use Rattle.std.proofs.lemmas.Option.{none-some}
 use Rattle.std.specs.declared.alloc.AllocError.{AllocError}
-use Rattle.std.proofs.lemmas.List.{length-map}
 use Rattle.std.proofs.lemmas.List.Elements.{All-nil, All-replicate}
 use Rattle.items.specs.Game.{GameNumbers}
 use Rattle.items.specs.Multiset.{sizes_of}
@@ -18,9 +17,7 @@ use Rattle.packing_witness.proofs.PackingLemmas.{size_of_last}
 use Rattle.strategy_text.specs.Spelling.{most_nodes}
 use Rattle.strategy_text.specs.declared.node.AdvNode.{AdvNode}
 use Rattle.strategy_text.specs.declared.node.AlgNode.{AlgNode}
-use Rattle.strategy_text.specs.declared.node.Format.TheVariants.{One}
 use Rattle.strategy_text.specs.declared.node.Strategy.{Strategy}
-use Rattle.strategy_text.specs.Text.{of_adversary}
 use Rattle.adversary_graph.specs.Nodes as adversary
 use Rattle.adversary_graph.specs.Pools as adversary_pools
 use Rattle.adversary_graph.proofs.PoolLemmas as adversary_lemmas
@@ -39,11 +36,13 @@ use Rattle.minimax.specs.Answers.{IsAnswer, IsDecided, IsFor}
 use Rattle.minimax.specs.declared.answer.Answer.{Answer}
 use Rattle.minimax.specs.declared.answer.Answer.TheVariants as Answers
 use Rattle.minimax.specs.Settled.{IsDue, NoneWonBefore}
-use Rattle.minimax.specs.State.{AreSound, IsLed, IsPlayable, IsSound, IsSpent, MayVisit, StandsAtPath}
+use Rattle.minimax.specs.State.{AreSound, IsLed, IsPlayable, IsSound, IsSpent, MayVisit, StandsAtPath, position_of_win}
+use Rattle.minimax.specs.WinsWriting.{MayWriteWins}
 use Rattle.minimax.specs.Writing.{MayWrite}
 use Rattle.minimax.specs.Serving.{HasSpare, IsServedBy}
 use Rattle.minimax.specs.declared.expanding.Search.{Search}
 use Rattle.minimax.specs.declared.replies.Reply.{Reply}
+use Rattle.minimax.specs.declared.wins.Win.{Win}
 use Rattle.monotone.proofs.ListLemmas.{Contains-nothing}
 
 pub length-take-short : {X : Type 0} (n : ℕ) (xs : List X) → length (take n xs) ≤ length xs
@@ -67,12 +66,12 @@ IsPlayable-empty game loads = record {
 }
 
 -- a new search has no nodes
-pub HasSpare-new : (s : Search) (game : GameNumbers) (entries : List (Position × Verdict)) → s.wins ≡ adversary_pools.pool_of One game [] → s.replies ≡ [] → entries ≡ []
+pub HasSpare-new : (s : Search) (game : GameNumbers) (entries : List (Position × Verdict)) → s.wins ≡ [] → s.replies ≡ [] → entries ≡ []
     → HasSpare game 0 s entries
 HasSpare-new s game entries w r e = (
   [],
   (
-    omega (arith, ap (λ (p : adversary_pools.Pool). length p.nodes) w, ap (λ (rs : List Reply). length rs) r),
+    omega (arith, ap (λ (ws : List Win). length ws) w, ap (λ (rs : List Reply). length rs) r),
     record {
       known = λ p v told. absurd (none-some v (subst (λ es. verdict_of es p ≡ Some v) e told));
       replied = λ reply c. absurd (Contains-nothing reply (subst (λ rs. Contains rs reply) r c));
@@ -81,16 +80,15 @@ HasSpare-new s game entries w r e = (
 )
 
 -- a new search is sound
-pub AreSound-new : (game : GameNumbers) (pass budget : ℕ) (meter : Metered) (wins : adversary_pools.Pool) (replies : List Reply)
-    (entries : List (Position × Verdict)) → meter ≡ unused game budget → wins ≡ adversary_pools.pool_of One game [] → replies ≡ []
+pub AreSound-new : (game : GameNumbers) (pass budget : ℕ) (meter : Metered) (wins : List Win) (replies : List Reply)
+    (entries : List (Position × Verdict)) → meter ≡ unused game budget → wins ≡ [] → replies ≡ []
     → entries ≡ [] → budget ≤ most_nodes → AreSound game pass meter wins replies entries
 AreSound-new game pass budget meter wins replies entries m w r e few =
     subst (λ x. AreSound game pass x wins replies entries) (sym m)
     (subst (λ x. AreSound game pass (unused game budget) x replies entries) (sym w)
-    (subst (λ x. AreSound game pass (unused game budget) (adversary_pools.pool_of One game []) x entries) (sym r)
-    (subst (AreSound game pass (unused game budget) (adversary_pools.pool_of One game []) []) (sym e) (record {
-      wins_game = refl;
-      wins_format = refl;
+    (subst (λ x. AreSound game pass (unused game budget) [] x entries) (sym r)
+    (subst (AreSound game pass (unused game budget) [] []) (sym e) (record {
+      ready_wins = λ k win told. absurd (none-some win told);
       ready = λ k reply told. absurd (none-some reply told);
       counts = CountsVisits-unused (whole_game game) budget;
       within = omega arith;
@@ -132,15 +130,19 @@ module _ (game : GameNumbers) (pass : ℕ) where
   root_of_reply nodes number root is stands =
       algorithm_lemmas.root_from_position nodes number root stands (subst IsEmptyPosition (sym is) empty_is)
 
-  -- the strategy up to the root has no more nodes than visits were made
-  pub IsFor-win : (budget : ℕ) (s : Search) (entries : List (Position × Verdict)) (root : ℕ) (strategy : Strategy) → IsSound game pass s entries
-      → HasSpare game 0 s entries → s.meter.budget ≡ budget
-      → strategy ≡ adversary_pools.strategy_of (adversary_pools.pool_of s.wins.format s.wins.game (adversary_pools.nodes_up_to root s.wins.nodes)) → IsFor game budget strategy
-  IsFor-win budget s entries root strategy sound behind b is = subst (IsFor game budget) (sym is) (record {
-    of_game = sound.wins_game;
-    of_format = sound.wins_format;
-    few = omega (arith, behind.1.0, sound.within, b, length-map (take (root + 1) s.wins.nodes) of_adversary, length-take-short (root + 1) s.wins.nodes);
-  })
+  -- there are no more wins than visits were made
+  pub few_wins : (budget : ℕ) (s : Search) (entries : List (Position × Verdict)) → IsSound game pass s entries → HasSpare game 0 s entries → s.meter.budget ≡ budget
+      → length s.wins ≤ budget
+  few_wins budget s entries sound behind b = omega (arith, behind.1.0, sound.within, b)
+
+  -- the wins that were kept may be written, with the root that was found
+  pub may_write_wins : (s : Search) (entries : List (Position × Verdict)) (root : Position) (number : ℕ) → IsSound game pass s entries → HasSpare game 0 s entries
+      → root ≡ empty_position game → StandsAt (map position_of_win s.wins) number root → MayWriteWins game s.wins number
+  may_write_wins s entries root number sound behind is stands = record {
+    ready = sound.ready_wins;
+    is_root = subst (StandsAt (map position_of_win s.wins) number) is stands;
+    few = omega (arith, behind.1.0, sound.within, sound.budget);
+  }
 
   -- the replies that were kept may be written, and the root among them
   pub may_write : (budget : ℕ) (s : Search) (entries : List (Position × Verdict)) (root : Position) (told : ℕ) → IsSound game pass s entries
@@ -180,6 +182,10 @@ module _ (game : GameNumbers) (pass : ℕ) where
       (λ below. none earlier first below won)
       (λ above. let same : earlier ≡ pass = omega (arith, above, l) in here (subst (λ k. IsWon game (allowed_in (sizes_of game) k) (empty_position game)) same won))
       (cases_lt earlier pass)
+
+-- a strategy for a budget is one for a larger budget
+pub IsFor-more : (game : GameNumbers) (few budget : ℕ) (strategy : Strategy) → few ≤ budget → IsFor game few strategy → IsFor game budget strategy
+IsFor-more game few budget strategy more is = record { of_game = is.of_game; of_format = is.of_format; few = omega (arith, is.few, more) }
 
 -- with more than the most visits the answer is decided
 pub decided_by_visits : (game : GameNumbers) (budget : ℕ) (answer : Answer) → IsAnswer game budget answer → most_visits (whole_game game) ≤ budget → IsDecided answer

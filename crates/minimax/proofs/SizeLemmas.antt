@@ -21,7 +21,6 @@ use Rattle.strategy_text.specs.declared.node.Entry.{Entry}
 use Rattle.strategy_text.specs.declared.node.Placement.{Placement}
 use Rattle.strategy_text.specs.declared.node.Then.{Then}
 use Rattle.strategy_text.specs.declared.node.Then.TheVariants.{Over}
-use Rattle.adversary_graph.specs.Nodes as adversary
 use Rattle.adversary_graph.specs.Rules.{IsOverAtTarget, LeadsTo}
 use Rattle.monotone.specs.Paths.{IsEarlierMove, moved}
 use Rattle.monotone.specs.Visits.{IsLater, visit}
@@ -30,11 +29,12 @@ use Rattle.monotone.proofs.PassLemmas.{allowed_in-exact}
 use Rattle.transposition.specs.declared.verdict.Verdict.{Verdict}
 use Rattle.transposition.specs.declared.verdict.Verdict.TheVariants.{Adversary, Algorithm, Held}
 use Rattle.minimax.specs.State.{IsBound, FindsVerdict, FollowsUp, HasAnswered, HasPassed, HasWeighed, IsNeverWon, IsNoWin, IsOpenAt}
-use Rattle.minimax.specs.State.{AreOfAll, IsOpenFrom, IsPending, IsPlayable, IsReady, KeepsReply}
+use Rattle.minimax.specs.State.{AreOfAll, IsOpenFrom, IsPending, IsPlayable, IsReady, IsReadyWin, KeepsReply, KeepsWin}
 use Rattle.minimax.specs.State.{IsSound, IsWonIn, MayCome, PlacesAll, Tells, WentOn, WinsBy, allowed_by, kept_of}
-use Rattle.minimax.specs.State.{numbers_down, with_move}
+use Rattle.minimax.specs.State.{numbers_down, position_of_win, with_move}
 use Rattle.minimax.specs.declared.expanding.Search.{Search}
 use Rattle.minimax.specs.declared.replies.Reply.{Reply}
+use Rattle.minimax.specs.declared.wins.Win.{Win}
 use Rattle.minimax.specs.declared.expanding.Weighed.{Weighed}
 use Rattle.minimax.specs.declared.expanding.Weighed.TheVariants.{NoReply}
 use Rattle.minimax.proofs.PastLemmas.{IsLater-move}
@@ -143,6 +143,15 @@ module _ (game : GameNumbers) (pass : ℕ) where
   -- ---- a size
 
   -- a size that the pass does not allow
+  -- a pass that does not allow all sizes is not the last
+  pub before_last : (position : Position) → IsPlayable game position → (largest_of position.items ≤ 1 + pass → ⊥) → pass + 1 < game.capacity
+  before_last position p not =
+      let most = largest_of-le game.capacity position.items p.packable.1.item_list in
+      elim (cases_lt (1 + pass) (largest_of position.items)) [
+        | inl above ↦ omega (arith, above, most)
+        | inr below ↦ absurd (not below)
+      ]
+
   pub not_allowed : (s : Search) (position : Position) (size : ℕ) (entries : List (Position × Verdict)) → IsSound game pass s entries
       → IsOpenFrom game pass size s position → Packable game (position.items ++ size ∷ []) → (largest_of position.items ≤ size + pass → ⊥)
       → HasAnswered game pass size position s s entries NoReply
@@ -187,14 +196,28 @@ module _ (game : GameNumbers) (pass : ℕ) where
         subst (λ l. (game.target ≤ l + size) ⊎ IsWonIn game pass (after position l size)) at.2 at.1.won;
   }
 
-  pub places_all : (s : Search) (position : Position) (size : ℕ) (placements : List Placement)
+  places_all : (s : Search) (position : Position) (size : ℕ) (placements : List Placement)
       → map (λ (placement : Placement). placement.load) placements ≡ distinct position.loads → All (FollowsUp game pass s position size) placements
-      → PlacesAll game s.wins.nodes position size placements
+      → PlacesAll game (map position_of_win s.wins) position size placements
   places_all s position size placements places all = record {
     each_load = places;
     over = All-weaker (FollowsUp game pass s position size) (IsOverAtTarget game size) (λ placement f. f.over) placements all;
     leads = All-weaker (FollowsUp game pass s position size)
-        (λ placement. LeadsTo (map adversary.position_of s.wins.nodes) placement.next (after position placement.load size)) (λ placement f. f.leads) placements all;
+        (λ placement. LeadsTo (map position_of_win s.wins) placement.next (after position placement.load size)) (λ placement f. f.leads) placements all;
+  }
+
+  -- the win that was kept is ready to be written
+  pub ready_win : (s : Search) (more : List Win) (position : Position) (size : ℕ) (placements : List Placement) (number : ℕ)
+      → (k : KeepsWin s.wins more position size placements number) → IsPlayable game position → Packable game (position.items ++ size ∷ [])
+      → map (λ (placement : Placement). placement.load) placements ≡ distinct position.loads → All (FollowsUp game pass s position size) placements
+      → IsReadyWin game s.wins k.win
+  ready_win s more position size placements number k playable may_come each_load all = record {
+    playable = subst (IsPlayable game) (sym k.stands) playable;
+    may_come = subst (λ (p : Position). Packable game (p.items ++ k.win.size ∷ [])) (sym k.stands)
+        (subst (λ x. Packable game (position.items ++ x ∷ [])) (sym k.sends) may_come);
+    places = subst (λ p. PlacesAll game (map position_of_win s.wins) p k.win.size k.win.placements) (sym k.stands)
+        (subst (λ x. PlacesAll game (map position_of_win s.wins) position x k.win.placements) (sym k.sends)
+        (subst (PlacesAll game (map position_of_win s.wins) position size) (sym k.kept) (places_all s position size placements each_load all)));
   }
 
   -- a size with an answer

@@ -5,19 +5,16 @@ use Rattle.std.specs.Prelude.{All, slice_get}
 use Rattle.std.proofs.lemmas.Bool.{cases_lt}
 use Rattle.std.proofs.lemmas.List.{append-nil, length_push, map-append, take-append-le, take_all}
 use Rattle.std.proofs.lemmas.List.Elements.{All-push, All-weaker}
-use Rattle.std.proofs.lemmas.Option.{slice_get-map, get_or_from_slice_get, slice_get_within, none-some}
+use Rattle.std.proofs.lemmas.Option.{slice_get-map, get_or_from_slice_get, slice_get_within, none-some, same_Some}
 use Rattle.items.specs.Game.{GameNumbers}
 use Rattle.loads.specs.After.{after}
 use Rattle.loads.specs.Position.{StandsAt}
 use Rattle.loads.specs.declared.position.Position.{Position}
-use Rattle.strategy_text.specs.declared.node.AdvNode.{AdvNode}
 use Rattle.strategy_text.specs.declared.node.AlgNode.{AlgNode}
 use Rattle.strategy_text.specs.declared.node.Entry.{Entry}
 use Rattle.strategy_text.specs.declared.node.Placement.{Placement}
 use Rattle.strategy_text.specs.declared.node.Then.{Then}
 use Rattle.strategy_text.specs.declared.node.Then.TheVariants.{Over, To}
-use Rattle.adversary_graph.specs.Nodes as adversary
-use Rattle.adversary_graph.specs.Pools as adversary_pools
 use Rattle.adversary_graph.specs.Rules.{LeadsTo}
 use Rattle.items.proofs.ListLemmas.{mapped}
 use Rattle.algorithm_graph.specs.Nodes as algorithm
@@ -26,11 +23,12 @@ use Rattle.monotone.specs.Visits.{Visit, Metered, IsLater, IsVisit, counted}
 use Rattle.monotone.proofs.VisitLemmas.{CountsVisits-counted}
 use Rattle.transposition.specs.declared.verdict.Verdict.{Verdict}
 use Rattle.transposition.specs.declared.verdict.Verdict.TheVariants.{Adversary, Algorithm, Held}
-use Rattle.minimax.specs.State.{AreKnown, AreReady, AreSound, FollowsUp, GoesOn, IsLed, IsNeverWon, IsNoWin}
-use Rattle.minimax.specs.State.{IsPending, IsReady, IsReply, IsSound, IsWonIn, KeepsReply, position_of_reply}
-use Rattle.minimax.specs.State.{PutsOnly, PutsWin, Says, Tells, allowed_by}
+use Rattle.minimax.specs.State.{AreKnown, AreSound, EachOver, FollowsUp, GoesOn, IsLed, IsNeverWon, IsNoWin}
+use Rattle.minimax.specs.State.{IsPending, IsReady, IsReadyWin, IsReply, IsSound, IsWonIn, KeepsReply, KeepsWin}
+use Rattle.minimax.specs.State.{PutsOnly, Says, Tells, allowed_by, position_of_reply, position_of_win}
 use Rattle.minimax.specs.declared.expanding.Search.{Search}
 use Rattle.minimax.specs.declared.replies.Reply.{Reply}
+use Rattle.minimax.specs.declared.wins.Win.{Win}
 use Rattle.minimax.proofs.WinLemmas.{IsWonIn-later}
 
 -- ---- lists that go on
@@ -92,26 +90,26 @@ IsLed-goes game replies more position number g (inl h) =
     inl (record { stands = StandsAt-goes position_of_reply replies more number position g h.stands; unfinished = h.unfinished })
 IsLed-goes game replies more position number g (inr h) = inr h
 
-pub Says-goes : (game : GameNumbers) (wins more_wins : List AdvNode) (replies more_replies : List Reply) (position : Position) (verdict : Verdict)
+pub Says-goes : (game : GameNumbers) (wins more_wins : List Win) (replies more_replies : List Reply) (position : Position) (verdict : Verdict)
     → GoesOn wins more_wins → GoesOn replies more_replies → Says game wins replies position verdict → Says game more_wins more_replies position verdict
-Says-goes game wins more_wins replies more_replies position (Adversary number) g h s = StandsAt-goes adversary.position_of wins more_wins number position g s
+Says-goes game wins more_wins replies more_replies position (Adversary number) g h s = StandsAt-goes position_of_win wins more_wins number position g s
 Says-goes game wins more_wins replies more_replies position (Algorithm number) g h s = IsLed-goes game replies more_replies position number h s
 Says-goes game wins more_wins replies more_replies position (Held held) g h s = s
 
 -- where a verdict is a win of the adversary, it wins this pass
-pub won_by_node : (game : GameNumbers) (pass : ℕ) (meter : Metered) (wins : adversary_pools.Pool) (replies : List Reply) (entries : List (Position × Verdict))
-    (position : Position) (number : ℕ) → AreSound game pass meter wins replies entries → StandsAt (map adversary.position_of wins.nodes) number position
+pub won_by_win : (game : GameNumbers) (pass : ℕ) (meter : Metered) (wins : List Win) (replies : List Reply) (entries : List (Position × Verdict))
+    (position : Position) (number : ℕ) → AreSound game pass meter wins replies entries → StandsAt (map position_of_win wins) number position
     → IsWonIn game pass position
-won_by_node game pass meter wins replies entries position number s h = all_stand adversary.position_of (IsWonIn game pass) wins.nodes number position s.won h
+won_by_win game pass meter wins replies entries position number s h = all_stand position_of_win (IsWonIn game pass) wins number position s.won h
 
 -- where a verdict is the algorithm's, the position is won in no pass
-pub never_by_node : (game : GameNumbers) (pass : ℕ) (meter : Metered) (wins : adversary_pools.Pool) (replies : List Reply) (entries : List (Position × Verdict))
+pub never_by_node : (game : GameNumbers) (pass : ℕ) (meter : Metered) (wins : List Win) (replies : List Reply) (entries : List (Position × Verdict))
     (position : Position) (number : ℕ) → AreSound game pass meter wins replies entries → StandsAt (map position_of_reply replies) number position
     → IsNeverWon game position
 never_by_node game pass meter wins replies entries position number s h = all_stand position_of_reply (IsNeverWon game) replies number position s.lost h
 
 -- so where it finishes
-pub never_by_led : (game : GameNumbers) (pass : ℕ) (meter : Metered) (wins : adversary_pools.Pool) (replies : List Reply) (entries : List (Position × Verdict))
+pub never_by_led : (game : GameNumbers) (pass : ℕ) (meter : Metered) (wins : List Win) (replies : List Reply) (entries : List (Position × Verdict))
     (position : Position) (number : ℕ) → AreSound game pass meter wins replies entries → IsLed game replies position number → IsNeverWon game position
 never_by_led game pass meter wins replies entries position number s (inl h) = never_by_node game pass meter wins replies entries position number s h.stands
 never_by_led game pass meter wins replies entries position number s (inr h) = h.never
@@ -126,15 +124,15 @@ not_won_by_verdict game pass state entries position (Held held) s nothing t won 
 
 -- ---- what follows an item
 
-pub LeadsTo-goes : (wins more : List AdvNode) (next : Then) (position : Position) → GoesOn wins more → LeadsTo (map adversary.position_of wins) next position
-    → LeadsTo (map adversary.position_of more) next position
+pub LeadsTo-goes : (wins more : List Win) (next : Then) (position : Position) → GoesOn wins more → LeadsTo (map position_of_win wins) next position
+    → LeadsTo (map position_of_win more) next position
 LeadsTo-goes wins more Over position g h = tt
-LeadsTo-goes wins more (To child) position g h = StandsAt-goes adversary.position_of wins more child position g h
+LeadsTo-goes wins more (To child) position g h = StandsAt-goes position_of_win wins more child position g h
 
 pub FollowsUp-goes : (game : GameNumbers) (pass : ℕ) (before after : Search) (position : Position) (size : ℕ) (placement : Placement)
-    → GoesOn before.wins.nodes after.wins.nodes → FollowsUp game pass before position size placement → FollowsUp game pass after position size placement
+    → GoesOn before.wins after.wins → FollowsUp game pass before position size placement → FollowsUp game pass after position size placement
 FollowsUp-goes game pass before after position size placement g f =
-    record { over = f.over; leads = LeadsTo-goes before.wins.nodes after.wins.nodes placement.next _ g f.leads; won = f.won }
+    record { over = f.over; leads = LeadsTo-goes before.wins after.wins placement.next _ g f.leads; won = f.won }
 
 pub IsReply-goes : (game : GameNumbers) (replies more : List AlgNode) (position : Position) (entry : Entry) → GoesOn replies more
     → IsReply game replies position entry → IsReply game more position entry
@@ -145,33 +143,29 @@ pub IsPending-goes : (game : GameNumbers) (replies more : List Reply) (position 
 IsPending-goes game replies more position entry g p =
     record { names = p.names; may_come = p.may_come; leads = IsLed-goes game replies more (after position entry.load entry.size) entry.to g p.leads }
 
--- ---- lists of replies
+-- ---- lists of which something holds over the elements before
 
 -- what holds of each element over those before it holds of one more
-pub AreReady-push : (game : GameNumbers) (replies : List Reply) (reply : Reply) → AreReady game replies → IsReady game replies reply → AreReady game (replies ++ reply ∷ [])
-AreReady-push game replies reply ready here k other e = elim (cases_lt k (length replies)) [
-  | inl before ↦ subst (λ front. IsReady game front other) (sym (take-append-le k replies (reply ∷ []) (omega (arith, before))))
-      (ready k other (sym (slice_get-front replies (reply ∷ []) k before) ∙ e))
+pub EachOver-push : {X : Type 0} (P : List X → X → Type 0) (xs : List X) (x : X) → EachOver P xs → P xs x → EachOver P (xs ++ x ∷ [])
+EachOver-push P xs x each here k y e = elim (cases_lt k (length xs)) [
+  | inl before ↦ subst (λ front. P front y) (sym (take-append-le k xs (x ∷ []) (omega (arith, before))))
+      (each k y (sym (slice_get-front xs (x ∷ []) k before) ∙ e))
   | inr after ↦
-      let within = slice_get_within (replies ++ reply ∷ []) k other e in
-      let last : k ≡ length replies = omega (arith, after, within, length_push replies reply) in
-      let is : reply ≡ other = some_same (sym (slice_get-last replies reply k last) ∙ e) in
-      subst (λ front. IsReady game front other) (sym (take-append-le k replies (reply ∷ []) (omega (arith, last)) ∙ take_all k replies (omega (arith, last))))
-      (subst (IsReady game replies) is here)
+      let within = slice_get_within (xs ++ x ∷ []) k y e in
+      let last : k ≡ length xs = omega (arith, after, within, length_push xs x) in
+      let is : x ≡ y = same_Some x y (sym (slice_get-last xs x k last) ∙ e) in
+      subst (λ front. P front y) (sym (take-append-le k xs (x ∷ []) (omega (arith, last)) ∙ take_all k xs (omega (arith, last))))
+      (subst (P xs) is here)
 ]
-  where
-    some_same : {x y : Reply} → Some x ≡ Some y → x ≡ y
-    some_same e = cc
 
 -- ---- states that stay sound
 
-module _ (game : GameNumbers) (pass : ℕ) (meter : Metered) (wins : adversary_pools.Pool) (replies : List Reply) (entries : List (Position × Verdict)) where
+module _ (game : GameNumbers) (pass : ℕ) (meter : Metered) (wins : List Win) (replies : List Reply) (entries : List (Position × Verdict)) where
   -- with other entries that hold
-  pub AreSound-known : (more : List (Position × Verdict)) → AreSound game pass meter wins replies entries → AreKnown game wins.nodes replies more
+  pub AreSound-known : (more : List (Position × Verdict)) → AreSound game pass meter wins replies entries → AreKnown game wins replies more
       → AreSound game pass meter wins replies more
   AreSound-known more s known = record {
-    wins_game = s.wins_game;
-    wins_format = s.wins_format;
+    ready_wins = s.ready_wins;
     ready = s.ready;
     counts = s.counts;
     within = s.within;
@@ -183,10 +177,10 @@ module _ (game : GameNumbers) (pass : ℕ) (meter : Metered) (wins : adversary_p
 
   -- after a verdict was put that says what holds
   pub AreSound-put : (more : List (Position × Verdict)) (position : Position) (verdict : Verdict) → AreSound game pass meter wins replies entries
-      → PutsOnly entries more position verdict → Says game wins.nodes replies position verdict → AreSound game pass meter wins replies more
+      → PutsOnly entries more position verdict → Says game wins replies position verdict → AreSound game pass meter wins replies more
   AreSound-put more position verdict s puts says = AreSound-known more s
       (λ one told e. elim (puts one told e) [
-        | inl (p, v) ↦ subst (λ q. Says game wins.nodes replies q told) (sym p) (subst (Says game wins.nodes replies position) (sym v) says)
+        | inl (p, v) ↦ subst (λ q. Says game wins replies q told) (sym p) (subst (Says game wins replies position) (sym v) says)
         | inr old ↦ s.known one told old
       ])
 
@@ -194,8 +188,7 @@ module _ (game : GameNumbers) (pass : ℕ) (meter : Metered) (wins : adversary_p
   pub AreSound-counted : (after : Metered) (next : Visit) → AreSound game pass meter wins replies entries → after ≡ counted meter next
       → IsVisit (whole_game game) next → IsLater meter next → (meter.count ≡ meter.budget → ⊥) → AreSound game pass after wins replies entries
   AreSound-counted after next s e is later left = subst (λ m. AreSound game pass m wins replies entries) (sym e) (record {
-    wins_game = s.wins_game;
-    wins_format = s.wins_format;
+    ready_wins = s.ready_wins;
     ready = s.ready;
     counts = CountsVisits-counted (whole_game game) meter next s.counts is later;
     within = omega (arith, s.within, left);
@@ -205,21 +198,20 @@ module _ (game : GameNumbers) (pass : ℕ) (meter : Metered) (wins : adversary_p
     known = s.known;
   })
 
-  -- after a node of the adversary at a won position
-  pub AreSound-win : (after : adversary_pools.Pool) (position : Position) (number : ℕ) → AreSound game pass meter wins replies entries
-      → PutsWin wins after position number → IsWonIn game pass position
+  -- after a win at a won position
+  pub AreSound-win : (after : List Win) (position : Position) (size : ℕ) (placements : List Placement) (number : ℕ) → AreSound game pass meter wins replies entries
+      → (p : KeepsWin wins after position size placements number) → IsWonIn game pass position → IsReadyWin game wins p.win
       → AreSound game pass meter after replies entries
-  AreSound-win after position number s p won = subst (λ w. AreSound game pass meter w replies entries) (sym p.pool) (record {
-    wins_game = s.wins_game;
-    wins_format = s.wins_format;
+  AreSound-win after position size placements number s p won ready = subst (λ w. AreSound game pass meter w replies entries) (sym p.list) (record {
+    ready_wins = EachOver-push (IsReadyWin game) wins p.win s.ready_wins ready;
     ready = s.ready;
     counts = s.counts;
     within = s.within;
     budget = s.budget;
-    won = All-push (λ node. IsWonIn game pass (adversary.position_of node)) wins.nodes p.node s.won (subst (IsWonIn game pass) (sym p.stands) won);
+    won = All-push (λ win. IsWonIn game pass (position_of_win win)) wins p.win s.won (subst (IsWonIn game pass) (sym p.stands) won);
     lost = s.lost;
-    known = λ one told e. Says-goes game wins.nodes (wins.nodes ++ p.node ∷ []) replies replies one told
-        (GoesOn-push wins.nodes p.node) (GoesOn-refl replies) (s.known one told e);
+    known = λ one told e. Says-goes game wins (wins ++ p.win ∷ []) replies replies one told
+        (GoesOn-push wins p.win) (GoesOn-refl replies) (s.known one told e);
   })
 
   -- after replies at a position that is never won
@@ -227,29 +219,27 @@ module _ (game : GameNumbers) (pass : ℕ) (meter : Metered) (wins : adversary_p
       → (p : KeepsReply replies after position made number) → IsNeverWon game position → IsReady game replies p.reply
       → AreSound game pass meter wins after entries
   AreSound-reply after position made number s p never ready = subst (λ r. AreSound game pass meter wins r entries) (sym p.list) (record {
-    wins_game = s.wins_game;
-    wins_format = s.wins_format;
-    ready = AreReady-push game replies p.reply s.ready ready;
+    ready_wins = s.ready_wins;
+    ready = EachOver-push (IsReady game) replies p.reply s.ready ready;
     counts = s.counts;
     within = s.within;
     budget = s.budget;
     won = s.won;
     lost = All-push (λ reply. IsNeverWon game (position_of_reply reply)) replies p.reply s.lost (subst (IsNeverWon game) (sym p.stands) never);
-    known = λ one told e. Says-goes game wins.nodes wins.nodes replies (replies ++ p.reply ∷ []) one told
-        (GoesOn-refl wins.nodes) (GoesOn-push replies p.reply) (s.known one told e);
+    known = λ one told e. Says-goes game wins wins replies (replies ++ p.reply ∷ []) one told
+        (GoesOn-refl wins) (GoesOn-push replies p.reply) (s.known one told e);
   })
 
   -- in a later pass
   pub AreSound-later : (later : ℕ) → pass ≤ later → AreSound game pass meter wins replies entries → AreSound game later meter wins replies entries
   AreSound-later later l s = record {
-    wins_game = s.wins_game;
-    wins_format = s.wins_format;
+    ready_wins = s.ready_wins;
     ready = s.ready;
     counts = s.counts;
     within = s.within;
     budget = s.budget;
-    won = All-weaker (λ node. IsWonIn game pass (adversary.position_of node)) (λ node. IsWonIn game later (adversary.position_of node))
-        (λ node w. IsWonIn-later game pass later (adversary.position_of node) l w) wins.nodes s.won;
+    won = All-weaker (λ win. IsWonIn game pass (position_of_win win)) (λ win. IsWonIn game later (position_of_win win))
+        (λ win w. IsWonIn-later game pass later (position_of_win win) l w) wins s.won;
     lost = s.lost;
     known = s.known;
   }

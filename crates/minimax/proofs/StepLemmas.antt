@@ -16,8 +16,6 @@ use Rattle.loads.specs.declared.position.Position.{Position}
 use Rattle.packing_witness.proofs.PackingLemmas.{le_room}
 use Rattle.good_situations.specs.Finish.{Finishes}
 use Rattle.strategy_text.specs.declared.node.Then.TheVariants.{Over}
-use Rattle.adversary_graph.specs.Nodes as adversary
-use Rattle.adversary_graph.specs.Pools as adversary_pools
 use Rattle.monotone.specs.Paths.{IsEarlierMove, IsLegalMove, moved, position_after}
 use Rattle.monotone.specs.Visits.{visit, Metered, IsLater, counted}
 use Rattle.monotone.specs.declared.meter.VisitFault.{VisitFault}
@@ -29,10 +27,12 @@ use Rattle.transposition.specs.declared.verdict.Verdict.{Verdict}
 use Rattle.transposition.specs.declared.verdict.Verdict.TheVariants.{Adversary, Algorithm, Held}
 use Rattle.minimax.specs.Settled.{AreSettledFrom, IsSettledMove}
 use Rattle.minimax.specs.State.{IsBound, IsFinish, AreSound, FindsVerdict, FollowsUp, Goes, HasPassed, HasReached, IsHeld, IsNeverWon, IsOfPass, IsOpenAt, IsOpenFrom}
-use Rattle.minimax.specs.State.{IsSound, IsWonIn, MayCome, MayVisit, PutsOnly, PutsWin, Says, StandsAtPath, Tells, WentOn}
+use Rattle.minimax.specs.State.{IsSound, IsWonIn, MayCome, MayVisit, PutsOnly, Says, StandsAtPath, Tells, WentOn}
 use Rattle.minimax.specs.State.{allowed_by, reached_by, with_move}
-use Rattle.minimax.specs.State.{IsReady, KeepsReply, position_of_reply}
+use Rattle.minimax.specs.State.{IsReady, IsReadyWin, KeepsReply, KeepsWin, position_of_reply, position_of_win}
+use Rattle.minimax.specs.declared.wins.Win.{Win}
 use Rattle.strategy_text.specs.declared.node.Entry.{Entry}
+use Rattle.strategy_text.specs.declared.node.Placement.{Placement}
 use Rattle.minimax.specs.declared.expanding.Search.{Search}
 use Rattle.minimax.specs.declared.replies.Reply.{Reply}
 use Rattle.minimax.specs.declared.finish_nodes.TheConstants.{FINISHES}
@@ -40,7 +40,7 @@ use Rattle.minimax.proofs.PastLemmas.{HasPassed-later, HasPassed-moves, HasPasse
 use Rattle.minimax.proofs.PlayableLemmas.{IsPlayable-after}
 use Rattle.minimax.proofs.StateLemmas.{AreSound-counted, AreSound-known, AreSound-put, AreSound-reply, AreSound-win}
 use Rattle.minimax.proofs.StateLemmas.{GoesOn-refl, GoesOn-trans}
-use Rattle.minimax.proofs.StateLemmas.{StandsAt-last, won_by_node}
+use Rattle.minimax.proofs.StateLemmas.{StandsAt-last, won_by_win}
 
 -- ---- faults
 
@@ -54,7 +54,7 @@ passed_on P Q fault (Err other) h q = subst Q (sym h) q
 
 pub Goes-refl : (search : Search) → Goes search search
 Goes-refl s = record {
-  wins = GoesOn-refl s.wins.nodes;
+  wins = GoesOn-refl s.wins;
   replies = GoesOn-refl s.replies;
   path = refl;
   most = refl;
@@ -63,7 +63,7 @@ Goes-refl s = record {
 
 pub Goes-trans : (s0 s1 s2 : Search) → Goes s0 s1 → Goes s1 s2 → Goes s0 s2
 Goes-trans s0 s1 s2 g h = record {
-  wins = GoesOn-trans s0.wins.nodes s1.wins.nodes s2.wins.nodes g.wins h.wins;
+  wins = GoesOn-trans s0.wins s1.wins s2.wins g.wins h.wins;
   replies = GoesOn-trans s0.replies s1.replies s2.replies g.replies h.replies;
   path = h.path ∙ g.path;
   most = h.most ∙ g.most;
@@ -174,29 +174,25 @@ module _ (game : GameNumbers) (pass : ℕ) where
     };
   }
 
-  -- a node of the adversary gives the verdict
-  pub finds_win : (s0 s1 : Search) (wins : adversary_pools.Pool) (a : PathMove) (position : Position) (entries : List (Position × Verdict)) (number : ℕ)
-      → WentOn game pass (s0.path ++ a ∷ []) s0 s1 entries → PutsWin s1.wins wins position number
-      → IsWonIn game pass position → FindsVerdict game pass position s0 (record s1 { wins = wins }) entries (Adversary number)
-  finds_win s0 s1 wins a position entries number g p won =
-      let nodes : wins.nodes ≡ s1.wins.nodes ++ p.node ∷ [] = ap (λ w. w.nodes) p.pool in
-      record {
-        went = record {
-          goes = record {
-            wins = GoesOn-trans s0.wins.nodes s1.wins.nodes wins.nodes g.goes.wins (p.node ∷ [], nodes);
-            replies = g.goes.replies;
-            path = g.goes.path;
-            most = g.goes.most;
-            budget = g.goes.budget;
-          };
-          sound = AreSound-win game pass s1.meter s1.wins s1.replies entries wins position number g.sound p won;
-          passed = HasPassed-path s1.meter pass s0.path a g.passed;
-        };
-        tells = record {
-          says = StandsAt-last adversary.position_of s1.wins.nodes wins.nodes p.node number position nodes p.is_last p.stands;
-          of_pass = tt;
-        };
-      }
+  -- a win gives the verdict
+  pub finds_win : (s0 s1 : Search) (wins : List Win) (a : PathMove) (position : Position) (size : ℕ) (placements : List Placement)
+      (entries : List (Position × Verdict)) (number : ℕ) → WentOn game pass (s0.path ++ a ∷ []) s0 s1 entries
+      → (p : KeepsWin s1.wins wins position size placements number) → IsWonIn game pass position → IsReadyWin game s1.wins p.win
+      → FindsVerdict game pass position s0 (record s1 { wins = wins }) entries (Adversary number)
+  finds_win s0 s1 wins a position size placements entries number g p won ready = record {
+    went = record {
+      goes = record {
+        wins = GoesOn-trans s0.wins s1.wins wins g.goes.wins (p.win ∷ [], p.list);
+        replies = g.goes.replies;
+        path = g.goes.path;
+        most = g.goes.most;
+        budget = g.goes.budget;
+      };
+      sound = AreSound-win game pass s1.meter s1.wins s1.replies entries wins position size placements number g.sound p won ready;
+      passed = HasPassed-path s1.meter pass s0.path a g.passed;
+    };
+    tells = record { says = StandsAt-last position_of_win s1.wins wins p.win number position p.list p.is_last p.stands; of_pass = tt };
+  }
 
   -- that no size wins gives the verdict
   pub finds_held : (s0 s1 : Search) (a : PathMove) (position : Position) (entries : List (Position × Verdict))
@@ -307,7 +303,7 @@ module _ (game : GameNumbers) (pass : ℕ) where
   reaches s entries position size load (Adversary number) below sound t = record {
     over = (λ o. absurd o, λ l. absurd (omega (arith, l, below)));
     leads = t.says;
-    won = inr (won_by_node game pass s.meter s.wins s.replies entries (after position load size) number sound t.says);
+    won = inr (won_by_win game pass s.meter s.wins s.replies entries (after position load size) number sound t.says);
   }
   reaches s entries position size load (Algorithm number) below sound t = (below, tt, t)
   reaches s entries position size load (Held held) below sound t = (below, tt, t)
@@ -329,7 +325,7 @@ module _ (game : GameNumbers) (pass : ℕ) where
         },
         reaches (record s2 { path = back }) entries position size load verdict below finds.went.sound
             (record {
-              says = subst (λ p. Says game s2.wins.nodes s2.replies p verdict) f finds.tells.says;
+              says = subst (λ p. Says game s2.wins s2.replies p verdict) f finds.tells.says;
               of_pass = finds.tells.of_pass;
             }),
       )

@@ -7,3 +7,5 @@ pub mod Serving
 pub mod Rooms
 pub mod Naming
 pub mod Writing
+pub mod Reached
+pub mod WinsWriting

@@ -35,10 +35,10 @@ led_to position entry = after position entry.load entry.size
 abbrev pub IsEntryServed : List Position → Position → Entry → Type 0
 IsEntryServed unnamed position entry = entry.to ≡ FINISHES → IsServed unnamed (led_to position entry)
 
--- so many visits are left over for nodes beside those of the list, of the adversary's nodes and of the replies
+-- so many visits are left over for nodes beside those of the list, of the wins and of the replies
 abbrev pub IsUnder : ℕ → List Position → Search → Type 0
 IsUnder spare unnamed search =
-    length unnamed + length search.wins.nodes + length search.replies + spare ≤ search.meter.count
+    length unnamed + length search.wins + length search.replies + spare ≤ search.meter.count
 
 -- the greatest load that stays below the target with an item of this size
 pub record IsFirst (game : GameNumbers) (position : Position) (size load : ℕ) : Type 0 where

@@ -18,7 +18,6 @@ use Rattle.strategy_text.specs.declared.node.Act.{Act}
 use Rattle.strategy_text.specs.declared.node.AdvNode.{AdvNode}
 use Rattle.strategy_text.specs.declared.node.AlgNode.{AlgNode}
 use Rattle.strategy_text.specs.declared.node.Entry.{Entry}
-use Rattle.strategy_text.specs.declared.node.Format.TheVariants.{One}
 use Rattle.strategy_text.specs.declared.node.Placement.{Placement}
 use Rattle.strategy_text.specs.declared.node.Then.TheVariants.{To}
 use Rattle.adversary_graph.specs.Nodes as adversary
@@ -49,6 +48,7 @@ use Rattle.minimax.specs.declared.expanding.Weighed.{Weighed}
 use Rattle.minimax.specs.declared.expanding.Weighed.TheVariants.{NoReply, Replied, Won}
 use Rattle.minimax.specs.declared.table.Told.{Told}
 use Rattle.minimax.specs.declared.table.Told.TheVariants.{Earlier, Settled, Unknown}
+use Rattle.minimax.specs.declared.wins.Win.{Win}
 
 -- ---- positions
 
@@ -82,6 +82,10 @@ pub record IsFinish (game : GameNumbers) (position : Position) (number : ℕ) : 
   pub finishes : Finishes game position.loads
   pub never : IsNeverWon game position
 
+-- the position of a kept win
+abbrev pub position_of_win : Win → Position
+position_of_win win = win.position
+
 -- the position of kept replies
 abbrev pub position_of_reply : Reply → Position
 position_of_reply reply = reply.position
@@ -101,9 +105,10 @@ pub record IsHeld (game : GameNumbers) (pass : ℕ) (position : Position) : Type
   pub not_won : IsWonIn game pass position → ⊥
   pub unfinished : Finishes game position.loads → ⊥
 
--- what a verdict says of a position: the node of its number stands there, or it finishes, or the adversary has no win
-abbrev pub Says : GameNumbers → List AdvNode → List Reply → Position → Verdict → Type 0
-Says game wins replies position (Adversary number) = StandsAt (map adversary.position_of wins) number position
+-- what a verdict says of a position: the win or the replies of its number stand there, or it finishes, or the adversary
+-- has no win
+abbrev pub Says : GameNumbers → List Win → List Reply → Position → Verdict → Type 0
+Says game wins replies position (Adversary number) = StandsAt (map position_of_win wins) number position
 Says game wins replies position (Algorithm number) = IsLed game replies position number
 Says game wins replies position (Held pass) = IsHeld game pass position
 
@@ -114,7 +119,7 @@ IsOfPass pass (Algorithm number) = Unit {0}
 IsOfPass pass (Held held) = held ≡ pass
 
 -- each entry says what holds
-abbrev pub AreKnown : GameNumbers → List AdvNode → List Reply → List (Position × Verdict) → Type 0
+abbrev pub AreKnown : GameNumbers → List Win → List Reply → List (Position × Verdict) → Type 0
 AreKnown game wins replies entries =
     (position : Position) (verdict : Verdict) → verdict_of entries position ≡ Some verdict
     → Says game wins replies position verdict
@@ -142,23 +147,41 @@ pub record IsReady (game : GameNumbers) (earlier : List Reply) (reply : Reply) :
   pub of_all : AreOfAll game reply.position room reply.entries.items
   pub pending : All (IsPending game earlier reply.position) reply.entries.items
 
--- and so each of a list, over those before it
-abbrev pub AreReady : GameNumbers → List Reply → Type 0
-AreReady game replies = (k : ℕ) (reply : Reply) → slice_get replies k ≡ Some reply → IsReady game (take k replies) reply
+-- what holds of each of a list, over those before it
+abbrev pub EachOver : {X : Type 0} → (List X → X → Type 0) → List X → Type 0
+EachOver {X} P xs = (k : ℕ) (x : X) → slice_get xs k ≡ Some x → P (take k xs) x
 
--- a pool of the game, a meter that counted visits of it, nodes of the adversary that are won in this pass, replies of
--- the algorithm at positions that are won in none, and entries that hold
-pub record AreSound (game : GameNumbers) (pass : ℕ) (meter : Metered) (wins : adversary_pools.Pool)
+abbrev pub AreReady : GameNumbers → List Reply → Type 0
+AreReady game replies = EachOver (IsReady game) replies
+
+-- what follows an item of this size at each load, over the positions of earlier nodes
+pub record PlacesAll (game : GameNumbers) (earlier : List Position) (position : Position) (size : ℕ)
+    (placements : List Placement) : Type 0 where
+  pub each_load : map (λ (placement : Placement). placement.load) placements ≡ distinct position.loads
+  pub over : All (IsOverAtTarget game size) placements
+  pub leads : All (λ placement. LeadsTo earlier placement.next (after position placement.load size)) placements
+
+-- a win at a position of the game, by an item that may come: each load leads to an earlier win or is over
+pub record IsReadyWin (game : GameNumbers) (earlier : List Win) (win : Win) : Type 0 where
+  pub playable : IsPlayable game win.position
+  pub may_come : Packable game (win.position.items ++ win.size ∷ [])
+  pub places : PlacesAll game (map position_of_win earlier) win.position win.size win.placements
+
+abbrev pub AreReadyWins : GameNumbers → List Win → Type 0
+AreReadyWins game wins = EachOver (IsReadyWin game) wins
+
+-- a meter that counted visits of the game, positions that the adversary wins in this pass, replies of the algorithm at
+-- positions that are won in none, and entries that hold
+pub record AreSound (game : GameNumbers) (pass : ℕ) (meter : Metered) (wins : List Win)
     (replies : List Reply) (entries : List (Position × Verdict)) : Type 0 where
-  pub wins_game : wins.game ≡ game
-  pub wins_format : wins.format ≡ One
   pub counts : CountsVisits (whole_game game) meter
   pub within : meter.count ≤ meter.budget
   pub budget : meter.budget ≤ most_nodes
-  pub won : All (λ node. IsWonIn game pass (adversary.position_of node)) wins.nodes
+  pub won : All (λ win. IsWonIn game pass (position_of_win win)) wins
   pub lost : All (λ reply. IsNeverWon game (position_of_reply reply)) replies
+  pub ready_wins : AreReadyWins game wins
   pub ready : AreReady game replies
-  pub known : AreKnown game wins.nodes replies entries
+  pub known : AreKnown game wins replies entries
 
 -- what a search keeps
 abbrev pub IsSound : GameNumbers → ℕ → Search → List (Position × Verdict) → Type 0
@@ -243,9 +266,9 @@ Stops game pass budget search Memory = Unit {0}
 abbrev pub GoesOn : {X : Type 0} → List X → List X → Type 0
 GoesOn {X} before after = (more : List X) × (after ≡ before ++ more)
 
--- the pools went on, and path and budget are as before
+-- the lists went on, and path and budget are as before
 pub record Goes (before after : Search) : Type 0 where
-  pub wins : GoesOn before.wins.nodes after.wins.nodes
+  pub wins : GoesOn before.wins after.wins
   pub replies : GoesOn before.replies after.replies
   pub path : after.path ≡ before.path
   pub most : after.most ≡ before.most
@@ -261,7 +284,7 @@ pub record WentOn (game : GameNumbers) (pass : ℕ) (past : List PathMove) (befo
 -- the verdict of this pass says what holds of the position
 pub record Tells (game : GameNumbers) (pass : ℕ) (search : Search) (position : Position)
     (verdict : Verdict) : Type 0 where
-  pub says : Says game search.wins.nodes search.replies position verdict
+  pub says : Says game search.wins search.replies position verdict
   pub of_pass : IsOfPass pass verdict
 
 -- the search of a position went on to a verdict
@@ -276,12 +299,12 @@ IsNoWin (Adversary number) = ⊥
 IsNoWin (Algorithm number) = Unit {0}
 IsNoWin (Held held) = Unit {0}
 
--- what follows an item at a load is over exactly where it reaches the target, and else leads to an earlier node; the
+-- what follows an item at a load is over exactly where it reaches the target, and else leads to an earlier win; the
 -- adversary wins there
 pub record FollowsUp (game : GameNumbers) (pass : ℕ) (search : Search) (position : Position) (size : ℕ)
     (placement : Placement) : Type 0 where
   pub over : IsOverAtTarget game size placement
-  pub leads : LeadsTo (map adversary.position_of search.wins.nodes) placement.next (after position placement.load size)
+  pub leads : LeadsTo (map position_of_win search.wins) placement.next (after position placement.load size)
   pub won : (game.target ≤ placement.load + size) ⊎ IsWonIn game pass (after position placement.load size)
 
 -- what an item of this size comes to at a load
@@ -362,13 +385,15 @@ pub record PutsReply (before after : algorithm_pools.Pool) (position : Position)
   pub pool : after ≡ algorithm_pools.pool_of before.format before.game (before.nodes ++ node ∷ [])
   pub is_last : number ≡ length before.nodes
 
--- what follows an item of this size at each load
-pub record PlacesAll (game : GameNumbers) (wins : List AdvNode) (position : Position) (size : ℕ)
-    (placements : List Placement) : Type 0 where
-  pub each_load : map (λ (placement : Placement). placement.load) placements ≡ distinct position.loads
-  pub over : All (IsOverAtTarget game size) placements
-  pub leads : All (λ placement. LeadsTo (map adversary.position_of wins) placement.next
-      (after position placement.load size)) placements
+-- a win at this position was put at the end of a list
+pub record KeepsWin (before after : List Win) (position : Position) (size : ℕ) (placements : List Placement)
+    (number : ℕ) : Type 0 where
+  pub win : Win
+  pub stands : win.position ≡ position
+  pub sends : win.size ≡ size
+  pub kept : win.placements ≡ placements
+  pub list : after ≡ before ++ win ∷ []
+  pub is_last : number ≡ length before
 
 -- replies at this position were put at the end of a list
 pub record KeepsReply (before after : List Reply) (position : Position) (entries : List Entry)

@@ -1,6 +1,7 @@
 //! The search of one pass: the expansion of positions.
 
-ghost use Rattle.std.specs.Prelude.{◌≡◌, ◌+◌, ◌-◌, ◌++◌, ◌∷◌, [], IfOk, MatchResult, Some, sum};
+ghost use Rattle.std.specs.Prelude.{◌≡◌, ◌↔◌, ◌+◌, ◌-◌, ◌<◌, ◌≤◌, ◌++◌, ◌∷◌, [], IfOk, IsTrue, MatchResult, Some, sum};
+ghost use Rattle.items.specs.Multiset.{largest_of};
 ghost use Rattle.items.specs.Game.{IsGame};
 ghost use Rattle.items.specs.Packable.{IsRoom, Packable};
 ghost use Rattle.good_situations.specs.Finish.{Finishes};
@@ -16,12 +17,12 @@ ghost use Rattle.minimax.specs.State.{Stops, WentOn};
 ghost use Rattle.minimax.specs.State.{kept_of, reached_by, with_move};
 
 use crate::finish_nodes::FINISHES;
-use crate::nodes::{key_after, loads_after, push_win};
+use crate::nodes::{key_after, loads_after};
 use crate::replies::{Replies, keep, put};
 use crate::rooms::Rooms;
 use crate::skipping::skipped;
 use crate::table::{Told, known, remember, remember_finish};
-use adversary_graph::AdvPool;
+use crate::wins::{Wins, keep_win};
 use good_situations::finishes;
 use items::Game;
 use items::laws::game_is_legal;
@@ -36,7 +37,7 @@ use transposition::{Key, Memo, Verdict};
 pub(crate) struct Search {
     pub(crate) alloc: Global,
     pub(crate) meter: Meter,
-    pub(crate) wins: AdvPool,
+    pub(crate) wins: Wins,
     pub(crate) replies: Replies,
     pub(crate) rooms: Rooms,
     pub(crate) path: Path,
@@ -58,7 +59,7 @@ pub(crate) enum Tried {
     Answered { load: u16, verdict: Verdict },
 }
 
-// What was found of a size and kept: the number of the node that sends it, or the reply to it, or no more than that it
+// What was found of a size and kept: the number of its win, or the reply to it, or no more than that it
 // has no win in this pass.
 #[derive(Clone, Copy)]
 pub(crate) enum Weighed {
@@ -127,7 +128,8 @@ fn visit_finish<M: Memo>(
         search.new (M.entries memo.new) (λ later. IsServedBy game.now later key verdict)) }
 {
     if remember_finish(memo, key)? {
-        search.meter.visit(pass, &search.path)?;
+        let path = &search.path;
+        search.meter.visit(pass, path)?;
     }
     Ok(Verdict::Algorithm(FINISHES))
 }
@@ -209,10 +211,15 @@ fn weigh_all<M: Memo>(
         search.new (M.entries memo.new) (λ later. IsServedBy game.now later position.now verdict)) }
 {
     let mut entries = Vec::new(search.alloc);
+    let collects = allows_all(game, pass, position);
     for tried in 0..room {
         match weigh(game, pass, told, search, memo, position, key, room - tried)? {
             Weighed::Won(number) => return Ok(Verdict::Adversary(number)),
-            Weighed::Replied(entry) => put(&mut entries, entry)?,
+            Weighed::Replied(entry) => {
+                if collects {
+                    put(&mut entries, entry)?;
+                }
+            }
             Weighed::NoReply => {}
         }
     }
@@ -223,7 +230,17 @@ fn weigh_all<M: Memo>(
     Ok(Verdict::Algorithm(number))
 }
 
-// What a size comes to; where it wins, the node that sends it is put.
+// Whether the pass allows all sizes after the items of the position. Where it does not, there are no replies to all
+// sizes, and none need to be kept.
+fn allows_all(game: &Game, pass: u16, position: &Position) -> bool
+    requires of_game { pass < game.now.capacity }
+    ensures { IsTrue result ↔ (largest_of position.now.items ≤ 1 + pass) }
+{
+    game_is_legal(game);
+    allows(pass, &position.items, 1)
+}
+
+// What a size comes to; where it wins, that is kept.
 #[cycle(expanding)]
 fn weigh<M: Memo>(
     game: &Game,
@@ -259,7 +276,7 @@ fn weigh<M: Memo>(
     }
     match try_size(game, pass, search, memo, position, key, size)? {
         Tried::Wins(placements) => {
-            let number = push_win(search.alloc, &mut search.wins, position, size, placements)?;
+            let number = keep_win(search.alloc, &mut search.wins, position, size, placements)?;
             Ok(Weighed::Won(number))
         }
         Tried::Answered { load, verdict } => Ok(kept(size, load, verdict)),

@@ -15,13 +15,13 @@ use crate::answer::Answer;
 use crate::expanding::{Search, expand};
 use crate::replies::Replies;
 use crate::rooms::Rooms;
+use crate::wins::Wins;
+use crate::wins_writing::write_wins;
 use crate::writing::write_replies;
-use adversary_graph::AdvPool;
 use items::{Game, Items};
 use loads::{Loads, Position};
 use monotone::{Meter, Path, VisitFault};
 use std::alloc::{AllocError, Global};
-use strategy_text::Format;
 use transposition::{Key, Memo, Verdict};
 
 /// Who wins a game, searched pass by pass under a budget of visits; the memo is empty at the start.
@@ -80,7 +80,7 @@ fn search_passes<M: Memo>(
     let mut search = Search {
         alloc,
         meter: Meter::new(alloc, game, budget),
-        wins: AdvPool::new(alloc, game, Format::One),
+        wins: Wins::new(alloc),
         replies: Replies::new(alloc),
         rooms: Rooms::new(alloc, game)?,
         path: Path::new(alloc),
@@ -95,7 +95,8 @@ fn search_passes<M: Memo>(
         match expand(game, pass, &mut search, memo, root.loads.copy(), key) {
             Ok(Verdict::Held(_)) => {}
             Ok(Verdict::Adversary(number)) => {
-                return Ok(Answer::Adversary(search.wins.into_strategy(number)));
+                let strategy = write_wins(alloc, game, &search.wins, number)?;
+                return Ok(Answer::Adversary(strategy));
             }
             Ok(Verdict::Algorithm(told)) => {
                 let strategy = write_replies(alloc, game, &search.replies, &root, told, budget)?;

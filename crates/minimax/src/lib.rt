@@ -7,10 +7,13 @@ mod finish_nodes;
 mod game_search;
 mod naming;
 mod nodes;
+mod reached;
 mod replies;
 mod rooms;
 mod skipping;
 mod table;
+mod wins;
+mod wins_writing;
 mod writing;
 
 pub use answer::Answer;

@@ -1,6 +1,6 @@
-//! The nodes that a search puts into the pools of both sides.
+//! The nodes that are put into the pools of both sides where a strategy is written.
 
-ghost use Rattle.std.specs.Prelude.{◌≡◌, ◌+◌, ◌<◌, ◌++◌, ◌∷◌, [], Contains, IfOk, length};
+ghost use Rattle.std.specs.Prelude.{◌≡◌, ◌+◌, ◌<◌, ◌++◌, ◌∷◌, [], Contains, IfOk, length, map};
 ghost use Rattle.items.specs.Packable.{Packable};
 ghost use Rattle.items.specs.Multiset.{put_ascending};
 ghost use Rattle.loads.specs.After.{after};
@@ -8,6 +8,7 @@ ghost use Rattle.loads.specs.Loads.{loads_after};
 ghost use Rattle.loads.specs.Position.{position};
 ghost use Rattle.strategy_text.specs.Spelling.{most_nodes};
 ghost use Rattle.strategy_text.specs.declared.node.Format.TheVariants.{One};
+ghost use Rattle.adversary_graph.specs.Nodes.{position_of};
 ghost use Rattle.good_situations.specs.Finish.{Finishes};
 ghost use Rattle.minimax.specs.State.{IsPlayable, PutsWin, PutsReply, PlacesAll, ReplyToAll, MayAct};
 
@@ -34,7 +35,7 @@ pub(crate) fn push_win(
     requires may_come { Packable wins.old.game (position.now.items ++ size ∷ []) }
     requires format { wins.old.format ≡ One }
     requires room { length wins.old.nodes < most_nodes }
-    requires places { PlacesAll wins.old.game wins.old.nodes position.now size placements }
+    requires places { PlacesAll wins.old.game (map position_of wins.old.nodes) position.now size placements }
     ensures { IfOk result (PutsWin wins.old wins.new position.now) }
 {
     let game = wins.game();

@@ -23,8 +23,8 @@ use Rattle.minimax.specs.declared.finish_nodes.TheConstants.{FINISHES}
 use Rattle.transposition.specs.declared.verdict.Verdict.TheVariants.{Adversary, Algorithm, Held}
 use Rattle.minimax.proofs.FinishLemmas.{IsNeverWon-finish}
 use Rattle.minimax.proofs.PlayableLemmas.{IsPlayable-after, child_is, total_with}
-use Rattle.minimax.proofs.SizeLemmas.{finds_after, follows_more, ready_reply, next_bound, may_come_allowed, never_by_replies, none_more, not_allowed}
-use Rattle.minimax.proofs.SizeLemmas.{opens_load, opens_size, past_more, past_size}
+use Rattle.minimax.proofs.SizeLemmas.{finds_after, follows_more, ready_reply, next_bound, may_come_allowed, never_by_replies, none_more, not_allowed, ready_win}
+use Rattle.minimax.proofs.SizeLemmas.{before_last, opens_load, opens_size, past_more, past_size}
 use Rattle.minimax.proofs.SizeLemmas.{placed_more, replies_more, replies_still, sizes_more, weighs, wins_by}
 use Rattle.minimax.proofs.StepLemmas.{finds_decided, finds_expanded, finds_held, finds_known, finds_reply, finds_win, may_visit_child, opens, passed_on}
 use Rattle.minimax.proofs.StepLemmas.{reached_child, reached_over}
@@ -40,7 +40,7 @@ use Rattle.minimax.proofs.ExpansionLemmas.{tried_before, tried_still}
 use Rattle.monotone.proofs.PassLemmas.{allowed_in-exact}
 use Rattle.items.specs.Multiset.{sizes_of}
 use Rattle.minimax.proofs.expanding.+expanding.Goals as goal
-use Rattle.minimax.proofs.expanding.+expanding.Goals.{weigh_all-in-Replied+in_ok-put-in-Replied, weigh_all-in-NoReply}
+use Rattle.minimax.proofs.expanding.+expanding.Goals.{weigh_all-in-Replied+then-collects+in_ok-put-in-Replied, weigh_all-in-Replied+else-collects, weigh_all-in-NoReply}
 
 -- ---- expand
 
@@ -356,8 +356,11 @@ weigh-returns-in_ok-number-in-Wins-clause-found g t c =
     let tried = subst (HasTried game c.args.pass c.try_size.new.search p c.args.size) c.in-Wins.is c.in_ok-placements.ensures.found.1 in
     let may = may_come_allowed game c.args.pass p c.args.size c.requires.may_come (c.allows.ensures.exact.0 c.if-not-allows.false) in
     let won = IsWon-by game _ p c.args.size (wins_by game c.args.pass c.try_size.new.search p c.args.size c.in-Wins.placements may tried.0 tried.1) in
-    finds_win game c.args.pass c.args.search.now c.try_size.new.search c.push_win.new.wins (moved (c.args.size - 1) game.target) p e2 c.in_ok-number-in-Wins.number
-    c.in_ok-placements.ensures.found.0 c.in_ok-number-in-Wins.ensures won
+    let keeps = c.in_ok-number-in-Wins.ensures in
+    let ready = ready_win game c.args.pass c.try_size.new.search c.keep_win.new.wins p c.args.size c.in-Wins.placements c.in_ok-number-in-Wins.number keeps
+    c.requires.from_size.stands.playable c.requires.may_come tried.0 tried.1 in
+    finds_win game c.args.pass c.args.search.now c.try_size.new.search c.keep_win.new.wins (moved (c.args.size - 1) game.target) p c.args.size c.in-Wins.placements e2
+    c.in_ok-number-in-Wins.number c.in_ok-placements.ensures.found.0 keeps won ready
 
 pub weigh-returns-in-Answered-clause-found : goal.weigh-returns-in-Answered-clause-found
 weigh-returns-in-Answered-clause-found g t c =
@@ -407,19 +410,18 @@ weigh-returns-in-Some-clause-serves g t c =
     subst (λ w. KeepsServingTold game c.args.told p (taken_by w) s e s e (λ later. IsServedFor game c.args.pass later p c.args.size w)) (sym c.kept.ensures)
     (serves_skipped game c.args.pass c.args.told s p c.args.size c.in-Some.load e c.requires.may_come c.in-Some.ensures)
 
-pub weigh-push_win-requires-clause-room : goal.weigh-push_win-requires-clause-room
-weigh-push_win-requires-clause-room g t c =
+pub weigh-keep_win-requires : goal.weigh-keep_win-requires
+weigh-keep_win-requires g t c =
     let e1 = g.M.Memo.entries c.try_size.new.memo in
     let after = spare_after c.args.game.now 1 0 c.args.search.now c.try_size.new.search (g.M.Memo.entries c.args.memo.now) e1 _ c.in_ok-placements.ensures.serves
     c.requires.behind in
     let sound = c.in_ok-placements.ensures.found.0.sound in
-    omega (arith, after.1.0, sound.within, sound.budget)
+    record { room = omega (arith, after.1.0, sound.within, sound.budget) }
 
 pub weigh-returns-in_ok-number-in-Wins-clause-serves : goal.weigh-returns-in_ok-number-in-Wins-clause-serves
 weigh-returns-in_ok-number-in-Wins-clause-serves g t c =
-    serves_won c.args.game.now c.args.told c.args.search.now c.try_size.new.search c.push_win.new.wins c.args.position.now c.in_ok-number-in-Wins.number
-    (g.M.Memo.entries c.args.memo.now)
-    (g.M.Memo.entries c.try_size.new.memo) _ c.in_ok-number-in-Wins.ensures c.in_ok-placements.ensures.serves
+    serves_won c.args.game.now c.args.told c.args.search.now c.try_size.new.search c.keep_win.new.wins c.args.position.now c.args.size c.in-Wins.placements
+    c.in_ok-number-in-Wins.number (g.M.Memo.entries c.args.memo.now) (g.M.Memo.entries c.try_size.new.memo) _ c.in_ok-number-in-Wins.ensures c.in_ok-placements.ensures.serves
 
 pub weigh-returns-in-Answered-clause-serves : goal.weigh-returns-in-Answered-clause-serves
 weigh-returns-in-Answered-clause-serves g t c =
@@ -527,7 +529,7 @@ weigh_all-loop-tried-preserved g t c =
     let e2 = g.M.Memo.entries c.weigh.new.memo in
     let i = c.loop-tried.invariant in
     elim c.match-branch-2.branch [
-      | weigh_all-in-Replied+in_ok-put-in-Replied w ↦
+      | weigh_all-in-Replied+then-collects+in_ok-put-in-Replied w ↦
           let a = subst (HasWeighed game pass size p s1 s2 e2) w.in-Replied.is c.in_ok-number.ensures.found in
           let is = ap (λ (v : Vec Entry Global). v.items) w.entries-is ∙ w.in_ok-put-in-Replied.ensures in
           let len : length c.match-branch-2.entries.items ≡ length c.loop-tried.entries.items + 1 = ap length is ∙ length_push c.loop-tried.entries.items w.in-Replied.entry in
@@ -547,6 +549,29 @@ weigh_all-loop-tried-preserved g t c =
             sizes = sizes_more game pass room tried w.in-Replied.entry c.loop-tried.entries.items c.match-branch-2.entries.items i.sizes a.answered.0 is;
             each = replies_more game pass s1 s2 p _ w.in-Replied.entry c.loop-tried.entries.items c.match-branch-2.entries.items e2 a.went i.each a.answered.1 is;
             gaps = λ l. i.gaps (omega (arith, l, len));
+          }
+      | weigh_all-in-Replied+else-collects w ↦
+          let a = subst (HasWeighed game pass size p s1 s2 e2) w.in-Replied.is c.in_ok-number.ensures.found in
+          let is : c.match-branch-2.entries.items ≡ c.loop-tried.entries.items = ap (λ (v : Vec Entry Global). v.items) w.entries-is in
+          let last : pass + 1 < game.capacity = before_last game pass p c.requires.from_room.stands.playable
+          (λ l. true≢false (sym (c.allows_all-collects.ensures.1 l) ∙ w.if-collects.false)) in
+          record {
+            went = past_more game pass s0 s1 s2 p room tried e1 e2 _ i.went a;
+            counts = CountsFresh-trans game pass (sum p.items + 1) _ _ _ i.counts c.in_ok-number.ensures.counts;
+            serves = serves_size game c.args.told p 0 s0 s1 s2 (g.M.Memo.entries c.args.memo.now) e1 e2 _ _ _ i.serves
+                (subst (λ w. KeepsServingTold game c.args.told p (taken_by w) s1 e1 s2 e2 (λ later. IsServedFor game pass later p size w)) w.in-Replied.is
+                c.in_ok-number.ensures.serves) (λ later m. m.2)
+                (λ before later keeps m n. (
+                  subst (All (IsEntryServed later p)) (sym is)
+                      (All-weaker (IsEntryServed before p) (IsEntryServed later p) (λ e h f. keeps (led_to p e) (h f)) c.loop-tried.entries.items m.0),
+                  sizes_tried game pass room tried before later p c.loop-tried-test.true keeps m.1 n.1,
+                  tried_still game c.args.told before later p keeps m.2,
+                ));
+            none = none_more game pass p room tried c.loop-tried-test.true i.none a.none;
+            few = omega (arith, i.few, ap length is);
+            sizes = λ e. absurd (omega (arith, e, i.few, ap length is));
+            each = subst (All (IsPending game s2.replies p)) (sym is) (replies_still game pass s1 s2 p _ c.loop-tried.entries.items e2 a.went i.each);
+            gaps = λ l. last;
           }
       | weigh_all-in-NoReply w ↦
           let a = subst (HasWeighed game pass size p s1 s2 e2) w.in-NoReply.is c.in_ok-number.ensures.found in

@@ -1,4 +1,4 @@
-use Rattle.std.proofs.Common.{◌∙◌, ◌+◌, ℕ, sum, sym, ap, subst, inl, arith}
+use Rattle.std.proofs.Common.{◌∙◌, ◌+◌, ℕ, length, sum, sym, ap, subst, inl, arith}
 use Rattle.loads.specs.Loads.{IsLoads}
 use Rattle.loads.specs.Position.{position}
 use Rattle.loads.specs.Wins.{empty_position}
@@ -9,7 +9,8 @@ use Rattle.minimax.specs.Fresh.{IsShort, progress}
 use Rattle.minimax.specs.Writing.{MayWrite}
 use Rattle.minimax.proofs.FreshLemmas.{IsLessThanEnds-short, IsWithinEnds-next, IsWithinEnds-start}
 use Rattle.minimax.proofs.StateLemmas.{AreSound-later, never_by_led}
-use Rattle.minimax.proofs.RootLemmas.{AreSound-new, HasSpare-new, IsDue-spent, IsFor-win, IsPlayable-empty, may_visit_root, may_write, none_more, root_of_win}
+use Rattle.minimax.proofs.RootLemmas.{AreSound-new, HasSpare-new, IsDue-spent, IsFor-more, IsPlayable-empty, few_wins, may_visit_root, may_write, may_write_wins}
+use Rattle.minimax.proofs.RootLemmas.{none_more}
 use Rattle.minimax.proofs.ServingLemmas.{spare_after}
 use Rattle.minimax.proofs.game_search.search_passes.Goals as goal
 
@@ -42,14 +43,17 @@ expand-requires-clause-may g c =
     may_visit_root game c.loop-pass.pass c.loop-pass.search c.in_ok-key.key c.loop-pass.invariant.of_game
     (subst (IsLoads game) c.zero.ensures.value c.zero.ensures.legal) root c.loop-pass.invariant.path c.loop-pass.invariant.most c.loop-pass.invariant.later
 
-pub into_strategy-requires : goal.into_strategy-requires
-into_strategy-requires g c =
+pub write_wins-requires : goal.write_wins-requires
+write_wins-requires g c =
     let game = c.args.game.now in
+    let e0 = g.M.Memo.entries c.loop-pass.memo in
     let e = g.M.Memo.entries c.expand.new.memo in
-    let root = c.in_ok-key.ensures.ok ∙ ap (λ xs. position xs c.empty.result) c.zero.ensures.value ∙ ap (position (empty_position game).loads) c.empty.ensures.none in
-    let finds = subst (FindsVerdict game c.loop-pass.pass c.in_ok-key.key c.loop-pass.search c.expand.new.search e) c.in-Ok-Adversary.field-0-is
-    c.in-Ok-Adversary.ensures.found in
-    record { root = root_of_win game c.loop-pass.pass c.expand.new.search.wins.nodes c.in-Ok-Adversary.number c.in_ok-key.key root finds.tells.says }
+    let s = c.expand.new.search in
+    let root = c.in_ok-key.key in
+    let is = c.in_ok-key.ensures.ok ∙ ap (λ xs. position xs c.empty.result) c.zero.ensures.value ∙ ap (position (empty_position game).loads) c.empty.ensures.none in
+    let finds = subst (FindsVerdict game c.loop-pass.pass root c.loop-pass.search s e) c.in-Ok-Adversary.field-0-is c.in-Ok-Adversary.ensures.found in
+    let behind = spare_after game 0 0 c.loop-pass.search s e0 e _ c.in-Ok-Adversary.ensures.serves c.loop-pass.invariant.behind in
+    record { may = may_write_wins game c.loop-pass.pass s e root c.in-Ok-Adversary.number finds.went.sound behind is finds.tells.says }
 
 -- the root in the search, and what was found of it
 pub returns-in-Ok-Adversary-clause-answer : goal.returns-in-Ok-Adversary-clause-answer
@@ -60,11 +64,9 @@ returns-in-Ok-Adversary-clause-answer g c =
     let s = c.expand.new.search in
     let root = c.in_ok-key.key in
     let finds = subst (FindsVerdict game c.loop-pass.pass root c.loop-pass.search s e) c.in-Ok-Adversary.field-0-is c.in-Ok-Adversary.ensures.found in
-    let behind = spare_after c.args.game.now 0 0 c.loop-pass.search s e0 e _ c.in-Ok-Adversary.ensures.serves c.loop-pass.invariant.behind in (
-      c.into_strategy.ensures.legal,
-      IsFor-win game c.loop-pass.pass c.args.budget s e c.in-Ok-Adversary.number c.into_strategy.result finds.went.sound behind
-          (finds.went.goes.budget ∙ c.loop-pass.invariant.budget) c.into_strategy.ensures.value,
-    )
+    let behind = spare_after game 0 0 c.loop-pass.search s e0 e _ c.in-Ok-Adversary.ensures.serves c.loop-pass.invariant.behind in
+    let few = few_wins game c.loop-pass.pass c.args.budget s e finds.went.sound behind (finds.went.goes.budget ∙ c.loop-pass.invariant.budget) in
+    (c.in_ok-strategy-in-Ok-Adversary.ensures.legal, IsFor-more game (length s.wins) c.args.budget _ few c.in_ok-strategy-in-Ok-Adversary.ensures.for_game)
 
 pub write_replies-requires : goal.write_replies-requires
 write_replies-requires g c =
