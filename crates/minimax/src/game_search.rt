@@ -40,7 +40,10 @@ use transposition::{Key, Memo, Verdict};
 /// where the adversary wins a pass, those of the passes up to it. Fails only for want of memory; what the memo then
 /// holds is open.
 ///
-/// The recursion is as deep as items are sent: at most `m * g`, and the first position.
+/// The recursion is as deep as items are sent: at most `m * g`, and the first position. Beside the memo, memory grows
+/// with what is found: some 80 bytes and 12 for each load at a position that the adversary wins, and some 70 bytes and
+/// 8 for each size at one that the algorithm wins. At the end come the nodes of the strategy; where it is the
+/// adversary's, these are the ones that the root leads to.
 pub fn solve<M: Memo>(
     alloc: Global,
     game: &Game,
