@@ -22,9 +22,9 @@ use crate::replies::{Replies, keep, put};
 use crate::rooms::Rooms;
 use crate::skipping::skipped;
 use crate::table::{Told, known, remember, remember_finish};
-use crate::wins::{Wins, keep_win};
+use crate::wins::{Wins, keep_win, placements_of};
 use good_situations::finishes;
-use items::Game;
+use items::{Game, MOST_BINS};
 use items::laws::game_is_legal;
 use loads::{Loads, Position};
 use monotone::{Meter, Path, PathMove, VisitFault, allows};
@@ -319,14 +319,21 @@ fn try_size<M: Memo>(
     ensures serves { IfOk result (λ tried. KeepsServing game.now 0 search.old (M.entries memo.old)
         search.new (M.entries memo.new) (λ later. IsServedWith game.now later position.now size tried)) }
 {
-    let mut placements = Placements::new(search.alloc);
-    for i in 0..position.loads.distinct_count() {
+    game_is_legal(game);
+    // They become a list where the size wins; else they take no memory.
+    let mut placements = [Placement {
+        load: 0,
+        next: Then::Over,
+    }; MOST_BINS as usize];
+    let count = position.loads.distinct_count();
+    for i in 0..count {
         let load = position.loads.distinct_at(i);
         match try_load(game, pass, search, memo, position, key, size, load)? {
-            Reached::ByNext(next) => placements.push(Placement { load, next })?,
+            Reached::ByNext(next) => placements[i] = Placement { load, next },
             Reached::Answers(verdict) => return Ok(Tried::Answered { load, verdict }),
         }
     }
+    let placements = placements_of(search.alloc, &placements[..count])?;
     Ok(Tried::Wins(placements))
 }
 

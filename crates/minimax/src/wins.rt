@@ -1,13 +1,13 @@
 //! The wins of the adversary that a search found, as it keeps them until they are written.
 
-ghost use Rattle.std.specs.Prelude.{◌<◌, IfOk, length};
+ghost use Rattle.std.specs.Prelude.{◌≡◌, ◌<◌, IfOk, length};
 ghost use Rattle.strategy_text.specs.Spelling.{most_nodes};
 ghost use Rattle.minimax.specs.State.{KeepsWin};
 
 use items::Sequence;
 use loads::Position;
 use std::alloc::{AllocError, Global};
-use strategy_text::Placements;
+use strategy_text::{Placement, Placements};
 use transposition::Key;
 
 /// A win of the adversary at a position: the size that it sends, and what follows at each load, from the greatest on.
@@ -41,4 +41,18 @@ pub(crate) fn keep_win(
         placements,
     })?;
     Ok(number)
+}
+
+/// These placements.
+pub(crate) fn placements_of(
+    alloc: Global,
+    list: &[Placement],
+) -> Result<Placements, AllocError>
+    ensures { IfOk result (λ made. made ≡ list.now) }
+{
+    let mut made = Placements::new(alloc);
+    for placement in list {
+        made.push(*placement)?;
+    }
+    Ok(made)
 }

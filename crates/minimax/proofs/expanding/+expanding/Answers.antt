@@ -1,10 +1,12 @@
 use Rattle.std.proofs.Common.{◌≡◌, ◌∙◌, ◌+◌, ◌-◌, ◌<◌, ◌≤◌, ◌⊎◌, ◌++◌, ◌∷◌, [], ℕ, List, Some, None, length}
-use Rattle.std.proofs.Common.{get_or, map, sum, refl, sym, ap, subst, inl, inr, arith, below_more, Vec, Global}
+use Rattle.std.proofs.Common.{get_or, map, set, suc, take, sum, refl, sym, ap, subst, inl, inr, arith, below_more, Vec, Global}
 use Rattle.std.specs.Prelude.{All, Err, IsTrue}
 use Rattle.std.proofs.lemmas.Bool.{false≢true, true≢false}
-use Rattle.std.proofs.lemmas.List.{length_push, take_all}
+use Rattle.std.proofs.lemmas.List.{length-set, length_push, take_all}
+use Rattle.std.proofs.Math.Seq.{take-suc-set}
 use Rattle.std.proofs.lemmas.List.Elements.{All-contains, All-nil, All-weaker}
 use Rattle.items.proofs.MultisetLemmas.{sum-put_ascending}
+use Rattle.loads.proofs.DistinctLemmas.{length-distinct-le}
 use Rattle.loads.specs.After.{after}
 use Rattle.loads.specs.Descending.{distinct}
 use Rattle.loads.specs.Packed.{are_equal}
@@ -13,11 +15,12 @@ use Rattle.monotone.specs.Paths.{moved}
 use Rattle.monotone.specs.Visits.{Metered, visit}
 use Rattle.packing_witness.proofs.PackingLemmas.{size_of_last, le_room, Packable-from_room}
 use Rattle.strategy_text.specs.declared.node.Entry.{Entry}
+use Rattle.strategy_text.specs.declared.node.Placement.{Placement}
 use Rattle.transposition.specs.Bounded.{Puts}
 use Rattle.transposition.specs.Memo.{verdict_of}
 use Rattle.minimax.specs.Fresh.{CountsFresh, IsShort, progress}
 use Rattle.good_situations.specs.Finish.{Finishes}
-use Rattle.minimax.specs.State.{AreOfAll, FindsVerdict, HasReached, HasTried, HasWeighed, IsBound, IsPending, IsTold, IsWonIn, StandsAtPath, WentOn, allowed_by, numbers_down}
+use Rattle.minimax.specs.State.{AreOfAll, FindsVerdict, HasReached, HasTried, HasWeighed, FollowsUp, IsBound, IsPending, IsTold, IsWonIn, StandsAtPath, WentOn, allowed_by, numbers_down}
 use Rattle.minimax.specs.Serving.{IsEntryServed, IsServedAt, IsServedBy, IsServedFor, IsServedWith, KeepsServing, KeepsServingTold, led_to, taken_by}
 use Rattle.minimax.specs.declared.finish_nodes.TheConstants.{FINISHES}
 use Rattle.transposition.specs.declared.verdict.Verdict.TheVariants.{Adversary, Algorithm, Held}
@@ -225,7 +228,7 @@ try_size-try_load-requires g t c κs l =
           c.requires.of_key, (i.went.sound,
           (
             opens_load c.args.game.now c.args.pass c.args.search.now c.loop-i.search c.args.position.now c.args.size c.loop-i.i c.distinct_at-load.result
-                (g.M.Memo.entries c.loop-i.memo) c.requires.from_size i.went i.won (omega (arith, c.loop-i-test.true, c.distinct_count-i-end.ensures.value))
+                (g.M.Memo.entries c.loop-i.memo) c.requires.from_size i.went i.won (omega (arith, c.loop-i-test.true, c.distinct_count-count.ensures.value))
                 c.distinct_at-load.ensures.value c.distinct_at-load.ensures.member,
             (
               c.requires.may_come,
@@ -236,6 +239,16 @@ try_size-try_load-requires g t c κs l =
         )),
       ),
     )
+
+pub try_size-bounds-placements-i : goal.try_size-bounds-placements-i
+try_size-bounds-placements-i g t c = omega (
+  arith,
+  c.loop-i-test.true,
+  c.distinct_count-count.ensures.value,
+  length-distinct-le c.args.position.now.loads,
+  c.requires.from_size.stands.playable.loads.one_each,
+  c.game_is_legal.ensures.bins.high,
+)
 
 pub try_size-returns-in-Answers-clause-found : goal.try_size-returns-in-Answers-clause-found
 try_size-returns-in-Answers-clause-found g t c =
@@ -249,7 +262,7 @@ try_size-returns-in-Answers-clause-found g t c =
     c.try_load.new.search e1 e2
     i.went c.in_ok-next.ensures.found.0 in
     let opened = opens_load game c.args.pass c.args.search.now c.loop-i.search c.args.position.now c.args.size c.loop-i.i load e1 c.requires.from_size i.went i.won
-    (omega (arith, c.loop-i-test.true, c.distinct_count-i-end.ensures.value)) c.distinct_at-load.ensures.value c.distinct_at-load.ensures.member in
+    (omega (arith, c.loop-i-test.true, c.distinct_count-count.ensures.value)) c.distinct_at-load.ensures.value c.distinct_at-load.ensures.member in
     let came = subst (HasReached game c.args.pass c.try_load.new.search c.args.position.now c.args.size load) c.in-Answers.is c.in_ok-next.ensures.found.1 in (
       past_size game c.args.pass c.args.search.now c.try_load.new.search c.args.position.now c.args.size load e2 c.requires.may_come.packable went,
       (c.distinct_at-load.ensures.member, came.0, came.1, came.2, opened.larger_loads),
@@ -281,20 +294,34 @@ try_size-loop-i-preserved g t c =
     let came = subst (HasReached game c.args.pass c.try_load.new.search p c.args.size load) c.in-ByNext.is c.in_ok-next.ensures.found.1 in
     let here : load ≡ get_or ds c.loop-i.i 0 = c.distinct_at-load.ensures.value in
     let next : get_or (game.target ∷ ds) (c.loop-i.i + 1) 0 ≡ get_or ds c.loop-i.i 0 = next_bound game.target ds c.loop-i.i in
+    let placed : Placement = record { load = load; next = c.in-ByNext.next } in
+    let made : List Placement = set c.loop-i.placements c.loop-i.i placed in
+    let one : c.loop-i.i + 1 ≡ suc c.loop-i.i = omega arith in
+    let within : c.loop-i.i < length c.loop-i.placements = omega (
+      arith,
+      c.loop-i-test.true,
+      c.distinct_count-count.ensures.value,
+      length-distinct-le p.loads,
+      c.requires.from_size.stands.playable.loads.one_each,
+      c.game_is_legal.ensures.bins.high,
+      i.number,
+    ) in
+    let put : take (c.loop-i.i + 1) made ≡ take c.loop-i.i c.loop-i.placements ++ placed ∷ [] = ap (λ k. take k made) one ∙ take-suc-set c.loop-i.placements c.loop-i.i placed within in
     record {
       went = subst (λ l. WentOn game c.args.pass (c.args.search.now.path ++ moved c.args.size l ∷ []) c.args.search.now c.try_load.new.search e2) (here ∙ sym next) went;
       counts = CountsFresh-trans game c.args.pass (sum p.items + 1) _ _ _ i.counts c.in_ok-next.ensures.counts;
       serves = KeepsServing-then c.args.game.now 0 0 0 c.args.search.now c.loop-i.search c.try_load.new.search (g.M.Memo.entries c.args.memo.now) e1 e2
           (λ later. Unit {0}) (λ later. Unit {0}) refl
           i.serves (KeepsServing-weaker c.args.game.now 0 c.loop-i.search c.try_load.new.search e1 e2 _ (λ later. Unit {0}) (λ later m. tt) c.in_ok-next.ensures.serves);
-      places = placed_more game c.args.pass p c.loop-i.i load c.in-ByNext.next c.loop-i.placements c.push.new.self here (omega (
+      places = placed_more game c.args.pass p c.loop-i.i load c.in-ByNext.next (take c.loop-i.i c.loop-i.placements) (take (c.loop-i.i + 1) made) here (omega (
         arith,
         c.loop-i-test.true,
-        c.distinct_count-i-end.ensures.value,
+        c.distinct_count-count.ensures.value,
       )) i.places
-          c.in_ok-push-in-ByNext.ensures.ok;
-      each = follows_more game c.args.pass c.loop-i.search c.try_load.new.search p c.args.size load c.in-ByNext.next c.loop-i.placements c.push.new.self e2
-          (c.loop-i.search.path ++ moved c.args.size load ∷ []) c.in_ok-next.ensures.found.0 i.each came c.in_ok-push-in-ByNext.ensures.ok;
+          put;
+      each = follows_more game c.args.pass c.loop-i.search c.try_load.new.search p c.args.size load c.in-ByNext.next (take c.loop-i.i c.loop-i.placements) (take (c.loop-i.i + 1) made) e2
+          (c.loop-i.search.path ++ moved c.args.size load ∷ []) c.in_ok-next.ensures.found.0 i.each came put;
+      number = length-set c.loop-i.placements c.loop-i.i placed ∙ i.number;
       won = below_more _ _ i.won (subst (λ l. (game.target ≤ l + c.args.size) ⊎ IsWonIn game c.args.pass (after p l c.args.size)) here came.won);
     }
 
@@ -303,9 +330,15 @@ try_size-returns-clause-found g t c =
     let game = c.args.game.now in
     let i = c.loop-i.invariant in
     let ds : List ℕ = distinct c.args.position.now.loads in
+    let end : c.loop-i.i ≡ c.distinct_count-count.result = omega (arith, c.loop-i-test.false, c.loop-i.auto.i-end) in
+    let made = c.in_ok-placements.ensures ∙ sym (ap (λ k. take k c.loop-i.placements) end) in
     let bound : ℕ = get_or (game.target ∷ ds) c.loop-i.i 0 in (
       past_size game c.args.pass c.args.search.now c.loop-i.search c.args.position.now c.args.size bound (g.M.Memo.entries c.loop-i.memo) c.requires.may_come.packable i.went,
-      (i.places ∙ take_all c.loop-i.i ds (omega (arith, c.loop-i-test.false, c.distinct_count-i-end.ensures.value)), i.each),
+      (
+        ap (map (λ (placement : Placement). placement.load)) made ∙ i.places
+            ∙ take_all c.loop-i.i ds (omega (arith, c.loop-i-test.false, c.distinct_count-count.ensures.value)),
+        subst (All (FollowsUp game c.args.pass c.loop-i.search c.args.position.now c.args.size)) (sym made) i.each,
+      ),
     )
 
 pub try_size-returns-clause-serves : goal.try_size-returns-clause-serves

@@ -33,8 +33,9 @@ invariant-try_size-loop-i g l = record {
   counts : CountsFresh l.game l.pass (sum l.position.items + 1) (progress l.fn.search.meter (g.M.Memo.entries l.fn.memo) (g.M.Memo.room l.fn.memo))
       (progress l.search.meter (g.M.Memo.entries l.memo) (g.M.Memo.room l.memo));
   serves : KeepsServing l.game 0 l.fn.search (g.M.Memo.entries l.fn.memo) l.search (g.M.Memo.entries l.memo) (λ later. Unit {0});
-  places : map (λ (placement : Placement). placement.load) l.placements ≡ take l.i (distinct l.position.loads);
-  each : All (FollowsUp l.game l.pass l.search l.position l.size) l.placements;
+  places : map (λ (placement : Placement). placement.load) (take l.i l.placements) ≡ take l.i (distinct l.position.loads);
+  each : All (FollowsUp l.game l.pass l.search l.position l.size) (take l.i l.placements);
+  number : length l.placements ≡ 8;
   won : (k : ℕ) → k < l.i → (l.game.target ≤ get_or (distinct l.position.loads) k 0 + l.size)
       ⊎ IsWonIn l.game l.pass (after l.position (get_or (distinct l.position.loads) k 0) l.size);
 }
