@@ -6,4 +6,5 @@ pub mod PlacingLemmas
 pub mod RoomLemmas
 pub mod ContentsLemmas
 pub mod BestFitLemmas
+pub mod DescendingLemmas
 pub mod SumLemmas

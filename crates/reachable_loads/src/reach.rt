@@ -2,7 +2,7 @@
 
 ghost use Rattle.std.specs.Prelude.{◌≡◌, ◌↔◌, ℕ, ◌+◌, ◌<◌, ◌≤◌, [], ◌∷◌, ◌++◌, length, IsTrue, All, MatchOption, IfOk};
 ghost use Rattle.items.specs.Packable.{Packable, IsRoom};
-ghost use Rattle.reachable_loads.specs.Reached.{HasTotals, sent};
+ghost use Rattle.reachable_loads.specs.Reached.{sent};
 
 use crate::sets::Sets;
 use items::{Game, Nums};

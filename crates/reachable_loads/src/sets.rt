@@ -1,9 +1,9 @@
 //! The sorted loads of all assignments of a list of items, each kept once in a set.
 
 ghost use Rattle.std.specs.Prelude.{◌≡◌, ◌↔◌, ℕ, ◌+◌, ◌<◌, ◌≤◌, ◌⊎◌, List, [], ◌∷◌, ◌++◌};
-ghost use Rattle.std.specs.Prelude.{length, IsTrue, Contains, All, MatchOption, IfOk, OnOk};
+ghost use Rattle.std.specs.Prelude.{length, IsTrue, Contains, MatchOption, IfOk, OnOk};
 ghost use Rattle.items.specs.Packable.{Packable, IsRoom};
-ghost use Rattle.reachable_loads.specs.Reached.{FitOffline, HasTotals, IsAfter, IsLeast, IsReached, sent};
+ghost use Rattle.reachable_loads.specs.Reached.{FitOffline, IsAfter, IsLeast, IsReached, sent};
 
 use items::{Game, Nums};
 use loads::Loads;
@@ -82,17 +82,6 @@ impl Sets {
             room = room.max(capacity - least(loads));
         }
         room
-    }
-
-    /// Whether some assignment of the items has these loads, whatever the bins' numbers. Tests compare it with planes.
-    pub fn reaches(&self, loads: &[u16]) -> bool
-        requires one_each { length loads.now ≡ self.now.game.bins }
-        requires fits { All (λ load. load ≤ self.now.game.capacity) loads.now }
-        ensures { IsTrue result ↔ HasTotals self.now.game self.now.items loads.now }
-    {
-        prove!(self.game.g() < self.game.t());
-        let member = Loads::sorted(self.items.allocator(), &self.game, loads);
-        self.members.contains(&member)
     }
 }
 

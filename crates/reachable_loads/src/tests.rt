@@ -184,16 +184,6 @@ fn bits_agree(game: &Game, bits: &Planes, lists: &Sets, depth: u16) -> Result<bo
     if room != lists.room() || bits.least_load().is_some() != lists.packable() {
         return Ok(false);
     }
-    for first in 0..=game.g() {
-        for second in 0..=first {
-            let last = if game.m() == 2 { 0 } else { second };
-            for third in 0..=last {
-                if !loads_agree(game, bits, lists, [first, second, third, third]) {
-                    return Ok(false);
-                }
-            }
-        }
-    }
     if depth == 0 || !lists.packable() {
         return Ok(true);
     }
@@ -203,19 +193,6 @@ fn bits_agree(game: &Game, bits: &Planes, lists: &Sets, depth: u16) -> Result<bo
         }
     }
     Ok(true)
-}
-
-// Whether both tell the same of the first of these loads.
-fn loads_agree(game: &Game, bits: &Planes, lists: &Sets, loads: [u16; 4]) -> bool
-    requires bits { bits.now.game ≡ game.now }
-    requires lists { lists.now.game ≡ game.now }
-{
-    let m = usize::from(game.m());
-    if m > 4 {
-        return false;
-    }
-    let loads = &loads[..m];
-    !loads.iter().all(|load| *load <= game.g()) || bits.contains(loads) == lists.reaches(loads)
 }
 
 // Whether both agree from no items on.

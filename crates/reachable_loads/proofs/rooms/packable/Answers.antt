@@ -1,11 +1,9 @@
-use Rattle.std.proofs.Common.{sym, subst, arith}
+use Rattle.std.proofs.Common.{◌≡◌, ◌∙◌, reverse, arith}
 use Rattle.std.proofs.lemmas.Bool.{false≢true}
-use Rattle.items.specs.Multiset.{IsSize, Same}
-use Rattle.items.proofs.SameLemmas.{All-Same, Same-sym}
-use Rattle.packing_witness.proofs.PackableLemmas.{Packable-Same}
+use Rattle.items.specs.Multiset.{IsSize}
+use Rattle.reachable_loads.proofs.DescendingLemmas.{All-reverse, Packable-reverse, Packable-reversed}
 use Rattle.reachable_loads.proofs.PackLemmas.{sizes_from_largest, not_packable_from_largest}
 use Rattle.reachable_loads.proofs.rooms.packable.Goals as goal
-use Rattle.reachable_loads.proofs.rooms.packable.Goals.{After-as_slice}
 
 pub returns-then-largest-g : goal.returns-then-largest-g
 returns-then-largest-g c = record {
@@ -20,22 +18,17 @@ pub fits_by_best_fit-requires : goal.fits_by_best_fit-requires
 fits_by_best_fit-requires c =
     sizes_from_largest c.args.game.now c.args.items.now c.largest.ensures.multiset (omega (arith, c.if-largest-g.false, c.largest.ensures.value, c.g.ensures.value))
 
--- the list has the items
-same : (c : After-as_slice) → Same c.as_slice.result.now c.args.items.now
-same c = subst (λ xs. Same xs c.args.items.now) (sym c.as_slice.ensures.value) c.in_ok-list.ensures
-
 pub fits_by_placing-requires : goal.fits_by_placing-requires
 fits_by_placing-requires c =
-    let s = same (goal.at.fits_by_placing-requires c).After-as_slice in
-    let sizes = sizes_from_largest c.args.game.now c.args.items.now c.largest.ensures.multiset (omega (arith, c.if-largest-g.false, c.largest.ensures.value, c.g.ensures.value)) in
-    All-Same (IsSize c.args.game.now.capacity) c.args.items.now c.as_slice.result.now (Same-sym c.as_slice.result.now c.args.items.now s) sizes
+    All-reverse (IsSize c.args.game.now.capacity) c.args.items.now c.as_slice.result.now (c.as_slice.ensures.value ∙ c.in_ok-list.ensures)
+    (sizes_from_largest c.args.game.now c.args.items.now c.largest.ensures.multiset (omega (arith, c.if-largest-g.false, c.largest.ensures.value, c.g.ensures.value)))
 
 pub returns : goal.returns
 returns c =
-    let s = same (goal.at.returns c).After-as_slice in
+    let down : c.as_slice.result.now ≡ reverse c.args.items.now = c.as_slice.ensures.value ∙ c.in_ok-list.ensures in
     record {
       exact = (
-        λ t. Packable-Same c.args.game.now c.as_slice.result.now c.args.items.now s (c.in_ok-fits.ensures.0 t),
-        λ p. c.in_ok-fits.ensures.1 (Packable-Same c.args.game.now c.args.items.now c.as_slice.result.now (Same-sym c.as_slice.result.now c.args.items.now s) p),
+        λ t. Packable-reversed c.args.game.now c.args.items.now c.as_slice.result.now down (c.in_ok-fits.ensures.0 t),
+        λ p. c.in_ok-fits.ensures.1 (Packable-reverse c.args.game.now c.args.items.now c.as_slice.result.now down p),
       );
     }

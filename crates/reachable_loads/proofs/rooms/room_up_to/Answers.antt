@@ -11,9 +11,10 @@ returns-then-most-eq0 c =
 
 pub returns-then-room-most : goal.returns-then-room-most
 returns-then-room-most c =
+    let room = c.room_by_best_fit-room in
     record {
-      exact = IsRoom-bound c.args.game.now c.args.items.now c.room_by_best_fit-room.result c.room_by_best_fit-room.ensures.within
-          (λ size p. omega (arith, c.requires.bound size p, c.room_by_volume.ensures.bound size p, c.min-most.ensures, c.if-room-most.true)) c.room_by_best_fit-room.ensures.may_come;
+      exact = IsRoom-bound c.args.game.now c.args.items.now room.result room.ensures.within
+          (λ size p. omega (arith, c.requires.bound size p, c.room_by_volume.ensures.bound size p, c.min-most.ensures, c.if-room-most.true)) room.ensures.may_come;
     }
 
 pub room_exactly-requires-clause-bound : goal.room_exactly-requires-clause-bound
