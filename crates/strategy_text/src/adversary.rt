@@ -123,12 +123,7 @@ fn placements(words: &mut Words, empty: Placements) -> Result<Placements, Stop>
 /// An item that is sent, after the first word.
 #[tactic(auto, unfolding(crate::specs::Reading::send_at))]
 #[inline(always)]
-fn send(
-    alloc: Global,
-    format: Format,
-    words: &mut Words,
-    empty: Placements,
-) -> Result<Step, Stop>
+fn send(alloc: Global, format: Format, words: &mut Words, empty: Placements) -> Result<Step, Stop>
     requires { empty ≡ [] }
     ensures { Reads result words.new (send_at format words.old) }
 {
@@ -162,12 +157,7 @@ fn burst(alloc: Global, words: &mut Words) -> Result<Step, Stop>
 /// What is sent, the placements in the memory of a list that is empty.
 #[tactic(auto, unfolding(crate::specs::Reading::step_at))]
 #[inline(always)]
-fn step(
-    alloc: Global,
-    format: Format,
-    words: &mut Words,
-    empty: Placements,
-) -> Result<Step, Stop>
+fn step(alloc: Global, format: Format, words: &mut Words, empty: Placements) -> Result<Step, Stop>
     requires { empty ≡ [] }
     ensures { Reads result words.new (step_at format words.old) }
 {

@@ -1,4 +1,4 @@
-use Rattle.std.proofs.Common.{length, ◌==◌, ap, sym, ◌∙◌}
+use Rattle.std.proofs.Common.{length, ◌==◌, ap, ◌∙◌}
 use Rattle.strategy_text.proofs.FirstWord.{left_none_after}
 use Rattle.strategy_text.proofs.words.Words.is_at_end.Goals as goal
 
