@@ -7,7 +7,9 @@ use Rattle.std.proofs.lemmas.List.{get_or_append_left, get_or_at, get_or-map, le
 use Rattle.std.proofs.lemmas.List.Elements.{All-contains, Contains-get_or, Contains-append_left, Contains-append_right, Contains-append_cases}
 use Rattle.items.specs.Game.{GameNumbers}
 use Rattle.items.specs.Multiset.{count, IsSize}
+use Rattle.items.specs.Packable.{Packable, IsRoom}
 use Rattle.items.proofs.MemberLemmas.{Contains-cons, Contains-here, Contains-tail, Contains-nil, Contains-from_count, count_above_zero}
+use Rattle.packing_witness.proofs.PackingLemmas.{le_room, Packable-from_room, size_of_last}
 use Rattle.strategy_text.specs.declared.node.Act.{Act}
 use Rattle.strategy_text.specs.declared.node.Act.TheVariants.{Finish, Big, Reply}
 use Rattle.strategy_text.specs.declared.node.AlgNode.{AlgNode}
@@ -132,6 +134,11 @@ same_members low (x ∷ xs) (y ∷ ys) r q f g =
     Contains-tail z x xs (λ s. omega (arith, s, m, e)) (g z (Contains-cons z y ys c)) in
     ap (λ v. v ∷ xs) e
     ∙ ap (λ (vs : List ℕ). y ∷ vs) (same_members (x + 1) xs ys r.1 (subst (λ v. ClimbsFrom (v + 1) ys) (sym e) q.1) later earlier)
+
+-- the room tells which sizes may come
+pub HaveRoom-from_room : (game : GameNumbers) (items : List ℕ) (room : ℕ) → IsRoom game items room → HaveRoom game items room
+HaveRoom-from_room game items room r size =
+    (λ p. ((size_of_last game items size p).low, le_room game items room size r p), λ h. Packable-from_room game items room size r h.0 h.1)
 
 -- entries reply to each size that may come exactly where their sizes are those that are at most the room
 pub replies_from_sizes : (game : GameNumbers) (sizes items : List ℕ) (entries : List Entry) (room : ℕ) → HaveRoom game items room

@@ -17,14 +17,14 @@ use good_situations::{big_finishes, finishes};
 use items::laws::game_is_legal;
 use items::{Game, Items, MOST_SIZE, Sizes};
 use loads::{EarlierPositions, Loads, Position, are_items_of};
-use reachable_loads::Reach;
+use reachable_loads::room_of;
 use std::alloc::{AllocError, Global};
 use strategy_text::{Act, AlgNode, Entry, Rule};
 
 /// The position of a node that meets every rule as the node that follows the earlier ones, or the first rule
 /// that it breaks. Items may have the given sizes, each of which is a size of the game. The rule `root` is judged
-/// only where the node is the last one. A node that replies costs the set of the loads that its items reach, once;
-/// any other is judged without memory.
+/// only where the node is the last one. A node that replies costs the room of its items, once; any other is judged
+/// without memory.
 pub fn judge<E: EarlierPositions>(
     alloc: Global,
     game: &Game,
@@ -163,7 +163,7 @@ fn replies_if_said(
     items: &[u16],
     act: &Act,
 ) -> Result<bool, AllocError>
-    requires { All (IsSize game.now.capacity) items.now }
+    requires { IsMultiset game.now.capacity items.now }
     ensures { IfOk result (λ met. IsTrue met
         ↔ RepliesIfSaid game.now sizes.now (node_at (position loads.now items.now) act.now) act.now) }
 {
@@ -179,15 +179,12 @@ fn replies_if_said(
 
 // The greatest size of an item with which the items are packable, and 0 where there is none.
 fn room_after(alloc: Global, game: &Game, items: &[u16]) -> Result<u16, AllocError>
-    requires { All (IsSize game.now.capacity) items.now }
+    requires { IsMultiset game.now.capacity items.now }
     ensures { IfOk result (HaveRoom game.now items.now) }
 {
-    let mut reach = Reach::start(alloc, game)?;
-    for item in items {
-        let more = reach.add(*item)?;
-        reach = more;
-    }
-    Ok(reach.room())
+    let items = Items::from_slice(game, items).unwrap();
+    let room = room_of(alloc, game, &items)?;
+    Ok(room)
 }
 
 // Whether the entries have the sizes that are at most the room, ascending.

@@ -273,8 +273,8 @@ pub fn load<S: Source>(
 }
 
 /// Reads the text of a strategy of either side to its end, and judges each node as soon as its line is whole. The
-/// cost is linear in the input, but for the search of packings that an algorithm's node may need; a byte for each
-/// load and item and nine more are kept for each node, and no text.
+/// cost is linear in the input, but for the search of packings that an algorithm's node may need; 24 bytes are kept
+/// for each node, for one of more than 21 loads and items a byte for each of them and one more, and no text.
 ///
 /// # Errors
 ///

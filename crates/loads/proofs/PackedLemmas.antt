@@ -1,87 +1,84 @@
--- Bytes that are cut into pieces: how one more piece is put at their end, and how a piece is found by its number.
-use Rattle.std.proofs.Common.{◌≡◌, ℕ, zero, suc, ◌+◌, ◌-◌, ◌<◌, ◌≤◌, List, [], ◌∷◌, ◌++◌, All, Some, length, map, take, drop, get_or, refl, sym, ap, ◌∙◌, subst, arith}
+-- Slots of positions: how one more is put after them, and that the bytes of the others stay.
+use Rattle.std.proofs.Common.{◌≡◌, ℕ, ◌+◌, ◌-◌, ◌<◌, ◌≤◌, List, [], ◌∷◌, ◌++◌, All, Some, length, take, drop, refl, sym, ap, ◌∙◌, subst, arith}
 use Rattle.std.specs.Prelude.{slice_get, slice_range}
 use Rattle.std.specs.Option.{option_map}
-use Rattle.std.proofs.lemmas.List.{length-append, length-drop, take_all, take-append-le, drop_at, drop-append-le, length-map, map_push}
-use Rattle.std.proofs.lemmas.List.Elements.{All-get_or, All-push}
+use Rattle.std.proofs.lemmas.List.{length-map, length-take, map_push, drop-take, drop_at, take-take, take_all, take_at}
+use Rattle.std.proofs.lemmas.List.Elements.{All-get_or, All-head, All-tail, All-push, All-weaker}
 use Rattle.std.proofs.lemmas.Option.{slice_get-map, get_or_from_slice_get}
-use Rattle.loads.specs.Packed.{ArePositionBytes, AreCut, LeadTo, pieces, position_in, positions_in}
+use Rattle.loads.specs.Packed.{ArePositionBytes, position_in}
+use Rattle.loads.specs.Slots.{bytes_in, IsWithin, IsKept, positions_in}
+use Rattle.loads.specs.declared.packed_list.Slot.{Slot}
+use Rattle.loads.specs.declared.packed_list.Slot.TheVariants.{Short, Long}
 
-pub LeadTo-le : (start : ℕ) (ends : List ℕ) (total : ℕ) → LeadTo start ends total → start ≤ total
-LeadTo-le start [] total h = omega arith
-LeadTo-le start (end ∷ ends) total h = omega (arith, h.0, LeadTo-le end ends total h.1)
+pub length-positions : (others : List ℕ) (slots : List Slot) → length (positions_in others slots) ≡ length slots
+length-positions others slots = length-map slots (λ slot. position_in (bytes_in others slot))
 
-LeadTo-push : (start : ℕ) (ends : List ℕ) (total more : ℕ) → LeadTo start ends total → total ≤ more → LeadTo start (ends ++ more ∷ []) more
-LeadTo-push start [] total more h l = (omega arith, refl)
-LeadTo-push start (end ∷ ends) total more h l = (h.0, LeadTo-push end ends total more h.1 l)
+-- a range below a place is one of what stands up to it
+slice_range-take : (xs : List ℕ) (n start end : ℕ) → start ≤ end → end ≤ n → slice_range xs start end ≡ slice_range (take n xs) start end
+slice_range-take xs n start end l within =
+    let split : take n xs ≡ take (start + (n - start)) xs = ap (λ k. take k xs) (omega (arith, l, within)) in
+    let rest : drop start (take n xs) ≡ take (n - start) (drop start xs) = ap (drop start) split ∙ drop-take start (n - start) xs in
+    sym (ap (take (end - start)) rest ∙ take-take (end - start) (n - start) (drop start xs) (omega (arith, l, within)))
 
--- each piece starts before it ends, within the bytes
-pub LeadTo-at : (start : ℕ) (ends : List ℕ) (total i : ℕ) → LeadTo start ends total → i < length ends → (get_or (start ∷ ends) i 0 ≤ get_or ends i 0) × (get_or ends i 0 ≤ total)
-LeadTo-at start [] total i h l = absurd (omega arith)
-LeadTo-at start (end ∷ ends) total zero h l = (h.0, LeadTo-le end ends total h.1)
-LeadTo-at start (end ∷ ends) total (suc i) h l = LeadTo-at end ends total i h.1 (omega arith)
+-- the bytes of a slot stay where those up to a place stay
+bytes_in-same : (xs ys : List ℕ) (n : ℕ) (slot : Slot) → IsWithin n slot → take n xs ≡ take n ys → bytes_in xs slot ≡ bytes_in ys slot
+bytes_in-same xs ys n (Short count bytes) w e = refl
+bytes_in-same xs ys n (Long start end) w e =
+    slice_range-take xs n start end w.0 w.1 ∙ ap (λ zs. slice_range zs start end) e ∙ sym (slice_range-take ys n start end w.0 w.1)
 
-pub length-pieces : (bytes : List ℕ) (start : ℕ) (ends : List ℕ) → length (pieces bytes start ends) ≡ length ends
-length-pieces bytes start [] = refl
-length-pieces bytes start (end ∷ ends) = ap suc (length-pieces bytes end ends)
+IsWithin-more : (n m : ℕ) (slot : Slot) → IsWithin n slot → n ≤ m → IsWithin m slot
+IsWithin-more n m (Short count bytes) w l = w
+IsWithin-more n m (Long start end) w l = (w.0, omega (arith, w.1, l))
 
-pub length-positions : (bytes ends : List ℕ) → length (positions_in bytes ends) ≡ length ends
-length-positions bytes ends = length-map (pieces bytes 0 ends) position_in ∙ length-pieces bytes 0 ends
+-- what is kept stays so where bytes are put at the end
+bytes_in-more : (xs ys : List ℕ) (slot : Slot) → IsKept xs slot → take (length xs) ys ≡ xs → bytes_in ys slot ≡ bytes_in xs slot
+bytes_in-more xs ys slot k e = bytes_in-same ys xs (length xs) slot k.within (e ∙ sym (take_all (length xs) xs (omega arith)))
 
-pub slice_get-pieces : (bytes : List ℕ) (start : ℕ) (ends : List ℕ) (i : ℕ) → i < length ends
-    → slice_get (pieces bytes start ends) i ≡ Some (slice_range bytes (get_or (start ∷ ends) i 0) (get_or ends i 0))
-slice_get-pieces bytes start [] i l = absurd (omega arith)
-slice_get-pieces bytes start (end ∷ ends) zero l = refl
-slice_get-pieces bytes start (end ∷ ends) (suc i) l = slice_get-pieces bytes end ends i (omega arith)
+longer : (xs ys : List ℕ) → take (length xs) ys ≡ xs → length xs ≤ length ys
+longer xs ys e = omega (arith, ap length e, length-take (length xs) ys)
 
--- bytes put at the end change no piece
-pieces-append : (bytes more : List ℕ) (start : ℕ) (ends : List ℕ) (total : ℕ) → LeadTo start ends total → total ≤ length bytes
-    → pieces (bytes ++ more) start ends ≡ pieces bytes start ends
-pieces-append bytes more start [] total h l = refl
-pieces-append bytes more start (end ∷ ends) total h l =
-    let below : end ≤ total = LeadTo-le end ends total h.1 in
-    let rest : end - start ≤ length (drop start bytes) = omega (arith, h.0, length-drop start bytes) in
-    let same : slice_range (bytes ++ more) start end ≡ slice_range bytes start end =
-    ap (take (end - start)) (drop-append-le start bytes more (omega (arith, h.0))) ∙ take-append-le (end - start) (drop start bytes) more rest in
-    ap (λ piece. piece ∷ pieces (bytes ++ more) end ends) same ∙ ap (λ others. slice_range bytes start end ∷ others) (pieces-append bytes more end ends total h.1 l)
-
--- one more end is one more piece
-pieces-push : (bytes : List ℕ) (start : ℕ) (ends : List ℕ) (total more : ℕ) → LeadTo start ends total
-    → pieces bytes start (ends ++ more ∷ []) ≡ pieces bytes start ends ++ slice_range bytes total more ∷ []
-pieces-push bytes start [] total more h = ap (λ s. slice_range bytes s more ∷ []) h
-pieces-push bytes start (end ∷ ends) total more h = ap (λ others. slice_range bytes start end ∷ others) (pieces-push bytes end ends total more h.1)
-
-last_piece : (bytes more : List ℕ) (total : ℕ) → total ≡ length bytes + length more → slice_range (bytes ++ more) (length bytes) total ≡ more
-last_piece bytes more total e =
-    ap (take (total - length bytes)) (drop_at bytes more (length bytes) refl) ∙ take_all (total - length bytes) more (omega arith)
-
-all_pieces : (bytes more ends : List ℕ) (total : ℕ) → AreCut bytes ends → total ≡ length bytes + length more
-    → pieces (bytes ++ more) 0 (ends ++ total ∷ []) ≡ pieces bytes 0 ends ++ more ∷ []
-all_pieces bytes more ends total h e =
-    pieces-push (bytes ++ more) 0 ends (length bytes) total h.lead
-    ∙ ap (λ piece. pieces (bytes ++ more) 0 ends ++ piece ∷ []) (last_piece bytes more total e)
-    ∙ ap (λ others. others ++ more ∷ []) (pieces-append bytes more 0 ends (length bytes) h.lead (omega arith))
-
--- the bytes of one more position at the end
-pub AreCut-push : (bytes more ends : List ℕ) (total : ℕ) → AreCut bytes ends → ArePositionBytes more → total ≡ length bytes + length more
-    → AreCut (bytes ++ more) (ends ++ total ∷ [])
-AreCut-push bytes more ends total h p e = record {
-  lead = subst (LeadTo 0 (ends ++ total ∷ [])) (e ∙ sym (length-append bytes more)) (LeadTo-push 0 ends (length bytes) total h.lead (omega arith));
-  positions = subst (All ArePositionBytes) (sym (all_pieces bytes more ends total h e)) (All-push ArePositionBytes (pieces bytes 0 ends) more h.positions p);
+IsKept-more : (xs ys : List ℕ) (slot : Slot) → take (length xs) ys ≡ xs → IsKept xs slot → IsKept ys slot
+IsKept-more xs ys slot e k = record {
+  within = IsWithin-more (length xs) (length ys) slot k.within (longer xs ys e);
+  legal = subst ArePositionBytes (sym (bytes_in-more xs ys slot k e)) k.legal;
 }
 
-pub positions_in-push : (bytes more ends : List ℕ) (total : ℕ) → AreCut bytes ends → total ≡ length bytes + length more
-    → positions_in (bytes ++ more) (ends ++ total ∷ []) ≡ positions_in bytes ends ++ position_in more ∷ []
-positions_in-push bytes more ends total h e =
-    ap (map position_in) (all_pieces bytes more ends total h e) ∙ map_push position_in (pieces bytes 0 ends) more
+positions_in-more : (xs ys : List ℕ) (slots : List Slot) → take (length xs) ys ≡ xs → All (IsKept xs) slots → positions_in ys slots ≡ positions_in xs slots
+positions_in-more xs ys [] e all = refl
+positions_in-more xs ys (slot ∷ slots) e all =
+    let first : position_in (bytes_in ys slot) ≡ position_in (bytes_in xs slot) = ap position_in (bytes_in-more xs ys slot (All-head (IsKept xs) slot slots all) e) in
+    ap (λ position. position ∷ positions_in ys slots) first
+    ∙ ap (λ positions. position_in (bytes_in xs slot) ∷ positions) (positions_in-more xs ys slots e (All-tail (IsKept xs) slot slots all))
 
--- the position of a number, from its piece
-pub slice_get-positions : (bytes ends : List ℕ) (i : ℕ) → i < length ends
-    → slice_get (positions_in bytes ends) i ≡ Some (position_in (slice_range bytes (get_or (0 ∷ ends) i 0) (get_or ends i 0)))
-slice_get-positions bytes ends i l =
-    slice_get-map position_in (pieces bytes 0 ends) i ∙ ap (option_map position_in) (slice_get-pieces bytes 0 ends i l)
+-- bytes that were put at the end, and of which those from there on are in a slot now
+pub IsInSlot-put : (xs more full ys : List ℕ) (start : ℕ) (slot : Slot) → full ≡ xs ++ more → start ≡ length xs → bytes_in ys slot ≡ drop start full
+    → take start ys ≡ take start full → (bytes_in ys slot ≡ more) × (take (length xs) ys ≡ xs)
+IsInSlot-put xs more full ys start slot e s kept others =
+    let here : length xs ≡ start = sym s in (
+      kept ∙ ap (drop start) e ∙ drop_at xs more start here,
+      ap (λ n. take n ys) here ∙ others ∙ ap (take start) e ∙ take_at xs more start here,
+    )
 
-pub piece-legal : (bytes ends : List ℕ) (i : ℕ) → AreCut bytes ends → i < length ends → ArePositionBytes (slice_range bytes (get_or (0 ∷ ends) i 0) (get_or ends i 0))
-piece-legal bytes ends i h l =
-    subst ArePositionBytes (get_or_from_slice_get (pieces bytes 0 ends) i _ [] (slice_get-pieces bytes 0 ends i l))
-    (All-get_or ArePositionBytes (pieces bytes 0 ends) i [] (omega (arith, length-pieces bytes 0 ends)) h.positions)
+-- one more slot
+pub AreKept-push : (xs ys more : List ℕ) (slots : List Slot) (slot : Slot) → All (IsKept xs) slots → take (length xs) ys ≡ xs → bytes_in ys slot ≡ more
+    → IsWithin (length ys) slot → ArePositionBytes more → All (IsKept ys) (slots ++ slot ∷ [])
+AreKept-push xs ys more slots slot all e is w legal =
+    All-push (IsKept ys) slots slot (All-weaker (IsKept xs) (IsKept ys) (λ x k. IsKept-more xs ys x e k) slots all)
+    (record { within = w; legal = subst ArePositionBytes (sym is) legal })
+
+pub positions_in-push : (xs ys more : List ℕ) (slots : List Slot) (slot : Slot) → All (IsKept xs) slots → take (length xs) ys ≡ xs → bytes_in ys slot ≡ more
+    → positions_in ys (slots ++ slot ∷ []) ≡ positions_in xs slots ++ position_in more ∷ []
+positions_in-push xs ys more slots slot all e is =
+    map_push (λ s. position_in (bytes_in ys s)) slots slot
+    ∙ ap (λ positions. positions ++ position_in (bytes_in ys slot) ∷ []) (positions_in-more xs ys slots e all)
+    ∙ ap (λ bytes. positions_in xs slots ++ position_in bytes ∷ []) is
+
+-- the slot of a number
+pub slice_get-positions : (others : List ℕ) (slots : List Slot) (i : ℕ) (slot : Slot) → slice_get slots i ≡ Some slot
+    → slice_get (positions_in others slots) i ≡ Some (position_in (bytes_in others slot))
+slice_get-positions others slots i slot e = slice_get-map (λ s. position_in (bytes_in others s)) slots i ∙ ap (option_map (λ s. position_in (bytes_in others s))) e
+
+pub slot-kept : (others : List ℕ) (slots : List Slot) (i : ℕ) (slot : Slot) → All (IsKept others) slots → i < length slots → slice_get slots i ≡ Some slot
+    → IsKept others slot
+slot-kept others slots i slot all l e =
+    subst (IsKept others) (get_or_from_slice_get slots i slot slot e) (All-get_or (IsKept others) slots i slot l all)

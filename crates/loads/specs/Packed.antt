@@ -1,6 +1,6 @@
 -- Serves private contracts: how packed positions lie in memory.
-use Rattle.std.specs.Prelude.{◌≡◌, ◌==◌, ◌&&◌, Bool, ℕ, ◌<◌, ◌≤◌, List, [], ◌∷◌, ◌++◌, All, length, map, take}
-use Rattle.std.specs.Prelude.{drop, slice_index, slice_range}
+use Rattle.std.specs.Prelude.{◌≡◌, ◌==◌, ◌&&◌, Bool, ℕ, ◌<◌, ◌≤◌, List, [], ◌∷◌, ◌++◌, length, take}
+use Rattle.std.specs.Prelude.{drop, slice_index}
 use Rattle.std.specs.Cmp.Lexicographic.{pointwise}
 use Rattle.items.specs.declared.limits.TheConstants.{MOST_SIZE}
 use Rattle.items.specs.Multiset.{IsMultiset}
@@ -26,25 +26,6 @@ pub record ArePositionBytes (bytes : List ℕ) : Type 0 where
 -- whether two positions have the same loads and the same items
 abbrev pub are_equal : Position → Position → Bool
 are_equal first second = pointwise ◌==◌ first.loads second.loads && pointwise ◌==◌ first.items second.items
-
--- the pieces of a list of bytes that end at these places, the first from a given place on
-abbrev pub pieces : List ℕ → ℕ → List ℕ → List (List ℕ)
-pieces bytes start [] = []
-pieces bytes start (end ∷ ends) = slice_range bytes start end ∷ pieces bytes end ends
-
--- the ends do not descend, and lead from the start to the total
-abbrev pub LeadTo : ℕ → List ℕ → ℕ → Type 0
-LeadTo start [] total = start ≡ total
-LeadTo start (end ∷ ends) total = (start ≤ end) × LeadTo end ends total
-
--- bytes that are cut into the bytes of positions
-pub record AreCut (bytes ends : List ℕ) : Type 0 where
-  pub lead : LeadTo 0 ends (length bytes)
-  pub positions : All ArePositionBytes (pieces bytes 0 ends)
-
--- the positions whose bytes stand one after another
-abbrev pub positions_in : List ℕ → List ℕ → List Position
-positions_in bytes ends = map position_in (pieces bytes 0 ends)
 
 -- the place at which a number is put into an ascending list
 pub record IsPlaceOf (x : ℕ) (xs : List ℕ) (place : ℕ) : Type 0 where

@@ -101,15 +101,6 @@ pub(crate) fn position_of(alloc: Global, bytes: &[u8]) -> Position
     }
 }
 
-/// Whether the bytes are those of the position of these loads and items.
-pub(crate) fn stand_for(bytes: &[u8], loads: &Loads, items: &Items) -> bool
-    requires { ArePositionBytes bytes.now }
-    ensures { IsTrue result ↔ (position_in bytes.now ≡ position loads.now items.now) }
-{
-    let (load_bytes, sizes) = parts(bytes);
-    are_same(load_bytes, loads.as_slice()) && items_of(sizes).same(items)
-}
-
 // Whether the bytes are these numbers.
 fn are_same(bytes: &[u8], numbers: &[u16]) -> bool
     ensures { IsTrue result ↔ (bytes.now ≡ numbers.now) }

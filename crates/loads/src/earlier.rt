@@ -1,6 +1,6 @@
 //! Lists that say which position an earlier node has.
 
-ghost use Rattle.std.specs.Prelude.{◌≡◌, ◌↔◌, ◌+◌, ◌*◌, ◌<◌, ◌≤◌, List, Contains, IsTrue, length, sum};
+ghost use Rattle.std.specs.Prelude.{◌≡◌, ◌↔◌, ◌+◌, ◌*◌, ◌<◌, ◌≤◌, List, Contains, IsTrue, sum};
 ghost use Rattle.items.specs.Multiset.{IsMultiset, IsSize};
 ghost use Rattle.loads.specs.After.{after};
 ghost use Rattle.loads.specs.declared.position.Position.{Position};
@@ -16,15 +16,6 @@ pub trait EarlierPositions {
     // The positions in the order of the nodes' numbers.
     ghost positions: { Self → List Position };
 
-    /// How many positions there are.
-    fn count(&self) -> usize
-        ensures { result ≡ length (positions self.now) };
-
-    /// Whether there is a position of this number and it has these loads and items. Takes no memory; the cost is
-    /// linear in the position.
-    fn is_at(&self, i: usize, loads: &Loads, items: &Items) -> bool
-        ensures { IsTrue result ↔ StandsAt (positions self.now) i (position loads.now items.now) };
-
     /// Whether there is a position of this number, and it is the one after an item of size `s` went to a bin of this
     /// load. Takes no memory; the cost is linear in the position.
     fn is_after(&self, i: usize, loads: &Loads, items: &[u16], load: u16, s: u16) -> bool
@@ -39,21 +30,20 @@ pub trait EarlierPositions {
 impl EarlierPositions for Positions {
     ghost positions = { λ a. a };
 
-    fn count(&self) -> usize {
-        self.len()
-    }
-
-    fn is_at(&self, i: usize, loads: &Loads, items: &Items) -> bool {
-        match self.get(i) {
-            Some(position) => position.loads.same(loads) && position.items.same(items),
-            None => false,
-        }
-    }
-
     fn is_after(&self, i: usize, loads: &Loads, items: &[u16], load: u16, s: u16) -> bool {
         match loads.after(load, s) {
-            Some(loads) => self.is_at(i, &loads, &items_with(items, s)),
+            Some(loads) => is_at(self, i, &loads, &items_with(items, s)),
             None => false,
         }
+    }
+}
+
+// Whether there is a position of this number and it has these loads and items.
+fn is_at(positions: &Positions, i: usize, loads: &Loads, items: &Items) -> bool
+    ensures { IsTrue result ↔ StandsAt positions.now i (position loads.now items.now) }
+{
+    match positions.get(i) {
+        Some(position) => position.loads.same(loads) && position.items.same(items),
+        None => false,
     }
 }

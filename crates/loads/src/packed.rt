@@ -1,9 +1,9 @@
 //! Positions that are kept in number, packed into about 30 bytes each.
 
-ghost use Rattle.std.specs.Prelude.{◌≡◌, ◌↔◌, IsTrue, IfOk};
+ghost use Rattle.std.specs.Prelude.{◌≡◌, IfOk};
 ghost use Rattle.loads.specs.Position.{position};
 
-use crate::bytes::{Bytes, items_of, pack, parts, position_of, stand_for};
+use crate::bytes::{Bytes, items_of, pack, parts, position_of};
 use crate::position::Position;
 use crate::sorted_loads::Loads;
 use items::Items;
@@ -59,13 +59,6 @@ impl PackedPosition {
         ensures value { result ≡ self.now.items }
     {
         items_of(parts(self.bytes.as_slice()).1)
-    }
-
-    /// Whether it is the position of these loads and items. Takes no memory; the cost is linear in the position.
-    pub fn is(&self, loads: &Loads, items: &Items) -> bool
-        ensures value { IsTrue result ↔ (self.now ≡ position loads.now items.now) }
-    {
-        stand_for(self.bytes.as_slice(), loads, items)
     }
 
     /// The same position.

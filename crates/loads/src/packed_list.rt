@@ -1,37 +1,51 @@
-//! Lists of packed positions in one piece of memory.
+//! Lists of packed positions, of which most lie in slots of one size.
 
-ghost use Rattle.std.specs.Prelude.{◌≡◌, ◌++◌, ◌∷◌, ◌<◌, ◌≤◌, [], length, slice_get, slice_index, OnOk, OnErr};
+ghost use Rattle.std.specs.Prelude.{◌≡◌, ℕ, List, ◌++◌, ◌∷◌, ◌≤◌, [], drop, take, length, slice_get, OnOk, OnErr};
 ghost use Rattle.items.specs.Multiset.{IsMultiset};
 ghost use Rattle.loads.specs.Loads.{AreLoads};
 ghost use Rattle.loads.specs.Position.{position};
-ghost use Rattle.loads.specs.Packed.{ArePositionBytes, AreCut, LeadTo, position_in, positions_in};
+ghost use Rattle.loads.specs.Slots.{IsKept, IsWithin, bytes_in};
 
-use crate::bytes::{pack, position_of, put_position, stand_for, stand_for_after};
+use crate::bytes::{pack, position_of, put_position, stand_for_after};
 use crate::earlier::EarlierPositions;
 use crate::position::Position;
 use crate::sorted_loads::Loads;
 use items::{Items, MOST_SIZE};
 use std::alloc::{AllocError, Global};
 use std::marker::Model;
+use std::mem::size_of;
 
-/// A list of positions that grows at its end, seen by clauses as the list of the positions. Each takes a byte for
-/// each load and each item, and nine besides; there are two allocations in all.
+// The most bytes of a position that lie in its slot.
+const SHORT: usize = 22;
+
+// Where the bytes of a position lie: a short one's in the slot, so that one access to memory finds them.
+#[derive(Clone, Copy, Debug)]
+enum Slot {
+    // The first bytes, so many of them.
+    Short { count: u8, bytes: [u8; 22] },
+    // Those between two places in the bytes of the long ones.
+    Long { start: usize, end: usize },
+}
+
+/// A list of positions that grows at its end, seen by clauses as the list of the positions. Each takes 24 bytes, and one
+/// of more than 21 loads and items takes a byte for each of them and one more besides; there are two allocations in all.
 #[derive(Debug, Drop)]
 pub struct PackedPositions {
+    slots: Vec<Slot>,
+    // The bytes of the long ones.
     bytes: Vec<u8>,
-    ends: Vec<usize>,
 }
 
 impl Model for PackedPositions {
-    ghost use Rattle.std.specs.Prelude.{List};
+    ghost use Rattle.std.specs.Prelude.{List, All};
     ghost use Rattle.loads.specs.declared.position.Position.{Position};
-    ghost use Rattle.loads.specs.Packed.{AreCut, positions_in};
+    ghost use Rattle.loads.specs.Slots.{IsKept, positions_in};
 
     ghost Value = { List Position };
 
-    ghost view = { λ a. positions_in a.bytes.items a.ends.items };
+    ghost view = { λ a. positions_in a.bytes.items a.slots.items };
 
-    ghost invariant = { λ a. AreCut a.bytes.items a.ends.items };
+    ghost invariant = { λ a. All (IsKept a.bytes.items) a.slots.items };
 }
 
 impl PackedPositions {
@@ -40,8 +54,8 @@ impl PackedPositions {
         ensures empty { result ≡ [] }
     {
         PackedPositions {
+            slots: Vec::new(alloc),
             bytes: Vec::new(alloc),
-            ends: Vec::new(alloc),
         }
     }
 
@@ -49,20 +63,20 @@ impl PackedPositions {
     pub fn len(&self) -> usize
         ensures value { result ≡ length self.now }
     {
-        self.ends.len()
+        self.slots.len()
     }
 
     /// The position of this number, counted from 0; None exactly where there is none. Takes no memory.
     pub fn get(&self, i: usize) -> Option<Position>
         ensures value { result ≡ slice_get self.now i }
     {
-        let ends = self.ends.as_slice();
-        if i >= ends.len() {
+        let slots = self.slots.as_slice();
+        if i >= slots.len() {
             return None;
         }
         Some(position_of(
             *self.bytes.allocator(),
-            piece(self.bytes.as_slice(), ends, i),
+            bytes_in(self.bytes.as_slice(), &slots[i]),
         ))
     }
 
@@ -72,9 +86,11 @@ impl PackedPositions {
         ensures err { OnErr result (self.new ≡ self.old) }
     {
         let packed = pack(*self.bytes.allocator(), loads, items)?;
-        self.ends.reserve(1)?;
+        self.slots.reserve(1)?;
+        let start = self.bytes.len();
         self.bytes.extend_from_slice(packed.as_slice())?;
-        self.ends.push_reserved(self.bytes.len());
+        let slot = slot_of_last(&mut self.bytes, start);
+        self.slots.push_reserved(slot);
         Ok(())
     }
 
@@ -86,10 +102,12 @@ impl PackedPositions {
         ensures ok { OnOk result (self.new ≡ self.old ++ position loads.now items.now ∷ []) }
         ensures err { OnErr result (self.new ≡ self.old) }
     {
-        self.ends.reserve(1)?;
+        self.slots.reserve(1)?;
         self.bytes.reserve(1 + loads.len() + items.len())?;
+        let start = self.bytes.len();
         put_position(&mut self.bytes, loads, items);
-        self.ends.push_reserved(self.bytes.len());
+        let slot = slot_of_last(&mut self.bytes, start);
+        self.slots.push_reserved(slot);
         Ok(())
     }
 }
@@ -97,50 +115,61 @@ impl PackedPositions {
 impl EarlierPositions for PackedPositions {
     ghost positions = { λ a. a };
 
-    fn count(&self) -> usize {
-        self.len()
-    }
-
-    fn is_at(&self, i: usize, loads: &Loads, items: &Items) -> bool {
-        let ends = self.ends.as_slice();
-        i < ends.len() && stand_for(piece(self.bytes.as_slice(), ends, i), loads, items)
-    }
-
     fn is_after(&self, i: usize, loads: &Loads, items: &[u16], load: u16, s: u16) -> bool {
-        let ends = self.ends.as_slice();
-        if i >= ends.len() {
+        let slots = self.slots.as_slice();
+        if i >= slots.len() {
             return false;
         }
-        stand_for_after(piece(self.bytes.as_slice(), ends, i), loads, items, load, s)
+        stand_for_after(
+            bytes_in(self.bytes.as_slice(), &slots[i]),
+            loads,
+            items,
+            load,
+            s,
+        )
     }
 }
 
-// The bytes of the position of this number.
-fn piece<'a>(bytes: &'a [u8], ends: &[usize], i: usize) -> &'a [u8]
-    requires cut { AreCut bytes.now ends.now }
-    requires within { i < length ends.now }
-    ensures value { slice_get (positions_in bytes.now ends.now) i ≡ Some (position_in result.now) }
-    ensures legal { ArePositionBytes result.now }
+// The bytes of the position that is kept in a slot.
+fn bytes_in<'a>(bytes: &'a [u8], slot: &'a Slot) -> &'a [u8]
+    requires { IsKept bytes.now slot.now }
+    ensures { result.now ≡ bytes_in bytes.now slot.now }
 {
-    let (start, end) = bounds(ends, i, bytes.len());
-    &bytes[start..end]
+    match slot {
+        Slot::Short { count, bytes } => &bytes[..usize::from(*count)],
+        Slot::Long { start, end } => &bytes[*start..*end],
+    }
 }
 
-// Where the piece of this number starts and ends.
-fn bounds(ends: &[usize], i: usize, total: usize) -> (usize, usize)
-    requires lead { LeadTo 0 ends.now total }
-    requires within { i < length ends.now }
-    ensures start { result.0 ≡ slice_index (0 ∷ ends.now) i }
-    ensures end { result.1 ≡ slice_index ends.now i }
-    ensures ordered { result.0 ≤ result.1 }
-    ensures in_range { result.1 ≤ total }
+// The slot of a position whose bytes are the last ones, from this place on. They are taken away where the slot holds them.
+fn slot_of_last(bytes: &mut Vec<u8>, start: usize) -> Slot
+    requires { start ≤ length bytes.old.items }
+    ensures kept { bytes_in bytes.new.items result ≡ drop start bytes.old.items }
+    ensures others { take start bytes.new.items ≡ take start bytes.old.items }
+    ensures within { IsWithin (length bytes.new.items) result }
 {
-    (start_of(ends, i), ends[i])
+    let end = bytes.len();
+    if end - start > SHORT {
+        return Slot::Long { start, end };
+    }
+    let slot = short_slot(&bytes.as_slice()[start..]);
+    bytes.truncate(start);
+    slot
 }
 
-fn start_of(ends: &[usize], i: usize) -> usize
-    requires { i < length ends.now }
-    ensures { result ≡ slice_index (0 ∷ ends.now) i }
+// A slot that holds some bytes.
+fn short_slot(piece: &[u8]) -> Slot
+    requires { length piece.now ≤ 22 }
+    ensures holds { (others : List ℕ) → bytes_in others result ≡ piece.now }
+    ensures within { (total : ℕ) → IsWithin total result }
 {
-    if i == 0 { 0 } else { ends[i - 1] }
+    let mut bytes = [0; SHORT];
+    bytes[..piece.len()].copy_from_slice(piece);
+    Slot::Short {
+        count: piece.len() as u8,
+        bytes,
+    }
 }
+
+// Slots are kept by the million.
+const _: () = prove!(size_of::<Slot>() <= 24);

@@ -133,7 +133,7 @@ fn equal_positions_are_one_key(rt: HostRuntime) -> Result<(), Fail> {
 
 fn is_kept(alloc: Global, loads: &Loads, items: &Items) -> Result<bool, Fail> {
     let packed = PackedPosition::of(alloc, loads, items)?;
-    Ok(packed.is(loads, items) && packed.items().same(items))
+    Ok(packed.loads().same(loads) && packed.items().same(items))
 }
 
 fn loads_come_back(alloc: Global, loads: &Loads) -> Result<bool, Fail> {
@@ -164,10 +164,18 @@ fn packed_positions_come_back_whole(rt: HostRuntime) -> Result<(), Fail> {
     Ok(())
 }
 
-fn push_both(list: &mut PackedPositions, loads: &Loads, items: &Items) -> Result<(), Fail> {
-    list.push(loads, &Items::empty())?;
-    list.push(loads, items)?;
+fn push_each(list: &mut PackedPositions, loads: &Loads, each: &[Items]) -> Result<(), Fail> {
+    for items in each {
+        list.push(loads, items)?;
+    }
     Ok(())
+}
+
+fn has(list: &PackedPositions, i: usize, loads: &Loads, items: &Items) -> bool {
+    match list.get(i) {
+        Some(position) => position.loads.same(loads) && position.items.same(items),
+        None => false,
+    }
 }
 
 #[test]
@@ -175,12 +183,18 @@ fn packed_positions_are_found_by_their_number(rt: HostRuntime) -> Result<(), Fai
     let game = small_game()?;
     let loads = Loads::from_slice(rt.alloc(), &game, &[3, 2, 2]).ok_or("refused")?;
     let items = Items::from_slice(&game, &[1, 1, 2, 3]).ok_or("refused")?;
+    let most_in_a_slot = Items::from_slice(&game, &[2; 18]).ok_or("refused")?;
+    let more = Items::from_slice(&game, &[2; 19]).ok_or("refused")?;
+    let each = [Items::empty(), more, items, most_in_a_slot];
     let mut list = PackedPositions::new(rt.alloc());
-    push_both(&mut list, &loads, &items)?;
-    assert_eq!(rt; (list.len(), list.count()), (2, 2));
-    assert!(rt; list.is_at(0, &loads, &Items::empty()) && list.is_at(1, &loads, &items));
-    assert!(rt; !list.is_at(0, &loads, &items) && !list.is_at(2, &loads, &items));
-    assert!(rt; list.get(1).is_some() && list.get(2).is_none());
+    push_each(&mut list, &loads, &each)?;
+    push_each(&mut list, &loads, &each)?;
+    assert_eq!(rt; list.len(), 8);
+    assert!(rt; has(&list, 0, &loads, &each[0]) && has(&list, 1, &loads, &each[1]));
+    assert!(rt; has(&list, 2, &loads, &each[2]) && has(&list, 3, &loads, &each[3]));
+    assert!(rt; has(&list, 5, &loads, &each[1]) && has(&list, 7, &loads, &each[3]));
+    assert!(rt; !has(&list, 0, &loads, &each[2]) && !has(&list, 3, &loads, &each[1]));
+    assert!(rt; list.get(7).is_some() && list.get(8).is_none());
     Ok(())
 }
 

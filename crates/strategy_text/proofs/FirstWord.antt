@@ -1,13 +1,14 @@
 -- The first word of a line and what is left after it, read byte by byte.
 use Rattle.std.proofs.Common.{◌≡◌, ℕ, zero, suc, ◌+◌, ◌-◌, ◌*◌, ◌<◌, ◌≤◌, ◌==◌, true, false, List, [], ◌∷◌, length, drop, get_or, Some, None, refl, sym, ap, ◌∙◌, inl, inr, arith}
-use Rattle.std.specs.Prelude.{nat_le, ◌↔◌}
+use Rattle.std.specs.Prelude.{nat_le, nat_lt, ◌↔◌}
 use Rattle.std.specs.Char.{is_ascii_digit}
 use Rattle.std.specs.List.{slice_split, onto_first}
 use Rattle.std.specs.Str.{bytes_eq}
-use Rattle.std.proofs.lemmas.Bool.{cases_Bool, true≢false, or_parts}
+use Rattle.std.proofs.lemmas.Bool.{cases_Bool, cases_lt, true≢false, or_parts, le-leb, lt-leb, le-ltb, lt-ltb}
+use Rattle.std.proofs.lemmas.List.{drop-drop, length-drop}
 use Rattle.std.proofs.lemmas.Bool.Decides.{nat_tests}
 use Rattle.std.proofs.lemmas.Slice.Eq.{bytes_eq-Decides}
-use Rattle.strategy_text.specs.Words.{after, digits_after, number_at, number_of, first_word, left_after, has_space, words_left}
+use Rattle.strategy_text.specs.Words.{after, digits_after, number_at, number_of, first_word, left_after, has_space, left_from, words_left}
 
 -- a line is its first word and the words after it
 pub words_split : (bytes : List ℕ) → slice_split (λ b. b == 32) bytes ≡ first_word bytes ∷ words_left (left_after bytes)
@@ -34,6 +35,42 @@ left_none (c ∷ cs) zero e l = absurd (omega arith)
 left_none (c ∷ cs) (suc n) e l = elim (cases_Bool (c == 32)) [
   | inl s ↦ absurd (let z = rw s at e in omega (arith, z))
   | inr s ↦ let z = rw s at e in rw s (left_none cs n (omega (arith, z)) (omega arith))
+]
+
+-- what is left from a place on
+left_from-within : (line : List ℕ) (at : ℕ) → at ≤ length line → left_from at line ≡ Some (drop at line)
+left_from-within line at l = rw (le-leb at (length line) l) refl
+
+pub left_from-past : (line : List ℕ) (at : ℕ) → length line < at → left_from at line ≡ None
+left_from-past line at l = rw (lt-leb at (length line) l) refl
+
+-- it is the word that begins there, and the words after it
+pub words_from : (line left : List ℕ) (at : ℕ) → at ≤ length line → left ≡ drop at line
+    → words_left (left_from at line) ≡ first_word left ∷ words_left (left_after left)
+words_from line left at l is = ap words_left (left_from-within line at l) ∙ sym (ap (λ xs. words_left (Some xs)) is) ∙ words_split left
+
+-- what is left past that word
+pub left_from-past_word : (line left : List ℕ) (at end : ℕ) → at ≤ length line → left ≡ drop at line → end ≡ length (first_word left)
+    → left_from (at + end + 1) line ≡ left_after left
+left_from-past_word line left at end l is e = elim (cases_lt end (length left)) [
+  | inl m ↦
+      let next : at + end + 1 ≡ at + suc end = omega arith in
+      left_from-within line (at + end + 1) (omega (arith, m, ap length is, length-drop at line))
+      ∙ ap (λ n. Some (drop n line)) next ∙ sym (ap Some (ap (drop (suc end)) is ∙ drop-drop (suc end) at line)) ∙ sym (left_some left end e m)
+  | inr m ↦ left_from-past line (at + end + 1) (omega (arith, l, m, ap length is, length-drop at line)) ∙ sym (left_none left end e m)
+]
+
+full : (n : ℕ) → (suc n == 0) ≡ false
+full n = grind (arith, nat_tests)
+
+pub some_left : (bytes : List ℕ) → false ≡ (length (words_left (Some bytes)) == 0)
+some_left bytes = rw (words_split bytes) (sym (full (length (words_left (left_after bytes)))))
+
+-- no word is left past the line's end
+pub left_none_after : (line : List ℕ) (at : ℕ) → nat_lt (length line) at ≡ (length (words_left (left_from at line)) == 0)
+left_none_after line at = elim (cases_lt (length line) at) [
+  | inl past ↦ rw (left_from-past line at past, lt-ltb (length line) at past) refl
+  | inr within ↦ le-ltb (length line) at within ∙ some_left (drop at line) ∙ sym (ap (λ left. length (words_left left) == 0) (left_from-within line at within))
 ]
 
 -- digits of the first word were read up to a place
@@ -161,9 +198,3 @@ number_at-none high w ws e = rw e refl
 pub number_at-some : (high n : ℕ) (w : List ℕ) (ws : List (List ℕ)) → number_of high w ≡ Some n → number_at high (w ∷ ws) ≡ Some (n, ws)
 unfolding number_at
 number_at-some high n w ws e = rw e refl
-
-full : (n : ℕ) → (suc n == 0) ≡ false
-full n = grind (arith, nat_tests)
-
-pub some_left : (bytes : List ℕ) → false ≡ (length (words_left (Some bytes)) == 0)
-some_left bytes = rw (words_split bytes) (sym (full (length (words_left (left_after bytes)))))

@@ -1,6 +1,6 @@
 -- Reading a line word by word. These definitions serve private contracts alone.
 use Rattle.std.specs.Prelude.{ℕ, ◌+◌, ◌-◌, ◌*◌, ◌&&◌, ◌||◌, ◌==◌, nat_le, if◌then◌else◌}
-use Rattle.std.specs.Prelude.{Bool, false, List, [], ◌∷◌, Option, Some, None}
+use Rattle.std.specs.Prelude.{Bool, false, List, [], ◌∷◌, Option, Some, None, drop, length}
 use Rattle.std.specs.Char.{is_ascii_digit}
 use Rattle.std.specs.Option.{option_map}
 use Rattle.std.specs.List.{slice_split}
@@ -10,6 +10,10 @@ use Rattle.std.specs.Str.{bytes_eq}
 abbrev pub words_left : Option (List ℕ) → List (List ℕ)
 words_left None = []
 words_left (Some bytes) = slice_split (λ b. b == 32) bytes
+
+-- what is left of a line from a place on, and nothing from past its end
+abbrev pub left_from : ℕ → List ℕ → Option (List ℕ)
+left_from at line = if nat_le at (length line) then Some (drop at line) else None
 
 -- the bytes before the first space
 abbrev pub first_word : List ℕ → List ℕ

@@ -17,8 +17,10 @@ use crate::words::Words;
 use items::{Nums, Sequence};
 use packing_witness::Packing;
 use std::alloc::{AllocError, Global};
+use std::mem;
 
 /// The lists of a packing whose first was read.
+#[inline(always)]
 fn bins(alloc: Global, words: &mut Words, first: Nums) -> Result<Packing, Stop>
     ensures { Reads result words.new (bins_at first words.old) }
 {
@@ -33,6 +35,7 @@ fn bins(alloc: Global, words: &mut Words, first: Nums) -> Result<Packing, Stop>
 
 /// The lists of a packing, with a slash between two.
 #[tactic(auto, unfolding(crate::specs::Reading::pack_at))]
+#[inline(always)]
 fn packing(alloc: Global, words: &mut Words) -> Result<Packing, Stop>
     ensures { Reads result words.new (pack_at words.old) }
 {
@@ -42,6 +45,7 @@ fn packing(alloc: Global, words: &mut Words) -> Result<Packing, Stop>
 
 /// A packing, which may be missing in format 2.
 #[tactic(auto, unfolding(crate::specs::Reading::optional_pack_at))]
+#[inline(always)]
 fn optional_packing(
     alloc: Global,
     format: Format,
@@ -61,6 +65,7 @@ fn optional_packing(
 
 /// What follows a placement.
 #[tactic(auto, unfolding(crate::specs::Reading::then_at))]
+#[inline(always)]
 fn next(words: &mut Words) -> Option<Then>
     ensures { Takes result words.new (then_at words.old) }
 {
@@ -76,6 +81,7 @@ fn next(words: &mut Words) -> Option<Then>
 
 /// A placement after its first word.
 #[tactic(auto, unfolding(crate::specs::Reading::placement_at))]
+#[inline(always)]
 fn placement(words: &mut Words) -> Option<Placement>
     ensures { Takes result words.new (placement_at words.old) }
 {
@@ -84,11 +90,13 @@ fn placement(words: &mut Words) -> Option<Placement>
     Some(Placement { load, next })
 }
 
-/// The placements.
-fn each_placement(alloc: Global, words: &mut Words) -> Result<Placements, Stop>
+/// The placements, in the memory of a list that is empty.
+#[inline(always)]
+fn each_placement(words: &mut Words, empty: Placements) -> Result<Placements, Stop>
+    requires { empty ≡ [] }
     ensures { Reads result words.new (each_at (after (codes "on")) placement_at words.old) }
 {
-    let mut placements = Sequence::new(alloc);
+    let mut placements = empty;
     while words.accept(b"on") {
         let Some(placement) = placement(words) else {
             return Err(Stop::Form);
@@ -98,12 +106,14 @@ fn each_placement(alloc: Global, words: &mut Words) -> Result<Placements, Stop>
     Ok(placements)
 }
 
-/// The placements, at least one.
+/// The placements, at least one, in the memory of a list that is empty.
 #[tactic(auto, using(crate::proofs::Steps::some_again), unfolding(crate::specs::Reading::placements_at))]
-fn placements(alloc: Global, words: &mut Words) -> Result<Placements, Stop>
+#[inline(always)]
+fn placements(words: &mut Words, empty: Placements) -> Result<Placements, Stop>
+    requires { empty ≡ [] }
     ensures { Reads result words.new (placements_at words.old) }
 {
-    let placements = each_placement(alloc, words)?;
+    let placements = each_placement(words, empty)?;
     if placements.is_empty() {
         return Err(Stop::Form);
     }
@@ -112,12 +122,14 @@ fn placements(alloc: Global, words: &mut Words) -> Result<Placements, Stop>
 
 /// An item that is sent, after the first word.
 #[tactic(auto, unfolding(crate::specs::Reading::send_at))]
-fn send(alloc: Global, format: Format, words: &mut Words) -> Result<Step, Stop>
+#[inline(always)]
+fn send(alloc: Global, format: Format, words: &mut Words, empty: Placements) -> Result<Step, Stop>
+    requires { empty ≡ [] }
     ensures { Reads result words.new (send_at format words.old) }
 {
     let size = words.size().ok_or(Stop::Form)?;
     let pack = optional_packing(alloc, format, words)?;
-    let placements = placements(alloc, words)?;
+    let placements = placements(words, empty)?;
     Ok(Step::Send {
         size,
         pack,
@@ -142,13 +154,15 @@ fn burst(alloc: Global, words: &mut Words) -> Result<Step, Stop>
     Ok(Step::Burst { count, size, pack })
 }
 
-/// What is sent.
+/// What is sent, the placements in the memory of a list that is empty.
 #[tactic(auto, unfolding(crate::specs::Reading::step_at))]
-fn step(alloc: Global, format: Format, words: &mut Words) -> Result<Step, Stop>
+#[inline(always)]
+fn step(alloc: Global, format: Format, words: &mut Words, empty: Placements) -> Result<Step, Stop>
+    requires { empty ≡ [] }
     ensures { Reads result words.new (step_at format words.old) }
 {
     if words.accept(b"send") {
-        return send(alloc, format, words);
+        return send(alloc, format, words, empty);
     }
     match format {
         Format::One => Err(Stop::Form),
@@ -156,8 +170,24 @@ fn step(alloc: Global, format: Format, words: &mut Words) -> Result<Step, Stop>
     }
 }
 
+/// An empty list in the memory of the placements of a step, which then has none.
+#[inline(always)]
+fn emptied(alloc: Global, step: &mut Step) -> Placements
+    ensures { result ≡ [] }
+{
+    match step {
+        Step::Send { placements, .. } => {
+            let mut list = mem::replace(placements, Sequence::new(alloc));
+            list.truncate(0);
+            list
+        }
+        Step::Burst { .. } => Sequence::new(alloc),
+    }
+}
+
 /// Reads a node of the adversary of this number into a node in place of what it holds.
 #[tactic(auto, unfolding(crate::specs::Reading::adversary_at))]
+#[inline(always)]
 fn adversary(
     alloc: Global,
     format: Format,
@@ -168,7 +198,8 @@ fn adversary(
     ensures { GivesInto result node.new (adversary_at format number words.old) }
 {
     read_position(words, number, &mut node.loads, &mut node.items)?;
-    node.step = step(alloc, format, words)?;
+    let empty = emptied(alloc, &mut node.step);
+    node.step = step(alloc, format, words, empty)?;
     if !words.is_at_end() {
         return Err(Stop::Form);
     }
@@ -197,7 +228,8 @@ pub fn parse_adversary(
 }
 
 /// Reads the node that [`parse_adversary`] gives into a node in place of what it holds, in the memory of its lists of
-/// loads and items where that is enough. False exactly where the line spells none; the node may then hold anything.
+/// loads, items and placements where that is enough. False exactly where the line spells none; the node may then hold anything.
+#[inline(never)]
 pub fn read_adversary(
     alloc: Global,
     format: Format,

@@ -1,6 +1,6 @@
 //! The lines that are nodes of the algorithm. Their forms are this project's.
 
-ghost use Rattle.std.specs.Prelude.{◌≡◌, IfOk, IfSome, IfNone};
+ghost use Rattle.std.specs.Prelude.{◌≡◌, [], IfOk, IfSome, IfNone};
 ghost use Rattle.strategy_text.specs.declared.node.AlgNode.{AlgNode};
 ghost use Rattle.std.specs.Bool.{OnTrue, OnFalse};
 ghost use Rattle.strategy_text.specs.Text.{AnyNode, of_algorithm};
@@ -15,9 +15,11 @@ use crate::stop::{LINE_BYTES, Stop};
 use crate::words::Words;
 use items::Sequence;
 use std::alloc::{AllocError, Global};
+use std::mem;
 
 /// A reply.
 #[tactic(auto, unfolding(crate::specs::Reading::entry_at))]
+#[inline(always)]
 fn entry(words: &mut Words) -> Option<Entry>
     ensures { Takes result words.new (entry_at words.old) }
 {
@@ -33,11 +35,13 @@ fn entry(words: &mut Words) -> Option<Entry>
     Some(Entry { size, load, to })
 }
 
-/// The replies to the end of the line.
-fn each_entry(alloc: Global, words: &mut Words) -> Result<Entries, Stop>
+/// The replies to the end of the line, in the memory of a list that is empty.
+#[inline(always)]
+fn each_entry(words: &mut Words, empty: Entries) -> Result<Entries, Stop>
+    requires { empty ≡ [] }
     ensures { Reads result words.new (each_at more_words entry_at words.old) }
 {
-    let mut entries = Sequence::new(alloc);
+    let mut entries = empty;
     while !words.is_at_end() {
         let Some(entry) = entry(words) else {
             return Err(Stop::Form);
@@ -47,15 +51,17 @@ fn each_entry(alloc: Global, words: &mut Words) -> Result<Entries, Stop>
     Ok(entries)
 }
 
-/// The replies: a dash for none, else one or more to the end of the line.
+/// The replies: a dash for none, else one or more to the end of the line; in the memory of a list that is empty.
 #[tactic(auto, using(crate::proofs::Steps::some_again), unfolding(crate::specs::Reading::entries_at))]
-fn entries(alloc: Global, words: &mut Words) -> Result<Entries, Stop>
+#[inline(always)]
+fn entries(words: &mut Words, empty: Entries) -> Result<Entries, Stop>
+    requires { empty ≡ [] }
     ensures { Reads result words.new (entries_at words.old) }
 {
     if words.accept(b"-") {
-        return Ok(Sequence::new(alloc));
+        return Ok(empty);
     }
-    let entries = each_entry(alloc, words)?;
+    let entries = each_entry(words, empty)?;
     if entries.is_empty() {
         return Err(Stop::Form);
     }
@@ -64,6 +70,7 @@ fn entries(alloc: Global, words: &mut Words) -> Result<Entries, Stop>
 
 /// Bins kept for big items.
 #[tactic(auto, unfolding(crate::specs::Reading::big_at))]
+#[inline(always)]
 fn big(words: &mut Words) -> Option<Act>
     ensures { Takes result words.new (big_at words.old) }
 {
@@ -76,11 +83,13 @@ fn big(words: &mut Words) -> Option<Act>
 
 /// Replies, or bins kept for big items.
 #[tactic(auto, unfolding(crate::specs::Reading::reply_at))]
-fn reply(alloc: Global, format: Format, words: &mut Words) -> Result<Act, Stop>
+#[inline(always)]
+fn reply(format: Format, words: &mut Words, empty: Entries) -> Result<Act, Stop>
+    requires { empty ≡ [] }
     ensures { Reads result words.new (reply_at format words.old) }
 {
     if words.accept(b"reply") {
-        let entries = entries(alloc, words)?;
+        let entries = entries(words, empty)?;
         return Ok(Act::Reply(entries));
     }
     match format {
@@ -89,19 +98,38 @@ fn reply(alloc: Global, format: Format, words: &mut Words) -> Result<Act, Stop>
     }
 }
 
-/// What is done.
+/// What is done, the replies in the memory of a list that is empty.
 #[tactic(auto, unfolding(crate::specs::Reading::act_at))]
-fn act(alloc: Global, format: Format, words: &mut Words) -> Result<Act, Stop>
+#[inline(always)]
+fn act(format: Format, words: &mut Words, empty: Entries) -> Result<Act, Stop>
+    requires { empty ≡ [] }
     ensures { Reads result words.new (act_at format words.old) }
 {
     if words.accept(b"finish") {
         return Ok(Act::Finish);
     }
-    reply(alloc, format, words)
+    reply(format, words, empty)
+}
+
+/// An empty list in the memory of the replies of an act, which then has none.
+#[inline(always)]
+fn emptied(alloc: Global, act: &mut Act) -> Entries
+    ensures { result ≡ [] }
+{
+    match act {
+        Act::Reply(entries) => {
+            let mut list = mem::replace(entries, Sequence::new(alloc));
+            list.truncate(0);
+            list
+        }
+        Act::Finish => Sequence::new(alloc),
+        Act::Big(_) => Sequence::new(alloc),
+    }
 }
 
 /// Reads a node of the algorithm of this number into a node in place of what it holds.
 #[tactic(auto, unfolding(crate::specs::Reading::algorithm_at))]
+#[inline(always)]
 fn algorithm(
     alloc: Global,
     format: Format,
@@ -112,7 +140,8 @@ fn algorithm(
     ensures { GivesInto result node.new (algorithm_at format number words.old) }
 {
     read_position(words, number, &mut node.loads, &mut node.items)?;
-    node.act = act(alloc, format, words)?;
+    let empty = emptied(alloc, &mut node.act);
+    node.act = act(format, words, empty)?;
     if !words.is_at_end() {
         return Err(Stop::Form);
     }
@@ -141,7 +170,8 @@ pub fn parse_algorithm(
 }
 
 /// Reads the node that [`parse_algorithm`] gives into a node in place of what it holds, in the memory of its lists of
-/// loads and items where that is enough. False exactly where the line spells none; the node may then hold anything.
+/// loads, items and replies where that is enough. False exactly where the line spells none; the node may then hold anything.
+#[inline(never)]
 pub fn read_algorithm(
     alloc: Global,
     format: Format,

@@ -11,6 +11,7 @@ use items::{Nums, Sequence};
 use std::alloc::{AllocError, Global};
 
 /// Puts the numbers up to the first word that is none into a list in place of what it holds.
+#[inline(always)]
 fn read_numbers(words: &mut Words, list: &mut Nums) -> Result<(), AllocError>
     ensures { OnOk result (numbers_at words.old ≡ (list.new, words.new)) }
 {
@@ -25,6 +26,7 @@ fn read_numbers(words: &mut Words, list: &mut Nums) -> Result<(), AllocError>
 
 /// Reads a list of numbers, a dash for none, else one or more numbers, into a list in place of what it holds.
 #[tactic(auto, using(crate::proofs::Steps::some_again), unfolding(crate::specs::Reading::list_at))]
+#[inline(always)]
 fn read_list(words: &mut Words, list: &mut Nums) -> Result<(), Stop>
     ensures { ReadsInto result list.new words.new (list_at words.old) }
 {
@@ -40,6 +42,7 @@ fn read_list(words: &mut Words, list: &mut Nums) -> Result<(), Stop>
 }
 
 /// A list of numbers: a dash for none, else one or more numbers.
+#[inline(always)]
 pub(crate) fn list(alloc: Global, words: &mut Words) -> Result<Nums, Stop>
     ensures { Reads result words.new (list_at words.old) }
 {
@@ -50,6 +53,7 @@ pub(crate) fn list(alloc: Global, words: &mut Words) -> Result<Nums, Stop>
 
 /// Whether the next word is this number.
 #[tactic(auto, unfolding(crate::specs::Reading::numbered_at))]
+#[inline(always)]
 fn is_numbered(words: &mut Words, number: u32) -> bool
     ensures { MatchBool result
         (numbered_at number words.old ≡ Some words.new)
@@ -60,6 +64,7 @@ fn is_numbered(words: &mut Words, number: u32) -> bool
 
 /// Reads a list after a word into a list in place of what it holds.
 #[tactic(auto, unfolding(crate::specs::Reading::labelled_at))]
+#[inline(always)]
 fn read_labelled(words: &mut Words, label: &[u8], list: &mut Nums) -> Result<(), Stop>
     requires { has_space label.now ≡ false }
     ensures { ReadsInto result list.new words.new (labelled_at label.now words.old) }
@@ -72,6 +77,7 @@ fn read_labelled(words: &mut Words, label: &[u8], list: &mut Nums) -> Result<(),
 
 /// Reads the loads and the items of the node of this number into lists in place of what they hold.
 #[tactic(auto, unfolding(crate::specs::Reading::position_at))]
+#[inline(always)]
 pub(crate) fn read_position(
     words: &mut Words,
     number: u32,

@@ -2,9 +2,8 @@
 
 ghost use Rattle.std.specs.Prelude.{◌≡◌, ◌<◌, ◌≤◌, ◌==◌, ◌+◌, ◌↔◌, [], IsTrue, None, Some, false, drop, length};
 ghost use Rattle.std.specs.Prelude.{slice_index, MatchBool, MatchOption, IfSome};
-ghost use Rattle.std.specs.Option.{option_copied};
 ghost use Rattle.strategy_text.specs.Words.{words_left, digits_after, number_of, after, number_at};
-ghost use Rattle.strategy_text.specs.Words.{first_word, left_after};
+ghost use Rattle.strategy_text.specs.Words.{first_word};
 ghost use Rattle.strategy_text.specs.Words.{has_space};
 
 use std::marker::Model;
@@ -12,33 +11,36 @@ use std::marker::Model;
 /// What is left of a line, read word by word: nothing after its last word. Each byte is read once.
 #[derive(Drop)]
 pub(crate) struct Words<'a> {
-    rest: Option<&'a [u8]>,
+    line: &'a [u8],
+    // Where the next word begins; past the line's end after its last word.
+    at: usize,
 }
 
 impl<'a> Model for Words<'a> {
     ghost use Rattle.std.specs.Prelude.{ℕ, List};
-    ghost use Rattle.std.specs.Option.{option_copied};
-    ghost use Rattle.strategy_text.specs.Words.{words_left};
+    ghost use Rattle.strategy_text.specs.Words.{words_left, left_from};
 
     ghost Value = { List (List ℕ) };
 
-    ghost view = { λ a. words_left (option_copied a.rest) };
+    ghost view = { λ a. words_left (left_from a.at a.line.now) };
 }
 
 /// The value of the decimal digits that are the first word, and the word's length; None where it has another byte, or
 /// its value is above a limit.
+#[inline(always)]
 fn digits(bytes: &[u8], high: u32) -> Option<(u32, usize)>
     ensures exact { MatchOption result
         (digits_after high 0 (first_word bytes.now) ≡ None)
         (λ x. (digits_after high 0 (first_word bytes.now) ≡ Some x.0) × (x.1 ≡ length (first_word bytes.now))) }
     ensures low { IfSome result (λ x. x.0 ≤ high) }
+    ensures short { IfSome result (λ x. x.1 ≤ length bytes.now) }
 {
     let mut value = 0;
     for (i, b) in bytes.iter().enumerate() {
-        if *b == b' ' {
-            return Some((value as u32, i));
-        }
         if !b.is_ascii_digit() {
+            if *b == b' ' {
+                return Some((value as u32, i));
+            }
             return None;
         }
         value = 10 * value + u64::from(*b - b'0');
@@ -50,11 +52,13 @@ fn digits(bytes: &[u8], high: u32) -> Option<(u32, usize)>
 }
 
 /// The number up to a limit that the first word spells, in digits without a leading zero, and the word's length.
+#[inline(always)]
 fn first_number(bytes: &[u8], high: u32) -> Option<(u32, usize)>
     ensures exact { MatchOption result
         (number_of high (first_word bytes.now) ≡ None)
         (λ x. (number_of high (first_word bytes.now) ≡ Some x.0) × (x.1 ≡ length (first_word bytes.now))) }
     ensures low { IfSome result (λ x. x.0 ≤ high) }
+    ensures short { IfSome result (λ x. x.1 ≤ length bytes.now) }
 {
     let Some((n, end)) = digits(bytes, high) else {
         return None;
@@ -69,6 +73,7 @@ fn first_number(bytes: &[u8], high: u32) -> Option<(u32, usize)>
 }
 
 /// Whether a word of this length, with which the bytes begin, has a zero before other bytes.
+#[inline(always)]
 fn is_led_by_zero(bytes: &[u8], end: usize) -> bool
     requires { end ≤ length bytes.now }
     ensures { IsTrue result ↔ (1 < end) × (slice_index bytes.now 0 ≡ 48) }
@@ -77,6 +82,7 @@ fn is_led_by_zero(bytes: &[u8], end: usize) -> bool
 }
 
 /// Whether the first word is this one.
+#[inline(always)]
 fn is_first(bytes: &[u8], word: &[u8]) -> bool
     requires { has_space word.now ≡ false }
     ensures exact { IsTrue result ↔ (first_word bytes.now ≡ word.now) }
@@ -93,6 +99,7 @@ fn is_first(bytes: &[u8], word: &[u8]) -> bool
 }
 
 /// Whether a word ends at this place.
+#[inline(always)]
 fn is_word_end(bytes: &[u8], end: usize) -> bool
     requires { end ≤ length bytes.now }
     ensures exact { IsTrue result ↔ (first_word (drop end bytes.now) ≡ []) }
@@ -103,80 +110,76 @@ fn is_word_end(bytes: &[u8], end: usize) -> bool
     bytes[end] == b' '
 }
 
-/// What is left after the first word, which has this length.
-fn past_first(bytes: &[u8], end: usize) -> Option<&[u8]>
-    requires { end ≡ length (first_word bytes.now) }
-    ensures { option_copied result ≡ left_after bytes.now }
-{
-    if end < bytes.len() {
-        Some(&bytes[end + 1..])
-    } else {
-        None
-    }
-}
-
 impl<'a> Words<'a> {
     /// The words of a line.
+    #[inline(always)]
     pub(crate) fn new(line: &'a [u8]) -> Self
         ensures { result ≡ words_left (Some line.now) }
     {
-        Words { rest: Some(line) }
+        Words { line, at: 0 }
     }
 
     /// The same words.
+    #[inline(always)]
     pub(crate) fn copy(&self) -> Words<'a>
         ensures { result ≡ self.now }
     {
-        Words { rest: self.rest }
+        Words {
+            line: self.line,
+            at: self.at,
+        }
     }
 
     /// Whether no word is left.
+    #[inline(always)]
     pub(crate) fn is_at_end(&self) -> bool
         ensures { result ≡ (length self.now == 0) }
     {
-        match self.rest {
-            None => true,
-            Some(_) => false,
-        }
+        self.at > self.line.len()
     }
 
     /// Takes the next word if it is this one.
     #[tactic(auto, unfolding(crate::specs::Words::after))]
+    #[inline(always)]
     pub(crate) fn accept(&mut self, word: &[u8]) -> bool
         requires { has_space word.now ≡ false }
         ensures { MatchBool result
             (after word.now self.old ≡ Some self.new)
             ((after word.now self.old ≡ None) × (self.new ≡ self.old)) }
     {
-        let Some(bytes) = self.rest else {
-            return false;
-        };
-        if !is_first(bytes, word) {
+        let (line, at) = (self.line, self.at);
+        if at > line.len() {
             return false;
         }
-        self.rest = past_first(bytes, word.len());
+        if !is_first(&line[at..], word) {
+            return false;
+        }
+        self.at = at + word.len() + 1;
         true
     }
 
     /// Takes the next word if it is a number up to a limit.
     #[tactic(auto, unfolding(crate::specs::Words::number_at))]
+    #[inline(always)]
     pub(crate) fn number(&mut self, high: u32) -> Option<u32>
         ensures read { MatchOption result
             ((number_at high self.old ≡ None) × (self.new ≡ self.old))
             (λ n. number_at high self.old ≡ Some (n, self.new)) }
         ensures low { IfSome result (λ n. n ≤ high) }
     {
-        let Some(bytes) = self.rest else {
+        let (line, at) = (self.line, self.at);
+        if at > line.len() {
+            return None;
+        }
+        let Some((n, end)) = first_number(&line[at..], high) else {
             return None;
         };
-        let Some((n, end)) = first_number(bytes, high) else {
-            return None;
-        };
-        self.rest = past_first(bytes, end);
+        self.at = at + end + 1;
         Some(n)
     }
 
     /// Takes the next word if it is a number of 16 bits.
+    #[inline(always)]
     pub(crate) fn size(&mut self) -> Option<u16>
         ensures { MatchOption result
             ((number_at 65535 self.old ≡ None) × (self.new ≡ self.old))

@@ -159,7 +159,7 @@ big_finishes_if_said-requires g c =
 
 pub replies_if_said-requires : goal.replies_if_said-requires
 replies_if_said-requires g c =
-    (multiset_from_items c.args.game.now c.args.sizes.now c.args.loads.now c.args.items.now c.game_is_legal.ensures c.requires.sizes c.requires.loads c.requires.items).sizes
+    multiset_from_items c.args.game.now c.args.sizes.now c.args.loads.now c.args.items.now c.game_is_legal.ensures c.requires.sizes c.requires.loads c.requires.items
 
 pub lead_to_children-requires-clause-items : goal.lead_to_children-requires-clause-items
 lead_to_children-requires-clause-items g c =

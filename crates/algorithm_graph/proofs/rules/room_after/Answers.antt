@@ -1,12 +1,11 @@
-use Rattle.std.proofs.Common.{◌≡◌, ◌∙◌, ap, arith, subst}
-use Rattle.std.proofs.lemmas.List.{take_all}
-use Rattle.reachable_loads.specs.Reached.{ItemsSent, sent}
-use Rattle.algorithm_graph.specs.Judging.{HaveRoom}
+use Rattle.std.proofs.Common.{subst}
+use Rattle.items.specs.Packable.{IsRoom}
+use Rattle.algorithm_graph.proofs.SizesLemmas.{HaveRoom-from_room}
 use Rattle.algorithm_graph.proofs.rules.room_after.Goals as goal
 
 pub returns : goal.returns
 returns c =
-    let items = c.args.items.now in
-    let all = take_all c.loop-item.item-index items (omega arith) in
-    let is : c.loop-item.reach ≡ sent c.args.game.now items = c.loop-item.invariant ∙ ap (sent c.args.game.now) all in
-    subst (λ (s : ItemsSent). HaveRoom s.game s.items c.room.result) is c.room.ensures.law
+    let game = c.args.game.now in
+    let room = c.in_ok-room.room in
+    let made = rw c.unwrap-items.ensures at c.from_slice.ensures.exact in
+    HaveRoom-from_room game c.args.items.now room (subst (λ items. IsRoom game items room) made.0 c.in_ok-room.ensures.exact)

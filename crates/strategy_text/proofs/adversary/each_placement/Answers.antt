@@ -8,7 +8,7 @@ use Rattle.strategy_text.proofs.adversary.each_placement.Goals as goal
 pub returns-in_default : goal.returns-in_default
 returns-in_default c =
     let less = after_shrinks (codes "on") c.loop-words.words c.accept.new.self c.loop-words-test.ensures in
-    from_none c.new-placements.result _ _ c.new-placements.ensures.empty (many_stops (after (codes "on")) placement_at c.loop-words.placements c.loop-words.words c.accept.new.self
+    from_none c.args.empty _ _ c.requires (many_stops (after (codes "on")) placement_at c.loop-words.placements c.loop-words.words c.accept.new.self
     _ c.loop-words-test.ensures c.in_default.ensures (omega (arith, less)) c.loop-words.invariant)
 
 pub loop-words-smaller : goal.loop-words-smaller
@@ -33,5 +33,5 @@ loop-words-preserved c =
 pub returns : goal.returns
 returns c =
     let stays = c.loop-words-test.ensures.1 in
-    rw stays (from_none c.new-placements.result _ _ c.new-placements.ensures.empty
+    rw stays (from_none c.args.empty _ _ c.requires
     (many_ends (after (codes "on")) placement_at c.loop-words.placements c.loop-words.words _ c.loop-words-test.ensures.0 c.loop-words.invariant))

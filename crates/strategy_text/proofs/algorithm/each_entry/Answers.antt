@@ -7,7 +7,7 @@ use Rattle.strategy_text.proofs.algorithm.each_entry.Goals as goal
 pub returns-in_default : goal.returns-in_default
 returns-in_default c =
     let more = more_some c.loop-words.words (sym c.is_at_end.ensures ∙ c.loop-words-test.true) in
-    from_none c.new-entries.result _ _ c.new-entries.ensures.empty (many_stops more_words entry_at c.loop-words.entries c.loop-words.words c.loop-words.words _ more.0
+    from_none c.args.empty _ _ c.requires (many_stops more_words entry_at c.loop-words.entries c.loop-words.words c.loop-words.words _ more.0
     c.in_default.ensures more.1 c.loop-words.invariant)
 
 pub loop-words-smaller : goal.loop-words-smaller
@@ -23,4 +23,4 @@ loop-words-preserved c =
 pub returns : goal.returns
 returns c =
     let none = more_none c.loop-words.words (sym c.is_at_end.ensures ∙ c.loop-words-test.false) in
-    from_none c.new-entries.result _ _ c.new-entries.ensures.empty (many_ends more_words entry_at c.loop-words.entries c.loop-words.words _ none c.loop-words.invariant)
+    from_none c.args.empty _ _ c.requires (many_ends more_words entry_at c.loop-words.entries c.loop-words.words _ none c.loop-words.invariant)

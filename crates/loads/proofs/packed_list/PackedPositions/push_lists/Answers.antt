@@ -1,37 +1,36 @@
-use Rattle.std.proofs.Common.{◌≡◌, ◌+◌, ◌++◌, ◌∷◌, [], length, ap, ◌∙◌, rules}
+use Rattle.std.proofs.Common.{◌≡◌, ◌++◌, ◌∷◌, [], length, ap, ◌∙◌, rules}
 use Rattle.std.specs.Vec.{vec_len}
-use Rattle.std.proofs.lemmas.List.{length-append}
-use Rattle.loads.specs.Packed.{bytes_of, position_in, positions_in}
+use Rattle.loads.specs.Packed.{bytes_of, position_in}
 use Rattle.loads.specs.Position.{position}
-use Rattle.loads.proofs.PackedLemmas.{AreCut-push, positions_in-push}
+use Rattle.loads.proofs.PackedLemmas.{AreKept-push, IsInSlot-put, positions_in-push}
 use Rattle.loads.proofs.ItemListLemmas.{position_in-bytes_of, ArePositionBytes-bytes_of}
 use Rattle.loads.proofs.packed_list.PackedPositions.push_lists.Goals as goal
 use Rattle.loads.proofs.packed_list.PackedPositions.push_lists.Goals.{After-push_reserved}
 
--- the bytes and the ends after the push
+-- the bytes and the slots after the push
 bytes_after : (c : After-push_reserved) → c.put_position.new.bytes.items ≡ c.self.inside.bytes.items ++ bytes_of (position c.args.loads.now c.args.items.now)
 bytes_after c = c.put_position.ensures ∙ ap (λ xs. xs ++ bytes_of (position c.args.loads.now c.args.items.now)) c.reserve-2.ensures.items
 
-ends_after : (c : After-push_reserved) → c.push_reserved.new.self.items ≡ c.self.inside.ends.items ++ c.len.result ∷ []
-ends_after c = c.push_reserved.ensures.items ∙ ap (λ ends. ends ++ c.len.result ∷ []) c.reserve.ensures.items
+slots_after : (c : After-push_reserved) → c.push_reserved.new.self.items ≡ c.self.inside.slots.items ++ c.slot_of_last-slot.result ∷ []
+slots_after c = c.push_reserved.ensures.items ∙ ap (λ slots. slots ++ c.slot_of_last-slot.result ∷ []) c.reserve.ensures.items
 
-total : (c : After-push_reserved) → c.len.result ≡ length c.self.inside.bytes.items + length (bytes_of (position c.args.loads.now c.args.items.now))
-total c =
-    let n : vec_len c.put_position.new.bytes ≡ length c.put_position.new.bytes.items = search rules in
-    c.len.ensures ∙ n ∙ ap length (bytes_after c) ∙ length-append c.self.inside.bytes.items (bytes_of (position c.args.loads.now c.args.items.now))
+start : (c : After-push_reserved) → c.len-start.result ≡ length c.self.inside.bytes.items
+start c =
+    let n : vec_len c.reserve-2.new.self ≡ length c.reserve-2.new.self.items = search rules in
+    c.len-start.ensures ∙ n ∙ ap length c.reserve-2.ensures.items
 
 pub invariant_of-self-2 : goal.invariant_of-self-2
 invariant_of-self-2 c =
     let d = (goal.at.invariant_of-self-2 c).After-push_reserved in
     let legal = ArePositionBytes-bytes_of d.args.loads.now d.args.items.now d.requires.loads d.requires.items in
-    rw (bytes_after d, ends_after d) (AreCut-push _ _ _ _ d.self.invariant legal (total d))
+    let put = IsInSlot-put d.self.inside.bytes.items _ _ _ _ d.slot_of_last-slot.result (bytes_after d) (start d) d.slot_of_last-slot.ensures.kept d.slot_of_last-slot.ensures.others in
+    rw (slots_after d) (AreKept-push d.self.inside.bytes.items _ _ _ _ d.self.invariant put.1 put.0 d.slot_of_last-slot.ensures.within legal)
 
 pub returns-clause-ok : goal.returns-clause-ok
 returns-clause-ok c =
     let d = (goal.at.returns-clause-ok c).After-push_reserved in
     let more = bytes_of (position d.args.loads.now d.args.items.now) in
-    let put : positions_in d.put_position.new.bytes.items d.push_reserved.new.self.items
-    ≡ positions_in d.self.inside.bytes.items d.self.inside.ends.items ++ position_in more ∷ [] =
-    rw (bytes_after d, ends_after d) (positions_in-push d.self.inside.bytes.items more d.self.inside.ends.items d.len.result d.self.invariant (total d)) in
-    put ∙ ap (λ positions. positions ++ position_in more ∷ []) d.self.view_is
+    let put = IsInSlot-put d.self.inside.bytes.items _ _ _ _ d.slot_of_last-slot.result (bytes_after d) (start d) d.slot_of_last-slot.ensures.kept d.slot_of_last-slot.ensures.others in
+    rw (slots_after d) (positions_in-push d.self.inside.bytes.items _ more d.self.inside.slots.items _ d.self.invariant put.1 put.0)
+    ∙ ap (λ positions. positions ++ position_in more ∷ []) d.self.view_is
     ∙ ap (λ last. d.args.self.now ++ last ∷ []) (position_in-bytes_of d.args.loads.now d.args.items.now)

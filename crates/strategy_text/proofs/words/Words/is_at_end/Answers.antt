@@ -1,8 +1,6 @@
 use Rattle.std.proofs.Common.{length, ◌==◌, ap, ◌∙◌}
-use Rattle.strategy_text.proofs.FirstWord.{some_left}
+use Rattle.strategy_text.proofs.FirstWord.{left_none_after}
 use Rattle.strategy_text.proofs.words.Words.is_at_end.Goals as goal
 
-pub returns-in-Some : goal.returns-in-Some
-returns-in-Some c =
-    let here = rw c.in-Some.is at c.self.view_is in
-    some_left c.in-Some.field-0.now ∙ ap (λ words. length words == 0) here
+pub returns : goal.returns
+returns c = left_none_after c.self.inside.line.now c.self.inside.at ∙ ap (λ words. length words == 0) c.self.view_is
