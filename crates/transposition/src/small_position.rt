@@ -172,7 +172,7 @@ fn load_bytes(loads: &[u16]) -> [u8; MOST_BINS as usize]
     requires { AreLoads loads.now }
     ensures { result ≡ padded loads.now }
 {
-    let mut bytes = [0; MOST_BINS as usize];
+    let mut bytes = [0, 0, 0, 0, 0, 0, 0, 0];
     for (i, load) in loads.iter().enumerate() {
         bytes[i] = *load as u8;
     }
