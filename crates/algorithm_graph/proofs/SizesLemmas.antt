@@ -7,7 +7,7 @@ use Rattle.std.proofs.lemmas.List.{get_or_append_left, get_or_at, get_or-map, le
 use Rattle.std.proofs.lemmas.List.Elements.{All-contains, Contains-get_or, Contains-append_left, Contains-append_right, Contains-append_cases}
 use Rattle.items.specs.Game.{GameNumbers}
 use Rattle.items.specs.Multiset.{count, IsSize}
-use Rattle.items.specs.Packable.{Packable, IsRoom}
+use Rattle.items.specs.Packable.{IsRoom}
 use Rattle.items.proofs.MemberLemmas.{Contains-cons, Contains-here, Contains-tail, Contains-nil, Contains-from_count, count_above_zero}
 use Rattle.packing_witness.proofs.PackingLemmas.{le_room, Packable-from_room, size_of_last}
 use Rattle.strategy_text.specs.declared.node.Act.{Act}
