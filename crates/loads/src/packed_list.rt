@@ -27,8 +27,9 @@ enum Slot {
     Long { start: usize, end: usize },
 }
 
-/// A list of positions that grows at its end, seen by clauses as the list of the positions. Each takes 24 bytes, and one
-/// of more than 21 loads and items takes a byte for each of them and one more besides; there are two allocations in all.
+/// A list of positions that grows at its end, seen by clauses as the list of the positions. Each takes 24 bytes, and
+/// one of more than 21 loads and items takes a byte for each of them and one more besides; there are two allocations
+/// in all.
 #[derive(Debug, Drop)]
 pub struct PackedPositions {
     slots: Vec<Slot>,
@@ -141,7 +142,8 @@ fn bytes_in<'a>(bytes: &'a [u8], slot: &'a Slot) -> &'a [u8]
     }
 }
 
-// The slot of a position whose bytes are the last ones, from this place on. They are taken away where the slot holds them.
+// The slot of a position whose bytes are the last ones, from this place on. They are taken away where the slot holds
+// them.
 fn slot_of_last(bytes: &mut Vec<u8>, start: usize) -> Slot
     requires { start ≤ length bytes.old.items }
     ensures kept { bytes_in bytes.new.items result ≡ drop start bytes.old.items }

@@ -170,7 +170,8 @@ pub fn parse_algorithm(
 }
 
 /// Reads the node that [`parse_algorithm`] gives into a node in place of what it holds, in the memory of its lists of
-/// loads, items and replies where that is enough. False exactly where the line spells none; the node may then hold anything.
+/// loads, items and replies where that is enough. False exactly where the line spells none; the node may then hold
+/// anything.
 #[inline(never)]
 pub fn read_algorithm(
     alloc: Global,

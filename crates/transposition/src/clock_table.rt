@@ -1,7 +1,7 @@
 //! A table of bounded size in which a hand goes round and drops an entry that was not used of late.
 
-ghost use Rattle.std.specs.Prelude.{◌≡◌, ◌↔◌, ◌<◌, ◌≤◌, ◌+◌, ◌-◌, ◌*◌, ◌^◌, [], IsSome, IsOk, IfOk, IsTrue, OnOk, OnErr};
-ghost use Rattle.std.specs.Prelude.{None, length};
+ghost use Rattle.std.specs.Prelude.{◌≡◌, ◌↔◌, ◌<◌, ◌≤◌, ◌+◌, ◌-◌, ◌*◌, ◌^◌, [], IsSome, IsOk, IfOk, IsTrue, OnOk};
+ghost use Rattle.std.specs.Prelude.{None, OnErr, length};
 ghost use Rattle.transposition.specs.Clock.{Drops};
 ghost use Rattle.indexmap.specs.IndexMap.{spare};
 ghost use Rattle.transposition.specs.Bounded.{bounded, found, IsBoundedMap, SameEntries, Puts, PutsForOther};
