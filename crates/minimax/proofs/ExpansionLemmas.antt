@@ -202,6 +202,13 @@ sizes_tried game pass room tried before later position l keeps all here size abo
 ]
 
 -- entries that are served still are, and one more is
+pub entries_still : (before later : List Position) (position : Position) (entries more : List Entry)
+    → ((p : Position) → IsServed before p → IsServed later p) → All (IsEntryServed before position) entries → more ≡ entries
+    → All (IsEntryServed later position) more
+entries_still before later position entries more keeps all is =
+    subst (All (IsEntryServed later position)) (sym is)
+    (All-weaker (IsEntryServed before position) (IsEntryServed later position) (λ e h f. keeps (led_to position e) (h f)) entries all)
+
 pub entries_served : (before later : List Position) (position : Position) (entries more : List Entry) (entry : Entry)
     → ((p : Position) → IsServed before p → IsServed later p) → All (IsEntryServed before position) entries → IsEntryServed later position entry
     → more ≡ entries ++ entry ∷ [] → All (IsEntryServed later position) more

@@ -74,6 +74,7 @@ finish_told game pass s entries position g sound playable finishes known = by_en
         → verdict_of entries position ≡ Some (Algorithm FINISHES)
     led number e (inl node) = absurd (node.unfinished finishes)
     led number e (inr finish) = e ∙ ap (λ n. Some (Algorithm n)) finish.told
+
     by_entry : (o : Option Verdict) → verdict_of entries position ≡ o → verdict_of entries position ≡ Some (Algorithm FINISHES)
     by_entry None e = absurd (known e)
     by_entry (Some (Adversary number)) e =

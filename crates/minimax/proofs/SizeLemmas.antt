@@ -6,7 +6,7 @@ use Rattle.std.proofs.lemmas.List.{map-append, length_push, length-map, get_or-m
 use Rattle.std.proofs.lemmas.List.FromFn.{get_or-map-range_with_len, length-map-range_with_len, map-range_with_len_more}
 use Rattle.std.proofs.lemmas.List.Elements.{All-push, All-weaker, All-contains}
 use Rattle.std.proofs.lemmas.Bool.{cases_lt}
-use Rattle.items.specs.Game.{GameNumbers}
+use Rattle.items.specs.Game.{GameNumbers, IsGame}
 use Rattle.items.specs.Multiset.{largest_of, sizes_of}
 use Rattle.items.specs.Packable.{Packable}
 use Rattle.items.proofs.MultisetLemmas.{largest_of-le}
@@ -32,12 +32,17 @@ use Rattle.minimax.specs.State.{IsBound, FindsVerdict, FollowsUp, HasAnswered, H
 use Rattle.minimax.specs.State.{AreOfAll, IsOpenFrom, IsPending, IsPlayable, IsReady, IsReadyWin, KeepsReply, KeepsWin}
 use Rattle.minimax.specs.State.{IsSound, IsWonIn, MayCome, PlacesAll, Tells, WentOn, WinsBy, allowed_by, kept_of}
 use Rattle.minimax.specs.State.{numbers_down, position_of_win, with_move}
+use Rattle.minimax.specs.Serving.{IsSkipped}
 use Rattle.minimax.specs.declared.expanding.Search.{Search}
+use Rattle.minimax.specs.declared.finish_nodes.TheConstants.{FINISHES}
+use Rattle.minimax.specs.declared.table.Told.{Told}
 use Rattle.minimax.specs.declared.replies.Reply.{Reply}
 use Rattle.minimax.specs.declared.wins.Win.{Win}
 use Rattle.minimax.specs.declared.expanding.Weighed.{Weighed}
 use Rattle.minimax.specs.declared.expanding.Weighed.TheVariants.{NoReply}
+use Rattle.minimax.proofs.FinishLemmas.{IsNeverWon-finish}
 use Rattle.minimax.proofs.PastLemmas.{IsLater-move}
+use Rattle.minimax.proofs.PlayableLemmas.{IsPlayable-after}
 use Rattle.minimax.proofs.StateLemmas.{FollowsUp-goes, IsPending-goes, never_by_led, not_won_by_verdict}
 use Rattle.minimax.proofs.StepLemmas.{Goes-trans, WentOn-later, WentOn-refl, WentOn-then, stands_still}
 use Rattle.minimax.proofs.WinLemmas.{IsNeverWon-answered, no_winning_size}
@@ -238,6 +243,18 @@ module _ (game : GameNumbers) (pass : ℕ) where
         (not_won_by_verdict game pass s1 entries (after position load size) (Held held) g.sound nothing t);
     answered = omega (arith, t.says.before_last, t.of_pass);
   }
+
+  -- a size that an earlier pass tried is answered by a position that finishes
+  pub weighs_skipped : (told : Told) (s : Search) (position : Position) (size load : ℕ) (entries : List (Position × Verdict)) → IsGame game
+      → IsSound game pass s entries → IsOpenFrom game pass size s position → Packable game (position.items ++ size ∷ []) → IsSkipped game told position size load
+      → HasWeighed game pass size position s s entries (kept_of size load (Algorithm FINISHES))
+  weighs_skipped told s position size load entries g sound o may skipped =
+      let first = skipped.first in
+      let playable = IsPlayable-after game position load size o.stands.playable first.has_load first.below may in
+      let never = IsNeverWon-finish game (after position load size) g playable skipped.finishes in
+      let went = WentOn-refl game pass (with_move s size game.target) s entries sound o.passed in
+      weighs s s position size load entries (Algorithm FINISHES) (past_size s s position size game.target entries may went) may first.has_load first.below tt
+      (record { says = inr (record { told = refl; finishes = skipped.finishes; never = never }); of_pass = tt })
 
   -- ---- all sizes
 

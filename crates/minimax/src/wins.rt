@@ -44,10 +44,7 @@ pub(crate) fn keep_win(
 }
 
 /// These placements.
-pub(crate) fn placements_of(
-    alloc: Global,
-    list: &[Placement],
-) -> Result<Placements, AllocError>
+pub(crate) fn placements_of(alloc: Global, list: &[Placement]) -> Result<Placements, AllocError>
     ensures { IfOk result (λ made. made ≡ list.now) }
 {
     let mut made = Placements::new(alloc);

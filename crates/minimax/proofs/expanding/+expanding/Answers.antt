@@ -20,24 +20,24 @@ use Rattle.transposition.specs.Bounded.{Puts}
 use Rattle.transposition.specs.Memo.{verdict_of}
 use Rattle.minimax.specs.Fresh.{CountsFresh, IsShort, progress}
 use Rattle.good_situations.specs.Finish.{Finishes}
-use Rattle.minimax.specs.State.{AreOfAll, FindsVerdict, HasReached, HasTried, HasWeighed, FollowsUp, IsBound, IsPending, IsTold, IsWonIn, StandsAtPath, WentOn, allowed_by, numbers_down}
+use Rattle.minimax.specs.State.{AreOfAll, FindsVerdict, FollowsUp, HasReached, HasTried, HasWeighed, IsBound, IsPending, IsTold, IsWonIn, StandsAtPath, WentOn}
+use Rattle.minimax.specs.State.{allowed_by, numbers_down}
 use Rattle.minimax.specs.Serving.{IsEntryServed, IsServedAt, IsServedBy, IsServedFor, IsServedWith, KeepsServing, KeepsServingTold, led_to, taken_by}
 use Rattle.minimax.specs.declared.finish_nodes.TheConstants.{FINISHES}
 use Rattle.transposition.specs.declared.verdict.Verdict.TheVariants.{Adversary, Algorithm, Held}
-use Rattle.minimax.proofs.FinishLemmas.{IsNeverWon-finish}
-use Rattle.minimax.proofs.PlayableLemmas.{IsPlayable-after, child_is, total_with}
+use Rattle.minimax.proofs.PlayableLemmas.{child_is, total_with}
 use Rattle.minimax.proofs.SizeLemmas.{finds_after, follows_more, ready_reply, next_bound, may_come_allowed, never_by_replies, none_more, not_allowed, ready_win}
 use Rattle.minimax.proofs.SizeLemmas.{before_last, opens_load, opens_size, past_more, past_size}
-use Rattle.minimax.proofs.SizeLemmas.{placed_more, replies_more, replies_still, sizes_more, weighs, wins_by}
+use Rattle.minimax.proofs.SizeLemmas.{placed_more, replies_more, replies_still, sizes_more, weighs, weighs_skipped, wins_by}
 use Rattle.minimax.proofs.StepLemmas.{finds_decided, finds_expanded, finds_held, finds_known, finds_reply, finds_win, may_visit_child, opens, passed_on}
 use Rattle.minimax.proofs.StepLemmas.{reached_child, reached_over}
-use Rattle.minimax.proofs.StepLemmas.{sound_visited, WentOn-later, WentOn-refl, WentOn-then}
+use Rattle.minimax.proofs.StepLemmas.{sound_visited, WentOn-refl, WentOn-then}
 use Rattle.minimax.proofs.ServingLemmas.{AreServed-same, IsBehind-less, KeepsServing-then, KeepsServing-weaker, Serving-refl, spare_after}
 use Rattle.minimax.proofs.FreshLemmas.{CountsFresh-above, CountsFresh-refl, CountsFresh-same, CountsFresh-trans, CountsFresh-visited}
 use Rattle.minimax.proofs.FreshLemmas.{IsShort-above, IsShort-after}
 use Rattle.minimax.proofs.FreshLemmas.{IsShort-fault, IsShort-visited, IsVisited, fresh_at, volume_after}
 use Rattle.minimax.proofs.WinLemmas.{IsWon-by, not_won}
-use Rattle.minimax.proofs.ExpansionLemmas.{entries_served, first_served, served_at, serves_expanded, serves_kept, serves_known, serves_more}
+use Rattle.minimax.proofs.ExpansionLemmas.{entries_served, entries_still, first_served, served_at, serves_expanded, serves_kept, serves_known, serves_more}
 use Rattle.minimax.proofs.ExpansionLemmas.{serves_not_allowed, serves_nothing, serves_replied, serves_size, serves_skipped, serves_won, sizes_tried}
 use Rattle.minimax.proofs.ExpansionLemmas.{tried_before, tried_still}
 use Rattle.monotone.proofs.PassLemmas.{allowed_in-exact}
@@ -124,13 +124,16 @@ decide-weigh_all-requires g t c κs l = (
   (
     l,
     (
-      c.requires.of_key, (c.requires.sound,
+      c.requires.of_key,
       (
-        opens c.args.game.now c.args.pass c.args.search.now c.room_up_to.new.self c.args.position.now c.in_ok-room.room c.requires.stands c.requires.visited
-            c.requires.unfinished c.in_ok-room.ensures.exact,
-        (c.in_ok-room.ensures.exact, (c.requires.told, c.requires.behind)),
+        c.requires.sound,
+        (
+          opens c.args.game.now c.args.pass c.args.search.now c.room_up_to.new.self c.args.position.now c.in_ok-room.room c.requires.stands c.requires.visited
+              c.requires.unfinished c.in_ok-room.ensures.exact,
+          (c.in_ok-room.ensures.exact, (c.requires.told, c.requires.behind)),
+        ),
       ),
-    )),
+    ),
   ),
 )
 
@@ -166,7 +169,7 @@ try_load-returns-then-load-size-clause-found g t c =
 
 pub try_load-expand-requires : goal.try_load-expand-requires
 try_load-expand-requires g t c κs l =
-    let is = child_is c.args.position.now c.args.key.now c.in_ok-next.next c.loads_after-loads.result c.args.size c.args.load c.requires.of_key c.loads_after-loads.ensures c.in_ok-next.ensures in
+    let is = child_is _ _ _ _ c.args.size c.args.load c.requires.of_key c.loads_after-loads.ensures c.in_ok-next.ensures in
     let below : c.args.load + c.args.size < c.args.game.now.target = omega (arith, c.if-load-size.false, c.t-target.ensures.value) in
     let items = sum-put_ascending c.args.size c.args.position.now.items in
     let child : sum c.in_ok-next.next.items ≡ c.args.size + sum c.args.position.now.items = ap (λ (p : Position). sum p.items) is ∙ items in
@@ -195,7 +198,7 @@ try_load-returns-then-load-size-clause-serves g t c =
 
 pub try_load-returns-clause-serves : goal.try_load-returns-clause-serves
 try_load-returns-clause-serves g t c spare unnamed behind =
-    let is = child_is c.args.position.now c.args.key.now c.in_ok-next.next c.loads_after-loads.result c.args.size c.args.load c.requires.of_key c.loads_after-loads.ensures c.in_ok-next.ensures in
+    let is = child_is _ _ _ _ c.args.size c.args.load c.requires.of_key c.loads_after-loads.ensures c.in_ok-next.ensures in
     let h = c.in_ok-verdict.ensures.serves spare unnamed behind in
     let s = record c.expand.new.search { path = c.pop.new.self } in
     let served = served_at c.args.game.now h.later c.args.position.now c.in_ok-next.next c.args.size c.args.load c.in_ok-verdict.verdict is h.more in
@@ -208,7 +211,7 @@ try_load-returns-clause-serves g t c spare unnamed behind =
 
 pub try_load-returns-clause-found : goal.try_load-returns-clause-found
 try_load-returns-clause-found g t c =
-    let is = child_is c.args.position.now c.args.key.now c.in_ok-next.next c.loads_after-loads.result c.args.size c.args.load c.requires.of_key c.loads_after-loads.ensures c.in_ok-next.ensures in
+    let is = child_is _ _ _ _ c.args.size c.args.load c.requires.of_key c.loads_after-loads.ensures c.in_ok-next.ensures in
     let game = c.args.game.now in
     let below : c.args.load + c.args.size < game.target = omega (arith, c.if-load-size.false, c.t-target.ensures.value) in
     let came = reached_child game c.args.pass c.args.search.now c.expand.new.search c.push.new.self c.pop.new.self c.pop.result c.args.position.now c.in_ok-next.next
@@ -225,18 +228,21 @@ try_size-try_load-requires g t c κs l =
       (
         l,
         (
-          c.requires.of_key, (i.went.sound,
+          c.requires.of_key,
           (
-            opens_load c.args.game.now c.args.pass c.args.search.now c.loop-i.search c.args.position.now c.args.size c.loop-i.i c.distinct_at-load.result
-                (g.M.Memo.entries c.loop-i.memo) c.requires.from_size i.went i.won (omega (arith, c.loop-i-test.true, c.distinct_count-count.ensures.value))
-                c.distinct_at-load.ensures.value c.distinct_at-load.ensures.member,
+            i.went.sound,
             (
-              c.requires.may_come,
-              spare_after c.args.game.now 0 0 c.args.search.now c.loop-i.search (g.M.Memo.entries c.args.memo.now) (g.M.Memo.entries c.loop-i.memo)
-                  (λ later. Unit {0}) i.serves c.requires.behind,
+              opens_load c.args.game.now c.args.pass c.args.search.now c.loop-i.search c.args.position.now c.args.size c.loop-i.i c.distinct_at-load.result
+                  (g.M.Memo.entries c.loop-i.memo) c.requires.from_size i.went i.won (omega (arith, c.loop-i-test.true, c.distinct_count-count.ensures.value))
+                  c.distinct_at-load.ensures.value c.distinct_at-load.ensures.member,
+              (
+                c.requires.may_come,
+                spare_after c.args.game.now 0 0 c.args.search.now c.loop-i.search (g.M.Memo.entries c.args.memo.now) (g.M.Memo.entries c.loop-i.memo)
+                    (λ later. Unit {0}) i.serves c.requires.behind,
+              ),
             ),
           ),
-        )),
+        ),
       ),
     )
 
@@ -306,20 +312,22 @@ try_size-loop-i-preserved g t c =
       c.game_is_legal.ensures.bins.high,
       i.number,
     ) in
-    let put : take (c.loop-i.i + 1) made ≡ take c.loop-i.i c.loop-i.placements ++ placed ∷ [] = ap (λ k. take k made) one ∙ take-suc-set c.loop-i.placements c.loop-i.i placed within in
+    let before = take c.loop-i.i c.loop-i.placements in
+    let after_it = take (c.loop-i.i + 1) made in
+    let put : after_it ≡ before ++ placed ∷ [] = ap (λ k. take k made) one ∙ take-suc-set c.loop-i.placements c.loop-i.i placed within in
     record {
       went = subst (λ l. WentOn game c.args.pass (c.args.search.now.path ++ moved c.args.size l ∷ []) c.args.search.now c.try_load.new.search e2) (here ∙ sym next) went;
       counts = CountsFresh-trans game c.args.pass (sum p.items + 1) _ _ _ i.counts c.in_ok-next.ensures.counts;
       serves = KeepsServing-then c.args.game.now 0 0 0 c.args.search.now c.loop-i.search c.try_load.new.search (g.M.Memo.entries c.args.memo.now) e1 e2
           (λ later. Unit {0}) (λ later. Unit {0}) refl
           i.serves (KeepsServing-weaker c.args.game.now 0 c.loop-i.search c.try_load.new.search e1 e2 _ (λ later. Unit {0}) (λ later m. tt) c.in_ok-next.ensures.serves);
-      places = placed_more game c.args.pass p c.loop-i.i load c.in-ByNext.next (take c.loop-i.i c.loop-i.placements) (take (c.loop-i.i + 1) made) here (omega (
+      places = placed_more game c.args.pass p c.loop-i.i load c.in-ByNext.next before after_it here (omega (
         arith,
         c.loop-i-test.true,
         c.distinct_count-count.ensures.value,
       )) i.places
           put;
-      each = follows_more game c.args.pass c.loop-i.search c.try_load.new.search p c.args.size load c.in-ByNext.next (take c.loop-i.i c.loop-i.placements) (take (c.loop-i.i + 1) made) e2
+      each = follows_more game c.args.pass c.loop-i.search c.try_load.new.search p c.args.size load c.in-ByNext.next before after_it e2
           (c.loop-i.search.path ++ moved c.args.size load ∷ []) c.in_ok-next.ensures.found.0 i.each came put;
       number = length-set c.loop-i.placements c.loop-i.i placed ∙ i.number;
       won = below_more _ _ i.won (subst (λ l. (game.target ≤ l + c.args.size) ⊎ IsWonIn game c.args.pass (after p l c.args.size)) here came.won);
@@ -365,19 +373,22 @@ weigh-try_size-requires g t c κs l = (
   (
     l,
     (
-      c.requires.of_key, (c.requires.sound,
+      c.requires.of_key,
       (
-        c.requires.from_size,
+        c.requires.sound,
         (
-          may_come_allowed c.args.game.now c.args.pass c.args.position.now c.args.size c.requires.may_come
-              (c.allows.ensures.exact.0 c.if-not-allows.false),
+          c.requires.from_size,
           (
-            c.requires.behind.0,
-            IsBehind-less c.args.game.now 1 0 c.requires.behind.0 c.args.search.now (g.M.Memo.entries c.args.memo.now) (omega arith) c.requires.behind.1,
+            may_come_allowed c.args.game.now c.args.pass c.args.position.now c.args.size c.requires.may_come
+                (c.allows.ensures.exact.0 c.if-not-allows.false),
+            (
+              c.requires.behind.0,
+              IsBehind-less c.args.game.now 1 0 c.requires.behind.0 c.args.search.now (g.M.Memo.entries c.args.memo.now) (omega arith) c.requires.behind.1,
+            ),
           ),
         ),
       ),
-    )),
+    ),
   ),
 )
 
@@ -414,22 +425,10 @@ weigh-returns-then-not-allows-clause-serves g t c =
 -- a size that an earlier pass tried
 pub weigh-returns-in-Some-clause-found : goal.weigh-returns-in-Some-clause-found
 weigh-returns-in-Some-clause-found g t c =
-    let game = c.args.game.now in
-    let s = c.args.search.now in
-    let p = c.args.position.now in
     let e = g.M.Memo.entries c.args.memo.now in
-    let load = c.in-Some.load in
-    let skipped = c.in-Some.ensures in
-    let first = skipped.first in
-    let playable = c.requires.from_size.stands.playable in
-    let never = IsNeverWon-finish game (after p load c.args.size) c.game_is_legal.ensures
-    (IsPlayable-after game p load c.args.size playable first.has_load first.below c.requires.may_come) skipped.finishes in
-    let low = (size_of_last game p.items c.args.size c.requires.may_come).low in
-    let went = WentOn-later game c.args.pass (moved c.args.size game.target) (moved (c.args.size - 1) game.target) s s e (inl (omega (arith, low)))
-    (WentOn-refl game c.args.pass (s.path ++ moved c.args.size game.target ∷ []) s e c.requires.sound c.requires.from_size.passed) in
-    subst (HasWeighed game c.args.pass c.args.size p s s e) (sym c.kept.ensures)
-    (weighs game c.args.pass s s p c.args.size load e (Algorithm FINISHES) went c.requires.may_come first.has_load first.below tt
-    (record { says = inr (record { told = refl; finishes = skipped.finishes; never = never }); of_pass = tt }))
+    subst (HasWeighed c.args.game.now c.args.pass c.args.size c.args.position.now c.args.search.now c.args.search.now e) (sym c.kept.ensures)
+    (weighs_skipped c.args.game.now c.args.pass c.args.told c.args.search.now c.args.position.now c.args.size c.in-Some.load e c.game_is_legal.ensures
+    c.requires.sound c.requires.from_size c.requires.may_come c.in-Some.ensures)
 
 pub weigh-returns-in-Some-clause-counts : goal.weigh-returns-in-Some-clause-counts
 weigh-returns-in-Some-clause-counts g t c = CountsFresh-refl c.args.game.now c.args.pass (sum c.args.position.now.items + 1) _
@@ -482,17 +481,20 @@ weigh_all-weigh-requires g t c κs l =
       (
         l,
         (
-          c.requires.of_key, (i.went.sound,
+          c.requires.of_key,
           (
-            opens_size game c.args.pass c.args.search.now c.loop-tried.search c.args.position.now c.args.room size (g.M.Memo.entries c.loop-tried.memo)
-                c.requires.from_room i.went i.none,
+            i.went.sound,
             (
-              Packable-from_room game c.args.position.now.items c.args.room size c.requires.is_room (omega (arith, c.loop-tried-test.true)) (omega arith),
-              spare_after c.args.game.now 1 0 c.args.search.now c.loop-tried.search (g.M.Memo.entries c.args.memo.now) (g.M.Memo.entries
-                  c.loop-tried.memo) _ i.serves c.requires.behind,
+              opens_size game c.args.pass c.args.search.now c.loop-tried.search c.args.position.now c.args.room size (g.M.Memo.entries c.loop-tried.memo)
+                  c.requires.from_room i.went i.none,
+              (
+                Packable-from_room game c.args.position.now.items c.args.room size c.requires.is_room (omega (arith, c.loop-tried-test.true)) (omega arith),
+                spare_after c.args.game.now 1 0 c.args.search.now c.loop-tried.search (g.M.Memo.entries c.args.memo.now) (g.M.Memo.entries
+                    c.loop-tried.memo) _ i.serves c.requires.behind,
+              ),
             ),
           ),
-        )),
+        ),
       ),
     )
 
@@ -595,8 +597,7 @@ weigh_all-loop-tried-preserved g t c =
                 (subst (λ w. KeepsServingTold game c.args.told p (taken_by w) s1 e1 s2 e2 (λ later. IsServedFor game pass later p size w)) w.in-Replied.is
                 c.in_ok-number.ensures.serves) (λ later m. m.2)
                 (λ before later keeps m n. (
-                  subst (All (IsEntryServed later p)) (sym is)
-                      (All-weaker (IsEntryServed before p) (IsEntryServed later p) (λ e h f. keeps (led_to p e) (h f)) c.loop-tried.entries.items m.0),
+                  entries_still before later p c.loop-tried.entries.items c.match-branch-2.entries.items keeps m.0 is,
                   sizes_tried game pass room tried before later p c.loop-tried-test.true keeps m.1 n.1,
                   tried_still game c.args.told before later p keeps m.2,
                 ));
@@ -616,8 +617,7 @@ weigh_all-loop-tried-preserved g t c =
                 (subst (λ w. KeepsServingTold game c.args.told p (taken_by w) s1 e1 s2 e2 (λ later. IsServedFor game pass later p size w)) w.in-NoReply.is
                 c.in_ok-number.ensures.serves) (λ later m. m.2)
                 (λ before later keeps m n. (
-                  subst (All (IsEntryServed later p)) (sym is)
-                      (All-weaker (IsEntryServed before p) (IsEntryServed later p) (λ e h f. keeps (led_to p e) (h f)) c.loop-tried.entries.items m.0),
+                  entries_still before later p c.loop-tried.entries.items c.match-branch-2.entries.items keeps m.0 is,
                   sizes_tried game pass room tried before later p c.loop-tried-test.true keeps m.1 n,
                   tried_still game c.args.told before later p keeps m.2,
                 ));
@@ -749,7 +749,7 @@ expand-returns-in_err-verdict-clause-counts g t c =
 
 pub try_load-returns-in_err-verdict-clause-counts : goal.try_load-returns-in_err-verdict-clause-counts
 try_load-returns-in_err-verdict-clause-counts g t c =
-    let is = child_is c.args.position.now c.args.key.now c.in_ok-next.next c.loads_after-loads.result c.args.size c.args.load c.requires.of_key c.loads_after-loads.ensures c.in_ok-next.ensures in
+    let is = child_is _ _ _ _ c.args.size c.args.load c.requires.of_key c.loads_after-loads.ensures c.in_ok-next.ensures in
     let game = c.args.game.now in
     let p = c.args.position.now in
     let fault = c.in_err-verdict.field-0.0 in
@@ -810,7 +810,7 @@ try_load-returns-then-load-size-clause-counts g t c = CountsFresh-refl c.args.ga
 
 pub try_load-returns-clause-counts : goal.try_load-returns-clause-counts
 try_load-returns-clause-counts g t c =
-    let is = child_is c.args.position.now c.args.key.now c.in_ok-next.next c.loads_after-loads.result c.args.size c.args.load c.requires.of_key c.loads_after-loads.ensures c.in_ok-next.ensures in
+    let is = child_is _ _ _ _ c.args.size c.args.load c.requires.of_key c.loads_after-loads.ensures c.in_ok-next.ensures in
     let up = volume_after c.args.game.now c.args.pass c.args.position.now c.args.load c.args.size c.requires.may_come.packable in
     let more : sum c.args.position.now.items + 1 ≤ sum c.in_ok-next.next.items = subst (λ (p : Position). sum c.args.position.now.items + 1 ≤ sum p.items)
     (sym is) up in

@@ -83,8 +83,9 @@ write_replies-requires g c =
     let h = serves 0 behind.0 behind.1 in
     let playable = subst (IsPlayable game) (sym is) (IsPlayable-empty game (subst (IsLoads game) c.zero.ensures.value c.zero.ensures.legal)) in
     record {
-      may = subst (λ q. MayWrite game s.replies q told c.args.budget) c.in_ok-key.ensures.ok (may_write game c.loop-pass.pass c.args.budget s e root told finds.went.sound (h.later, h.behind) (finds.went.goes.budget ∙ c.loop-pass.invariant.budget) h.more playable
-          is finds.tells.says);
+      may = subst (λ q. MayWrite game s.replies q told c.args.budget) c.in_ok-key.ensures.ok
+          (may_write game c.loop-pass.pass c.args.budget s e root told finds.went.sound (h.later, h.behind) (finds.went.goes.budget ∙ c.loop-pass.invariant.budget)
+          h.more playable is finds.tells.says);
     }
 
 pub returns-in-Err-Spent-clause-answer : goal.returns-in-Err-Spent-clause-answer

@@ -10,15 +10,18 @@ use Rattle.minimax.proofs.reached.look_at.Goals as goal
 pub mark_all-requires : goal.mark_all-requires
 mark_all-requires c =
     let win = c.index-as_slice-number.result in
-    let here = slice_get_read c.args.wins.now _ c.args.number win refl c.requires.within (subst (λ xs. win ≡ get_or xs c.args.number win) c.as_slice.ensures.value c.index-as_slice-number.is) in
+    let read = subst (λ xs. win ≡ get_or xs c.args.number win) c.as_slice.ensures.value c.index-as_slice-number.is in
+    let here = slice_get_read c.args.wins.now _ c.args.number win refl c.requires.within read in
     let same = c.as_slice-then-index.ensures.value ∙ ap (λ (w : Win). w.placements) (sym c.index-as_slice-number.is) in
     subst (All (λ placement. LeadsBelow (length c.args.marks.now.items) placement.next)) (sym same)
-    (all_below c.args.number (length c.args.marks.now.items) win.placements (omega (arith, c.requires.has_mark)) (win_below c.requires.ready.0 c.args.wins.now c.args.number win c.requires.ready.1 here))
+    (all_below c.args.number (length c.args.marks.now.items) win.placements (omega (arith, c.requires.has_mark))
+    (win_below c.requires.ready.0 c.args.wins.now c.args.number win c.requires.ready.1 here))
 
 pub returns-then-index : goal.returns-then-index
 returns-then-index c =
     let win = c.index-as_slice-number.result in
-    let here = slice_get_read c.args.wins.now _ c.args.number win refl c.requires.within (subst (λ xs. win ≡ get_or xs c.args.number win) c.as_slice.ensures.value c.index-as_slice-number.is) in
+    let read = subst (λ xs. win ≡ get_or xs c.args.number win) c.as_slice.ensures.value c.index-as_slice-number.is in
+    let here = slice_get_read c.args.wins.now _ c.args.number win refl c.requires.within read in
     let same = c.as_slice-then-index.ensures.value ∙ ap (λ (w : Win). w.placements) (sym c.index-as_slice-number.is) in
     let below = win_below c.requires.ready.0 c.args.wins.now c.args.number win c.requires.ready.1 here in
     record {
