@@ -95,6 +95,35 @@ pub(crate) fn expand<M: Memo>(
     if finishes(game, &loads) {
         return visit_finish(game, pass, search, memo, key);
     }
+    look_up(game, pass, search, memo, loads, key)
+}
+
+// The same where the position does not finish. Apart from what is done at each load, so that a position that finishes
+// costs no call of the recursion.
+#[cycle(expanding)]
+#[inline(never)]
+fn look_up<M: Memo>(
+    game: &Game,
+    pass: u16,
+    search: &mut Search,
+    memo: &mut M,
+    loads: Loads,
+    key: Key,
+) -> Result<Verdict, VisitFault>
+    requires of_key { loads ≡ key.loads }
+    requires unfinished { Finishes game.now key.loads → ⊥ }
+    requires sound { IsSound game.now pass search.old (M.entries memo.old) }
+    requires may { MayVisit game.now pass search.old key }
+    requires behind { HasSpare game.now 0 search.old (M.entries memo.old) }
+    ensures found { MatchResult result
+        (FindsVerdict game.now pass key search.old search.new (M.entries memo.new))
+        (Stops game.now pass search.old.meter.budget search.new) }
+    ensures counts { KeepsCount game.now pass (sum key.items)
+        (progress search.old.meter (M.entries memo.old) (M.room memo.old))
+        (progress search.new.meter (M.entries memo.new) (M.room memo.new)) result }
+    ensures serves { IfOk result (λ verdict. KeepsServing game.now 0 search.old (M.entries memo.old)
+        search.new (M.entries memo.new) (λ later. IsServedBy game.now later key verdict)) }
+{
     let told = known(memo, &key, pass);
     if let Told::Settled(verdict) = told {
         return Ok(verdict);

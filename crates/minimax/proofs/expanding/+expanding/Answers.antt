@@ -47,20 +47,37 @@ use Rattle.minimax.proofs.expanding.+expanding.Goals.{weigh_all-in-Replied+then-
 
 -- ---- expand
 
-pub expand-returns-in-Settled-clause-found : goal.expand-returns-in-Settled-clause-found
-expand-returns-in-Settled-clause-found g t c =
+pub expand-look_up-requires : goal.expand-look_up-requires
+expand-look_up-requires g t c κs l = (
+  omega (arith, c.decreases),
+  (
+    l,
+    (
+      c.requires.of_key,
+      (
+        (λ finishes. false≢true (sym c.if-finishes.false ∙ c.finishes.ensures.exact.1 (subst (Finishes c.args.game.now) (sym c.requires.of_key) finishes))),
+        (c.requires.sound, (c.requires.may, c.requires.behind)),
+      ),
+    ),
+  ),
+)
+
+-- ---- look_up
+
+pub look_up-returns-in-Settled-clause-found : goal.look_up-returns-in-Settled-clause-found
+look_up-returns-in-Settled-clause-found g t c =
     let at = subst (IsTold c.args.pass (verdict_of (g.M.Memo.entries c.args.memo.now) c.args.key)) c.in-Settled.is c.known-told.ensures.told in
     finds_known c.args.game.now c.args.pass c.args.search.now c.args.key (g.M.Memo.entries c.args.memo.now) (g.M.Memo.entries c.known-told.new.memo)
     c.in-Settled.verdict c.requires.sound c.requires.may at.0 at.1 c.known-told.ensures.same
 
-pub expand-returns-in-Settled-clause-serves : goal.expand-returns-in-Settled-clause-serves
-expand-returns-in-Settled-clause-serves g t c =
+pub look_up-returns-in-Settled-clause-serves : goal.look_up-returns-in-Settled-clause-serves
+look_up-returns-in-Settled-clause-serves g t c =
     let at = subst (IsTold c.args.pass (verdict_of (g.M.Memo.entries c.args.memo.now) c.args.key)) c.in-Settled.is c.known-told.ensures.told in
     serves_known c.args.game.now c.args.search.now c.args.key (g.M.Memo.entries c.args.memo.now) (g.M.Memo.entries c.known-told.new.memo)
     c.in-Settled.verdict at.0 c.known-told.ensures.same
 
-pub expand-decide-requires : goal.expand-decide-requires
-expand-decide-requires g t c κs l =
+pub look_up-decide-requires : goal.look_up-decide-requires
+look_up-decide-requires g t c κs l =
     let game = c.args.game.now in
     let s = c.args.search.now in
     let p = c.args.key in
@@ -70,8 +87,6 @@ expand-decide-requires g t c κs l =
     let counted = c.in_ok-visit.ensures.ok in
     let left : s.meter.count ≡ s.meter.budget → ⊥ = λ e. let bad = c.in_ok-visit.ensures.spent.1 e in cc in
     let told = subst (λ o. IsTold c.args.pass o c.known-told.result) (sym (c.known-told.ensures.same.values p)) c.known-told.ensures.told in
-    let unfinished : Finishes game p.loads → ⊥ =
-    λ finishes. false≢true (sym c.if-finishes.false ∙ c.finishes.ensures.exact.1 (subst (Finishes game) (sym c.requires.of_key) finishes)) in
     let behind = c.requires.behind.1 in
     let one : c.visit.new.self.count ≡ s.meter.count + 1 = ap (λ (m : Metered). m.count) counted in (
       omega (arith, c.decreases, ap (λ (q : Position). sum q.items) is),
@@ -84,7 +99,7 @@ expand-decide-requires g t c κs l =
             (
               subst (StandsAtPath game c.args.pass s.path) is c.requires.may.stands,
               (
-                subst (λ (q : Position). Finishes game q.loads → ⊥) is unfinished,
+                subst (λ (q : Position). Finishes game q.loads → ⊥) is c.requires.unfinished,
                 (
                   ap (λ (m : Metered). m.last) counted,
                   (
@@ -105,8 +120,8 @@ expand-decide-requires g t c κs l =
       ),
     )
 
-pub expand-returns-clause-serves : goal.expand-returns-clause-serves
-expand-returns-clause-serves g t c =
+pub look_up-returns-clause-serves : goal.look_up-returns-clause-serves
+look_up-returns-clause-serves g t c =
     let s1 = record c.args.search.now { meter = c.visit.new.self } in
     let e1 = g.M.Memo.entries c.known-told.new.memo in
     let e2 = g.M.Memo.entries c.decide.new.memo in
@@ -690,13 +705,13 @@ weigh_all-returns-clause-serves g t c =
 
 -- ---- what is left of a budget
 
-pub expand-returns-in-Settled-clause-counts : goal.expand-returns-in-Settled-clause-counts
-expand-returns-in-Settled-clause-counts g t c =
+pub look_up-returns-in-Settled-clause-counts : goal.look_up-returns-in-Settled-clause-counts
+look_up-returns-in-Settled-clause-counts g t c =
     CountsFresh-same c.args.game.now c.args.pass (sum c.args.key.items) c.args.search.now.meter (g.M.Memo.entries c.args.memo.now) (g.M.Memo.entries c.known-told.new.memo)
     (g.M.Memo.room c.args.memo.now) (g.M.Memo.room c.known-told.new.memo) c.known-told.ensures.same c.known-told.ensures.capacity
 
-pub expand-returns-clause-found : goal.expand-returns-clause-found
-expand-returns-clause-found g t c =
+pub look_up-returns-clause-found : goal.look_up-returns-clause-found
+look_up-returns-clause-found g t c =
     let s1 = record c.args.search.now { meter = c.visit.new.self } in
     let e1 = g.M.Memo.entries c.decide.new.memo in
     let e2 = g.M.Memo.entries c.remember.new.memo in
@@ -705,8 +720,8 @@ expand-returns-clause-found g t c =
     finds_expanded c.args.game.now c.args.pass c.args.search.now c.decide.new.search c.visit.new.self c.args.key e1 e2 c.in_ok-verdict.verdict c.in_ok-visit.ensures.ok
     found c.in_ok-remember.ensures.only
 
-pub expand-returns-clause-counts : goal.expand-returns-clause-counts
-expand-returns-clause-counts g t c =
+pub look_up-returns-clause-counts : goal.look_up-returns-clause-counts
+look_up-returns-clause-counts g t c =
     let game = c.args.game.now in
     let p = c.args.key in
     let path = c.args.search.now.path in
@@ -722,8 +737,8 @@ expand-returns-clause-counts g t c =
     CountsFresh-visited game c.args.pass p path a b d (g.M.Memo.entries c.remember.new.memo) (g.M.Memo.room c.remember.new.memo) verdict visited counts
     c.in_ok-verdict.ensures.found.tells.of_pass c.remember.ensures.valid c.in_ok-remember.ensures.put c.remember.ensures.capacity
 
-pub expand-returns-in_err-visit-clause-counts : goal.expand-returns-in_err-visit-clause-counts
-expand-returns-in_err-visit-clause-counts g t c =
+pub look_up-returns-in_err-visit-clause-counts : goal.look_up-returns-in_err-visit-clause-counts
+look_up-returns-in_err-visit-clause-counts g t c =
     let game = c.args.game.now in
     let p = c.args.key in
     let fault = c.in_err-visit.field-0.0 in
@@ -732,8 +747,8 @@ expand-returns-in_err-visit-clause-counts g t c =
     let short = IsShort-fault game c.args.pass p c.args.search.now.path a fault c.requires.may.stands fresh (λ e. c.in_err-visit.ensures.spent.0 (ap Err e)) in
     passed_on _ (IsShort game c.args.pass (sum p.items) a) fault c.from_residual.result c.from_residual.ensures.1 short
 
-pub expand-returns-in_err-verdict-clause-counts : goal.expand-returns-in_err-verdict-clause-counts
-expand-returns-in_err-verdict-clause-counts g t c =
+pub look_up-returns-in_err-verdict-clause-counts : goal.look_up-returns-in_err-verdict-clause-counts
+look_up-returns-in_err-verdict-clause-counts g t c =
     let game = c.args.game.now in
     let p = c.args.key in
     let path = c.args.search.now.path in

@@ -10,22 +10,25 @@ use Rattle.minimax.specs.State.{FollowsUp, IsPending, IsWonIn, WentOn, WinsBy, n
 use Rattle.minimax.proofs.expanding.+expanding.Given as goal
 
 abbrev pub decreases-expand : goal.decreases-expand
-decreases-expand g l = 6 * (l.game.now.bins * l.game.now.capacity - sum l.key.items) + 5
+decreases-expand g l = 7 * (l.game.now.bins * l.game.now.capacity - sum l.key.items) + 6
+
+abbrev pub decreases-look_up : goal.decreases-look_up
+decreases-look_up g l = 7 * (l.game.now.bins * l.game.now.capacity - sum l.key.items) + 5
 
 abbrev pub decreases-decide : goal.decreases-decide
-decreases-decide g l = 6 * (l.game.now.bins * l.game.now.capacity - sum l.position.now.items) + 4
+decreases-decide g l = 7 * (l.game.now.bins * l.game.now.capacity - sum l.position.now.items) + 4
 
 abbrev pub decreases-weigh_all : goal.decreases-weigh_all
-decreases-weigh_all g l = 6 * (l.game.now.bins * l.game.now.capacity - sum l.position.now.items) + 3
+decreases-weigh_all g l = 7 * (l.game.now.bins * l.game.now.capacity - sum l.position.now.items) + 3
 
 abbrev pub decreases-weigh : goal.decreases-weigh
-decreases-weigh g l = 6 * (l.game.now.bins * l.game.now.capacity - sum l.position.now.items) + 2
+decreases-weigh g l = 7 * (l.game.now.bins * l.game.now.capacity - sum l.position.now.items) + 2
 
 abbrev pub decreases-try_size : goal.decreases-try_size
-decreases-try_size g l = 6 * (l.game.now.bins * l.game.now.capacity - sum l.position.now.items) + 1
+decreases-try_size g l = 7 * (l.game.now.bins * l.game.now.capacity - sum l.position.now.items) + 1
 
 abbrev pub decreases-try_load : goal.decreases-try_load
-decreases-try_load g l = 6 * (l.game.now.bins * l.game.now.capacity - sum l.position.now.items)
+decreases-try_load g l = 7 * (l.game.now.bins * l.game.now.capacity - sum l.position.now.items)
 
 abbrev pub invariant-try_size-loop-i : goal.invariant-try_size-loop-i
 invariant-try_size-loop-i g l = record {
