@@ -1,11 +1,13 @@
+ghost use Rattle.adversary_graph.specs.Nodes.{IsOfFormat};
+
 use crate::{AdvPool, node_fault, refute};
 use items::{Game, Nums};
 use online_play::{FirstFit, LeastLoaded, Online, Transcript};
-use packing_witness::Packing;
-use std::test::Fail;
-use strategy_text::{Format, Rule, parse_adversary};
+use std::alloc::{AllocError, Global};
+use strategy_text::{AdvNode, Format, Rule, parse_adversary};
 
-const X: [&str; 5] = [
+// The nodes of a legal strategy of the game of two bins of capacity 3 at target 4.
+const NODES: [&str; 5] = [
     "0 loads 2 2 items 1 1 2 send 2 pack 1 2 / 1 2 on 2 over",
     "1 loads 2 0 items 1 1 send 2 pack 1 2 / 1 on 2 over on 0 to 0",
     "2 loads 1 1 items 1 1 send 3 pack 3 / 1 1 on 1 over",
@@ -13,8 +15,8 @@ const X: [&str; 5] = [
     "4 loads 0 0 items - send 1 pack 1 / - on 0 to 3",
 ];
 
-// The nodes of X with packings only where the play ends.
-const X_IN_FORMAT_2: [&str; 5] = [
+// The same nodes with packings only where the play ends.
+const NODES_OF_FORMAT_2: [&str; 5] = [
     "0 loads 2 2 items 1 1 2 send 2 pack 1 2 / 1 2 on 2 over",
     "1 loads 2 0 items 1 1 send 2 on 2 over on 0 to 0",
     "2 loads 1 1 items 1 1 send 3 pack 3 / 1 1 on 1 over",
@@ -29,235 +31,279 @@ const BURSTS: [&str; 4] = [
     "3 loads 0 0 items - send 1 on 0 to 2",
 ];
 
-// Judges a node of the game 2 3 4 after those of a pool, and puts it into the pool where it breaks no rule.
+// Judges a node after those of a pool, and puts it into the pool where it breaks no rule.
+fn put(pool: &mut AdvPool, node: AdvNode, last: bool) -> Result<Option<Rule>, AllocError>
+    requires { IsOfFormat pool.old.format node.step }
+{
+    let fault = node_fault(&pool.game(), pool.format(), pool.positions(), last, &node);
+    if fault.is_none() && pool.len() < 4_000_000_000 {
+        let _number = pool.push(node)?;
+    }
+    Ok(fault)
+}
+
+// The same with a node that a line spells; the rule is `game` where it spells none.
 fn judged(
-    rt: &(impl AllocGlobal + std::process::Abort),
+    alloc: Global,
     pool: &mut AdvPool,
     line: &str,
     last: bool,
-) -> Result<Option<Rule>, Fail> {
-    let node = parse_adversary(rt.alloc(), pool.format(), line.as_bytes(), pool.len())?.expect(
-        rt, "a node",
-    );
-    let fault = node_fault(&pool.game(), pool.format(), pool.positions(), last, &node);
-    if let Some(rule) = fault {
-        return Ok(Some(rule));
+) -> Result<Option<Rule>, AllocError> {
+    match parse_adversary(alloc, pool.format(), line.as_bytes(), pool.len())? {
+        Some(node) => put(pool, node, last),
+        None => Ok(Some(Rule::Game)),
     }
-    if pool.len() < 4_000_000_000 {
-        let _number = pool.push(node)?;
-    }
-    Ok(None)
 }
 
-// The pool of these nodes of the game 2 3 4.
-fn pool_of(
-    rt: &(impl AllocGlobal + std::process::Abort),
-    format: Format,
-    lines: &[&str],
-) -> Result<AdvPool, Fail> {
-    let game = Game::new(2, 3, 4)?;
-    let mut pool = AdvPool::new(rt.alloc(), &game, format);
+// The pool of the nodes of these lines that break no rule, for two bins of capacity 3 and target 4.
+fn pool_of(alloc: Global, format: Format, lines: &[&str]) -> Result<AdvPool, AllocError> {
+    let game = Game::new(2, 3, 4).unwrap();
+    let mut pool = AdvPool::new(alloc, &game, format);
     for line in lines {
-        assert_eq!(rt; judged(rt, &mut pool, line, false)?, None, "{line}");
+        let _fault = judged(alloc, &mut pool, line, false)?;
     }
     Ok(pool)
 }
 
-#[test]
-fn names_the_first_rule_that_a_node_breaks(rt: HostRuntime) -> Result<(), Fail> {
-    for (format, line, last, want) in [
-        (
-            Format::One,
-            "loads 2 2 items 1 1 2 send 2 pack 2 1 / 2 1 on 2 over",
-            false,
-            None,
-        ),
-        (
-            Format::One,
-            "loads 2 2 0 items 1 1 2 send 2 pack 1 2 / 1 2 on 2 over",
-            false,
-            Some(Rule::Loads),
-        ),
-        (
-            Format::One,
-            "loads 0 2 items 1 1 send 2 pack 1 2 / 1 on 2 over",
-            false,
-            Some(Rule::Loads),
-        ),
-        (
-            Format::One,
-            "loads 4 0 items 1 1 2 send 2 pack 1 2 / 1 2 on 4 over",
-            false,
-            Some(Rule::Loads),
-        ),
-        (
-            Format::One,
-            "loads 2 2 items 2 1 1 send 2 pack 1 2 / 1 2 on 2 over",
-            false,
-            Some(Rule::Items),
-        ),
-        (
-            Format::One,
-            "loads 2 2 items 1 2 send 2 pack 1 2 / 2 on 2 over",
-            false,
-            Some(Rule::Items),
-        ),
-        (
-            Format::One,
-            "loads 3 1 items 4 send 2 pack 2 / 2 on 3 over",
-            false,
-            Some(Rule::Items),
-        ),
-        (
-            Format::One,
-            "loads 0 0 items - send 0 pack 0 / - on 0 over",
-            false,
-            Some(Rule::Send),
-        ),
-        (
-            Format::One,
-            "loads 0 0 items - send 4 pack 4 / - on 0 over",
-            false,
-            Some(Rule::Send),
-        ),
-        (
-            Format::One,
-            "loads 2 2 items 1 1 2 send 2 pack 1 1 / 2 on 2 over",
-            false,
-            Some(Rule::Pack),
-        ),
-        (
-            Format::One,
-            "loads 2 2 items 1 1 2 send 2 pack 1 1 2 / 2 on 2 over",
-            false,
-            Some(Rule::Pack),
-        ),
-        (
-            Format::One,
-            "loads 2 2 items 1 1 2 send 2 pack 1 2 / 1 2 / - on 2 over",
-            false,
-            Some(Rule::Pack),
-        ),
-        (
-            Format::One,
-            "loads 2 2 items 1 1 2 send 2 pack 1 65535 / 1 2 on 2 over",
-            false,
-            Some(Rule::Pack),
-        ),
-        (
-            Format::One,
-            "loads 2 2 items 1 1 2 send 2 pack 1 2 / 1 2 on 2 over on 2 over",
-            false,
-            Some(Rule::Placements),
-        ),
-        (
-            Format::One,
-            "loads 2 2 items 1 1 2 send 2 pack 1 2 / 1 2 on 2 to 0",
-            false,
-            Some(Rule::Over),
-        ),
-        (
-            Format::One,
-            "loads 2 1 items 1 2 send 1 pack 1 2 / 1 on 2 over on 1 over",
-            false,
-            Some(Rule::Over),
-        ),
-        (
-            Format::One,
-            "loads 1 0 items 1 send 1 pack 1 1 / - on 1 to 0 on 0 to 0",
-            false,
-            Some(Rule::Child),
-        ),
-        (
-            Format::One,
-            "loads 2 2 items 1 1 2 send 2 pack 1 2 / 1 2 on 2 over",
-            true,
-            Some(Rule::Root),
-        ),
-        (
-            Format::Two,
-            "loads 2 0 items 1 1 burst 2 2 pack 1 2 / 1 2",
-            false,
-            None,
-        ),
-        (
-            Format::Two,
-            "loads 2 0 items 1 1 burst 1 2 pack 1 2 / 1",
-            false,
-            Some(Rule::Burst),
-        ),
-        (
-            Format::Two,
-            "loads 2 0 items 1 1 burst 2 0 pack 1 2 / 1 2",
-            false,
-            Some(Rule::Send),
-        ),
-        (
-            Format::Two,
-            "loads 2 0 items 1 1 burst 3 2 pack 1 2 / 1 2",
-            false,
-            Some(Rule::Pack),
-        ),
-        (
-            Format::Two,
-            "loads 0 0 items - burst 65535 3 pack 3 / 3",
-            false,
-            Some(Rule::Pack),
-        ),
-        (
-            Format::Two,
-            "loads 2 0 items 1 1 burst 2 2 pack 1 2 / 1 2",
-            true,
-            Some(Rule::Root),
-        ),
-        (
-            Format::Two,
-            "loads 1 0 items 1 send 1 pack 1 1 / - on 1 to 0 on 0 to 1",
-            false,
-            Some(Rule::Pack),
-        ),
-        (
-            Format::Two,
-            "loads 2 2 items 1 1 2 send 2 on 2 over",
-            false,
-            Some(Rule::Pack),
-        ),
-    ] {
-        let game = Game::new(2, 3, 4)?;
-        let mut pool = AdvPool::new(rt.alloc(), &game, format);
-        let line = format!(in rt.alloc(); "0 {line}")?;
-        assert_eq!(rt;
-            judged(&rt, &mut pool, line.as_str(), last)?,
-            want,
-            "{line}"
-        );
-    }
-    Ok(())
+// A format, the nodes before, a node, whether it is the last one, and the rule that it breaks.
+type Row = (
+    Format,
+    &'static [&'static str],
+    &'static str,
+    bool,
+    Option<Rule>,
+);
+
+const JUDGED: [Row; 26] = [
+    (
+        Format::One,
+        &[],
+        "0 loads 2 2 items 1 1 2 send 2 pack 2 1 / 2 1 on 2 over",
+        false,
+        None,
+    ),
+    (
+        Format::One,
+        &[],
+        "0 loads 2 2 0 items 1 1 2 send 2 pack 1 2 / 1 2 on 2 over",
+        false,
+        Some(Rule::Loads),
+    ),
+    (
+        Format::One,
+        &[],
+        "0 loads 0 2 items 1 1 send 2 pack 1 2 / 1 on 2 over",
+        false,
+        Some(Rule::Loads),
+    ),
+    (
+        Format::One,
+        &[],
+        "0 loads 4 0 items 1 1 2 send 2 pack 1 2 / 1 2 on 4 over",
+        false,
+        Some(Rule::Loads),
+    ),
+    (
+        Format::One,
+        &[],
+        "0 loads 2 2 items 2 1 1 send 2 pack 1 2 / 1 2 on 2 over",
+        false,
+        Some(Rule::Items),
+    ),
+    (
+        Format::One,
+        &[],
+        "0 loads 2 2 items 1 2 send 2 pack 1 2 / 2 on 2 over",
+        false,
+        Some(Rule::Items),
+    ),
+    (
+        Format::One,
+        &[],
+        "0 loads 3 1 items 4 send 2 pack 2 / 2 on 3 over",
+        false,
+        Some(Rule::Items),
+    ),
+    (
+        Format::One,
+        &[],
+        "0 loads 0 0 items - send 0 pack 0 / - on 0 over",
+        false,
+        Some(Rule::Send),
+    ),
+    (
+        Format::One,
+        &[],
+        "0 loads 0 0 items - send 4 pack 4 / - on 0 over",
+        false,
+        Some(Rule::Send),
+    ),
+    (
+        Format::One,
+        &[],
+        "0 loads 2 2 items 1 1 2 send 2 pack 1 1 / 2 on 2 over",
+        false,
+        Some(Rule::Pack),
+    ),
+    (
+        Format::One,
+        &[],
+        "0 loads 2 2 items 1 1 2 send 2 pack 1 1 2 / 2 on 2 over",
+        false,
+        Some(Rule::Pack),
+    ),
+    (
+        Format::One,
+        &[],
+        "0 loads 2 2 items 1 1 2 send 2 pack 1 2 / 1 2 / - on 2 over",
+        false,
+        Some(Rule::Pack),
+    ),
+    (
+        Format::One,
+        &[],
+        "0 loads 2 2 items 1 1 2 send 2 pack 1 65535 / 1 2 on 2 over",
+        false,
+        Some(Rule::Pack),
+    ),
+    (
+        Format::One,
+        &[],
+        "0 loads 2 2 items 1 1 2 send 2 pack 1 2 / 1 2 on 2 over on 2 over",
+        false,
+        Some(Rule::Placements),
+    ),
+    (
+        Format::One,
+        &[],
+        "0 loads 2 2 items 1 1 2 send 2 pack 1 2 / 1 2 on 2 to 0",
+        false,
+        Some(Rule::Over),
+    ),
+    (
+        Format::One,
+        &[],
+        "0 loads 2 1 items 1 2 send 1 pack 1 2 / 1 on 2 over on 1 over",
+        false,
+        Some(Rule::Over),
+    ),
+    (
+        Format::One,
+        &[],
+        "0 loads 1 0 items 1 send 1 pack 1 1 / - on 1 to 0 on 0 to 0",
+        false,
+        Some(Rule::Child),
+    ),
+    (
+        Format::One,
+        &[],
+        "0 loads 2 2 items 1 1 2 send 2 pack 1 2 / 1 2 on 2 over",
+        true,
+        Some(Rule::Root),
+    ),
+    (
+        Format::Two,
+        &[],
+        "0 loads 2 0 items 1 1 burst 2 2 pack 1 2 / 1 2",
+        false,
+        None,
+    ),
+    (
+        Format::Two,
+        &[],
+        "0 loads 2 0 items 1 1 burst 1 2 pack 1 2 / 1",
+        false,
+        Some(Rule::Burst),
+    ),
+    (
+        Format::Two,
+        &[],
+        "0 loads 2 0 items 1 1 burst 2 0 pack 1 2 / 1 2",
+        false,
+        Some(Rule::Send),
+    ),
+    (
+        Format::Two,
+        &[],
+        "0 loads 2 0 items 1 1 burst 3 2 pack 1 2 / 1 2",
+        false,
+        Some(Rule::Pack),
+    ),
+    (
+        Format::Two,
+        &[],
+        "0 loads 0 0 items - burst 65535 3 pack 3 / 3",
+        false,
+        Some(Rule::Pack),
+    ),
+    (
+        Format::Two,
+        &[],
+        "0 loads 2 0 items 1 1 burst 2 2 pack 1 2 / 1 2",
+        true,
+        Some(Rule::Root),
+    ),
+    (
+        Format::Two,
+        &[],
+        "0 loads 1 0 items 1 send 1 pack 1 1 / - on 1 to 0 on 0 to 1",
+        false,
+        Some(Rule::Pack),
+    ),
+    (
+        Format::Two,
+        &[],
+        "0 loads 2 2 items 1 1 2 send 2 on 2 over",
+        false,
+        Some(Rule::Pack),
+    ),
+];
+
+fn is_judged_so(alloc: Global, row: &Row) -> Result<bool, AllocError> {
+    let mut pool = pool_of(alloc, row.0, row.1)?;
+    Ok(judged(alloc, &mut pool, row.2, row.3)? == row.4)
 }
 
 #[test]
-fn a_child_has_the_position_after_the_placement(rt: HostRuntime) -> Result<(), Fail> {
-    for (first, second, want) in [
-        (X[0], X[1], None),
-        (
-            X[0],
-            "1 loads 2 0 items 1 1 send 2 pack 1 2 / 1 on 2 over on 0 to 1",
-            Some(Rule::Child),
-        ),
-        (
-            "0 loads 2 2 items 1 1 1 1 send 2 pack 1 1 1 / 1 2 on 2 over",
-            X[1],
-            Some(Rule::Child),
-        ),
-    ] {
-        let mut pool = pool_of(&rt, Format::One, &[first])?;
-        assert_eq!(rt; judged(&rt, &mut pool, second, false)?, want, "{second}");
+fn names_the_first_rule_that_a_node_breaks(rt: HostRuntime) {
+    for row in &JUDGED {
+        assert!(rt; is_judged_so(rt.alloc(), row).unwrap_or(false), "{}", row.2);
     }
-    Ok(())
+}
+
+const CHILDREN: [Row; 3] = [
+    (
+        Format::One,
+        &["0 loads 2 2 items 1 1 2 send 2 pack 1 2 / 1 2 on 2 over"],
+        "1 loads 2 0 items 1 1 send 2 pack 1 2 / 1 on 2 over on 0 to 0",
+        false,
+        None,
+    ),
+    (
+        Format::One,
+        &["0 loads 2 2 items 1 1 2 send 2 pack 1 2 / 1 2 on 2 over"],
+        "1 loads 2 0 items 1 1 send 2 pack 1 2 / 1 on 2 over on 0 to 1",
+        false,
+        Some(Rule::Child),
+    ),
+    (
+        Format::One,
+        &["0 loads 2 2 items 1 1 1 1 send 2 pack 1 1 1 / 1 2 on 2 over"],
+        "1 loads 2 0 items 1 1 send 2 pack 1 2 / 1 on 2 over on 0 to 0",
+        false,
+        Some(Rule::Child),
+    ),
+];
+
+#[test]
+fn a_child_has_the_position_after_the_placement(rt: HostRuntime) {
+    for row in &CHILDREN {
+        assert!(rt; is_judged_so(rt.alloc(), row).unwrap_or(false), "{}", row.2);
+    }
 }
 
 // Always answers the bin of the greatest number.
-#[derive(Clone, Copy)]
+#[derive(Drop)]
 struct HighestBin;
 
 impl Online for HighestBin {
@@ -274,7 +320,7 @@ impl Online for HighestBin {
 }
 
 // Answers by whether the number of items before the last one is even.
-#[derive(Clone, Copy)]
+#[derive(Drop)]
 struct ByParity;
 
 impl Online for ByParity {
@@ -292,124 +338,149 @@ impl Online for ByParity {
     }
 }
 
-// Answers by the item that came two before the last one.
-#[derive(Clone, Copy)]
-struct ByThirdLast;
+// The nodes of a game, and a play of theirs.
+struct Play {
+    format: Format,
+    nodes: &'static [&'static str],
+    items: &'static [u16],
+    bins: &'static [u8],
+    loads: &'static [u16],
+    packing: [&'static [u16]; 2],
+}
 
-impl Online for ByThirdLast {
-    ghost use Rattle.std.specs.Prelude.{◌-◌, ◌%◌, nat_le, if◌then◌else◌, length, slice_index};
-    ghost use Rattle.std.proofs.Math.Nat.{le_trans, mod-lt};
-    ghost use Rattle.std.proofs.Math.Dec.{lit≤};
+const OF_HIGHEST_BIN: [Play; 3] = [
+    Play {
+        format: Format::One,
+        nodes: &NODES,
+        items: &[1, 1, 2],
+        bins: &[1, 1, 1],
+        loads: &[0, 4],
+        packing: [&[1, 2], &[1]],
+    },
+    Play {
+        format: Format::Two,
+        nodes: &NODES_OF_FORMAT_2,
+        items: &[1, 1, 2],
+        bins: &[1, 1, 1],
+        loads: &[0, 4],
+        packing: [&[1], &[1, 2]],
+    },
+    // A burst is played to its end, past the target.
+    Play {
+        format: Format::Two,
+        nodes: &BURSTS,
+        items: &[1, 1, 2, 2],
+        bins: &[1, 1, 1, 1],
+        loads: &[0, 6],
+        packing: [&[1, 2], &[1, 2]],
+    },
+];
 
-    ghost answer = { λ player game items.
-        (if nat_le 3 (length items) then slice_index items (length items - 3) else 0) % 2 };
+const OF_PARITY: [Play; 1] = [Play {
+    format: Format::One,
+    nodes: &NODES,
+    items: &[1, 1, 3],
+    bins: &[0, 1, 0],
+    loads: &[4, 1],
+    packing: [&[3], &[1, 1]],
+}];
 
-    ghost is_algorithm = { λ player game legal items some packable.
-        le_trans (mod-lt (if nat_le 3 (length items) then slice_index items (length items - 3) else 0) (lit≤ tt))
-        legal.bins.low };
+const OF_FIRST_FIT: Play = Play {
+    format: Format::One,
+    nodes: &NODES,
+    items: &[1, 1, 2, 2],
+    bins: &[0, 0, 1, 0],
+    loads: &[4, 2],
+    packing: [&[1, 2], &[1, 2]],
+};
 
-    fn place(&self, _game: &Game, history: &[u16]) -> u8 {
-        if history.len() >= 3 {
-            (history[history.len() - 3] % 2) as u8
-        } else {
-            0
+const OF_LEAST_LOADED: [Play; 1] = [Play {
+    format: Format::Two,
+    nodes: &BURSTS,
+    items: &[1, 1, 3],
+    bins: &[0, 1, 0],
+    loads: &[4, 1],
+    packing: [&[3], &[1, 1]],
+}];
+
+fn is_play(play: &Transcript, want: &Play) -> bool {
+    if play.items.as_slice() != want.items {
+        return false;
+    }
+    if play.bins.as_slice() != want.bins {
+        return false;
+    }
+    if play.loads.as_slice() != want.loads {
+        return false;
+    }
+    are_bins(play.packing.bins(), want.packing)
+}
+
+fn are_bins(bins: &[Nums], want: [&[u16]; 2]) -> bool {
+    if bins.len() != 2 {
+        return false;
+    }
+    if bins[0].as_slice() != want[0] {
+        return false;
+    }
+    bins[1].as_slice() == want[1]
+}
+
+// Whether a player comes to a play of its nodes from the last one on.
+fn comes_to<O: Online>(alloc: Global, player: &O, play: &Play) -> Result<bool, AllocError> {
+    let pool = pool_of(alloc, play.format, play.nodes)?;
+    is_played(alloc, &pool, player, play)
+}
+
+fn is_played<O: Online>(
+    alloc: Global,
+    pool: &AdvPool,
+    player: &O,
+    play: &Play,
+) -> Result<bool, AllocError> {
+    let root = pool.len().saturating_sub(1);
+    if !pool.is_root(root) {
+        return Ok(false);
+    }
+    let made = refute(alloc, pool, root, player)?;
+    Ok(is_play(&made, play))
+}
+
+fn come_to<O: Online>(alloc: Global, player: &O, plays: &[Play]) -> Result<bool, AllocError> {
+    for play in plays {
+        if !comes_to(alloc, player, play)? {
+            return Ok(false);
         }
     }
+    Ok(true)
 }
 
-// The play of these nodes, from the last one on, against a player.
-fn played<O: Online>(
-    rt: &(impl AllocGlobal + std::process::Abort),
-    format: Format,
-    lines: &[&str],
-    player: &O,
-) -> Result<Transcript, Fail> {
-    let pool = pool_of(rt, format, lines)?;
-    let root = pool.len().checked_sub(1).expect(rt, "a node");
-    if !pool.is_root(root) {
-        panic!(rt; "no root");
+fn each_comes_to(alloc: Global) -> Result<bool, AllocError> {
+    if !come_to(alloc, &HighestBin, &OF_HIGHEST_BIN)? {
+        return Ok(false);
     }
-    Ok(refute(rt.alloc(), &pool, root, player)?)
-}
-
-// Whether a play has these items, bins, loads and packing.
-fn is_play(
-    play: &Transcript,
-    items: &[u16],
-    bins: &[u8],
-    loads: &[u16],
-    packing: [&[u16]; 2],
-) -> bool {
-    play.items.as_slice() == items
-        && play.bins.as_slice() == bins
-        && play.loads.as_slice() == loads
-        && are_bins(&play.packing, packing)
-}
-
-fn are_bins(packing: &Packing, want: [&[u16]; 2]) -> bool {
-    let bins = packing.bins();
-    bins.len() == 2 && bins[0].as_slice() == want[0] && bins[1].as_slice() == want[1]
+    if !come_to(alloc, &ByParity, &OF_PARITY)? {
+        return Ok(false);
+    }
+    come_to(alloc, &LeastLoaded, &OF_LEAST_LOADED)
 }
 
 #[test]
-fn each_player_loses_its_play(rt: HostRuntime) -> Result<(), Fail> {
-    let play = played(&rt, Format::One, &X, &HighestBin)?;
-    assert!(rt; is_play(&play, &[1, 1, 2], &[1, 1, 1], &[0, 4], [&[1, 2], &[1]]));
-    let play = played(&rt, Format::Two, &X_IN_FORMAT_2, &HighestBin)?;
-    assert!(rt; is_play(&play, &[1, 1, 2], &[1, 1, 1], &[0, 4], [&[1], &[1, 2]]));
-    let play = played(&rt, Format::One, &X, &ByParity)?;
-    assert!(rt; is_play(&play, &[1, 1, 3], &[0, 1, 0], &[4, 1], [&[3], &[1, 1]]));
-    let play = played(&rt, Format::One, &X, &ByThirdLast)?;
-    assert!(rt;
-        is_play(
-            &play,
-            &[1, 1, 2, 2],
-            &[0, 0, 1, 1],
-            &[2, 4],
-            [&[1, 2], &[1, 2]]
-        )
-    );
-    Ok(())
+fn each_player_loses_its_play(rt: HostRuntime) {
+    assert!(rt; each_comes_to(rt.alloc()).unwrap_or(false));
 }
 
-#[test]
-fn a_burst_is_played_to_its_end(rt: HostRuntime) -> Result<(), Fail> {
-    let play = played(&rt, Format::Two, &BURSTS, &HighestBin)?;
-    assert!(rt;
-        is_play(
-            &play,
-            &[1, 1, 2, 2],
-            &[1, 1, 1, 1],
-            &[0, 6],
-            [&[1, 2], &[1, 2]]
-        )
-    );
-    let play = played(&rt, Format::Two, &BURSTS, &LeastLoaded)?;
-    assert!(rt; is_play(&play, &[1, 1, 3], &[0, 1, 0], &[4, 1], [&[3], &[1, 1]]));
-    Ok(())
-}
-
-#[test]
-fn a_pool_is_a_strategy_and_back(rt: HostRuntime) -> Result<(), Fail> {
-    let pool = pool_of(&rt, Format::One, &X)?;
+// The same where the pool was a strategy in between.
+fn comes_to_again(alloc: Global, play: &Play) -> Result<bool, AllocError> {
+    let pool = pool_of(alloc, play.format, play.nodes)?;
     if !pool.is_root(4) {
-        panic!(rt; "no root");
+        return Ok(false);
     }
-    let strategy = pool.into_strategy(4);
-    let pool = AdvPool::from_strategy(rt.alloc(), strategy)?;
-    assert_eq!(rt; pool.len(), 5);
-    if !pool.is_root(4) {
-        panic!(rt; "no root");
-    }
-    let play = refute(rt.alloc(), &pool, 4, &FirstFit)?;
-    assert!(rt;
-        is_play(
-            &play,
-            &[1, 1, 2, 2],
-            &[0, 0, 1, 0],
-            &[4, 2],
-            [&[1, 2], &[1, 2]]
-        )
-    );
-    Ok(())
+    let again = AdvPool::from_strategy(alloc, pool.into_strategy(4))?;
+    is_played(alloc, &again, &FirstFit, play)
+}
+
+#[test]
+fn a_pool_is_a_strategy_and_back(rt: HostRuntime) {
+    assert!(rt; comes_to_again(rt.alloc(), &OF_FIRST_FIT).unwrap_or(false));
 }
