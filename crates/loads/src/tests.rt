@@ -1,228 +1,246 @@
+ghost use Rattle.std.specs.Prelude.{◌+◌, ◌<◌};
+
 use super::*;
 use items::{Game, Items, Sizes};
 use std::alloc::Global;
 use std::collections::HashSet;
-use std::test::Fail;
 
-fn small_game() -> Result<Game, Fail> {
-    Ok(Game::new(3, 3, 5)?)
+// The loads of a list, if they are loads of so many bins below 240.
+fn loads_of(alloc: Global, bins: u16, list: &[u16]) -> Option<Loads> {
+    let game = Game::new(bins, 120, 240).ok()?;
+    Loads::from_slice(alloc, &game, list)
 }
 
-fn is_taken(alloc: Global, game: &Game, list: &[u16]) -> bool {
-    Loads::from_slice(alloc, game, list).is_some()
-}
-
-#[test]
-fn only_descending_loads_below_the_target_are_taken(rt: HostRuntime) -> Result<(), Fail> {
-    let game = small_game()?;
-    assert!(rt; is_taken(rt.alloc(), &game, &[0, 0, 0]));
-    assert!(rt; is_taken(rt.alloc(), &game, &[4, 4, 1]));
-    assert!(rt; !is_taken(rt.alloc(), &game, &[4, 1, 4]));
-    assert!(rt; !is_taken(rt.alloc(), &game, &[5, 0, 0]));
-    assert!(rt; !is_taken(rt.alloc(), &game, &[1, 1]));
-    assert!(rt; !is_taken(rt.alloc(), &game, &[1, 1, 1, 1]));
-    assert!(rt; !is_taken(rt.alloc(), &game, &[]));
-    Ok(())
+// An item of size 120, and up to 60 of size 1.
+fn items_of(ones: u16) -> Items {
+    Items::empty().add(120).add_times(1, ones.min(60))
 }
 
 #[test]
-fn an_item_goes_to_one_bin_of_its_load(rt: HostRuntime) -> Result<(), Fail> {
-    let game = Game::new(2, 3, 4)?;
-    let loads = Loads::from_slice(rt.alloc(), &game, &[2, 0]).ok_or("refused")?;
-    let placed = loads.place(&game, 0, 2).ok_or("no such bin")?;
-    assert_eq!(rt; placed.as_slice(), [2, 2].as_slice());
-    assert!(rt; loads.place(&game, 1, 1).is_none());
-    let again = placed.place(&game, 2, 1).ok_or("no such bin")?;
-    assert_eq!(rt; again.as_slice(), [3, 2].as_slice());
-    Ok(())
+fn only_descending_loads_below_the_target_are_taken(rt: HostRuntime) {
+    let cases: [(&[u16], bool); 7] = [
+        (&[0, 0, 0], true),
+        (&[239, 239, 1], true),
+        (&[4, 1, 4], false),
+        (&[240, 0, 0], false),
+        (&[1, 1], false),
+        (&[1, 1, 1, 1], false),
+        (&[], false),
+    ];
+    for (list, taken) in cases {
+        assert!(rt; loads_of(rt.alloc(), 3, list).is_some() == taken);
+    }
+}
+
+// Whether an item of size `s` leads from one list of loads to another; to none where no bin has the load.
+fn leads_to(alloc: Global, game: Game, list: &[u16], load: u16, s: u16, after: &[u16]) -> bool
+    requires { load + s < game.target }
+{
+    let Some(loads) = Loads::from_slice(alloc, &game, list) else {
+        return false;
+    };
+    match loads.place(&game, load, s) {
+        Some(placed) => placed.as_slice() == after,
+        None => after.is_empty(),
+    }
 }
 
 #[test]
-fn a_grown_load_moves_to_its_place(rt: HostRuntime) -> Result<(), Fail> {
-    let game = Game::new(8, 60, 120)?;
-    let loads = Loads::from_slice(rt.alloc(), &game, &[90, 70, 70, 50, 30, 30, 10, 0]).ok_or(
-        "refused",
-    )?;
-    let placed = loads.place(&game, 30, 45).ok_or("no such bin")?;
-    assert_eq!(rt;
-        placed.as_slice(),
-        [90, 75, 70, 70, 50, 30, 10, 0].as_slice()
-    );
-    assert!(rt; !loads.same(&placed));
-    assert!(rt; loads.same(&loads.copy()));
-    Ok(())
+fn an_item_goes_to_one_bin_of_its_load(rt: HostRuntime) {
+    let game = Game::new(2, 3, 4).ok().expect(&rt, "a game");
+    assert!(rt; leads_to(rt.alloc(), game, &[2, 0], 0, 2, &[2, 2]));
+    assert!(rt; leads_to(rt.alloc(), game, &[2, 2], 2, 1, &[3, 2]));
+    assert!(rt; leads_to(rt.alloc(), game, &[2, 0], 1, 1, &[]));
 }
 
 #[test]
-fn different_loads_are_counted_from_the_greatest(rt: HostRuntime) -> Result<(), Fail> {
-    let game = Game::new(5, 10, 20)?;
-    let loads = Loads::from_slice(rt.alloc(), &game, &[7, 7, 3, 0, 0]).ok_or("refused")?;
-    assert_eq!(rt; loads.distinct_count(), 3);
-    assert_eq!(rt; loads.distinct_at(0), 7);
-    assert_eq!(rt; loads.distinct_at(1), 3);
-    assert_eq!(rt; loads.distinct_at(2), 0);
-    assert_eq!(rt; Loads::zero(rt.alloc(), &game).distinct_count(), 1);
-    Ok(())
+fn a_grown_load_moves_to_its_place(rt: HostRuntime) {
+    let game = Game::new(8, 60, 120).ok().expect(&rt, "a game");
+    let before = [90, 70, 70, 50, 30, 30, 10, 0];
+    let after = [90, 75, 70, 70, 50, 30, 10, 0];
+    assert!(rt; leads_to(rt.alloc(), game, &before, 30, 45, &after));
+}
+
+// Whether these are the different loads of a list.
+fn are_distinct(alloc: Global, list: &[u16], distinct: &[u16]) -> Option<bool> {
+    let loads = loads_of(alloc, 5, list)?;
+    if loads.distinct_count() != distinct.len() {
+        return Some(false);
+    }
+    for (i, load) in distinct.iter().enumerate() {
+        if loads.distinct_at(i) != *load {
+            return Some(false);
+        }
+    }
+    Some(true)
 }
 
 #[test]
-fn loads_of_bins_are_sorted_downwards(rt: HostRuntime) -> Result<(), Fail> {
-    let game = Game::new(5, 10, 20)?;
+fn different_loads_are_counted_from_the_greatest(rt: HostRuntime) {
+    let alloc = rt.alloc();
+    assert!(rt; are_distinct(alloc, &[7, 7, 3, 0, 0], &[7, 3, 0]) == Some(true));
+    assert!(rt; are_distinct(alloc, &[0, 0, 0, 0, 0], &[0]) == Some(true));
+}
+
+#[test]
+fn loads_of_bins_are_sorted_downwards(rt: HostRuntime) {
+    let game = Game::new(5, 10, 20).ok().expect(&rt, "a game");
     let actual = [3, 0, 7, 0, 7];
     let sorted = Loads::sorted(rt.alloc(), &game, &actual);
-    assert_eq!(rt; sorted.as_slice(), [7, 7, 3, 0, 0].as_slice());
+    assert!(rt; sorted.as_slice() == [7, 7, 3, 0, 0].as_slice());
     assert!(rt; same_up_to_renaming(&actual, &sorted));
     assert!(rt; !same_up_to_renaming(&[3, 0, 7, 3, 7], &sorted));
-    assert!(rt; !same_up_to_renaming(&[3, 0, 7, 7], &sorted));
-    assert!(rt; !same_up_to_renaming(&[3, 0, 7, 7, 0, 0], &sorted));
-    Ok(())
 }
 
 #[test]
 fn the_lowest_bin_with_a_load_is_named(rt: HostRuntime) {
     let actual = [3, 0, 7, 0, 7];
-    assert_eq!(rt; bin_with(&actual, 7), Some(2));
-    assert_eq!(rt; bin_with(&actual, 0), Some(1));
-    assert_eq!(rt; bin_with(&actual, 5), None);
+    assert!(rt; bin_with(&actual, 7) == Some(2));
+    assert!(rt; bin_with(&actual, 0) == Some(1));
+    assert!(rt; bin_with(&actual, 5).is_none());
 }
 
 #[test]
-fn positions_are_kept_in_their_order(rt: HostRuntime) -> Result<(), Fail> {
-    let game = small_game()?;
-    let mut positions = Positions::new(rt.alloc());
+fn positions_are_found_by_their_number(rt: HostRuntime) {
+    let game = Game::new(3, 3, 5).ok().expect(&rt, "a game");
     let loads = Loads::zero(rt.alloc(), &game);
+    let mut positions = Positions::new(rt.alloc());
     let items = Items::empty();
-    positions.push(Position { loads, items })?;
-    assert_eq!(rt; positions.len(), 1);
-    let first = positions.get(0).ok_or("no position")?;
-    assert_eq!(rt; first.loads.as_slice(), [0, 0, 0].as_slice());
-    assert!(rt; positions.get(1).is_none());
-    Ok(())
+    assert!(rt; positions.push(Position { loads, items }).is_ok());
+    let first = positions.get(0).expect(&rt, "a position");
+    assert!(rt; first.loads.as_slice() == [0, 0, 0].as_slice());
+    assert!(rt; positions.len() == 1 && positions.get(1).is_none());
+}
+
+fn position_of(alloc: Global, loads: &[u16], ones: u16) -> Option<Position> {
+    let loads = loads_of(alloc, 2, loads)?;
+    let items = items_of(ones);
+    Some(Position { loads, items })
+}
+
+// Whether a set that has the first position has the other.
+fn is_one_key(alloc: Global, first: Position, other: &Position) -> Option<bool> {
+    let mut seen = HashSet::new(alloc);
+    seen.insert(first).ok()?;
+    Some(seen.contains(other))
+}
+
+// Whether the position of loads 1 1 and two items is one key with another.
+fn is_key_of(alloc: Global, loads: &[u16], ones: u16) -> Option<bool> {
+    let first = position_of(alloc, &[1, 1], 2)?;
+    is_one_key(alloc, first, &position_of(alloc, loads, ones)?)
 }
 
 #[test]
-fn equal_positions_are_one_key(rt: HostRuntime) -> Result<(), Fail> {
-    let game = Game::new(2, 3, 4)?;
-    let one = Loads::from_slice(rt.alloc(), &game, &[1, 1]).ok_or("refused")?;
-    let other = Loads::from_slice(rt.alloc(), &game, &[2, 0]).ok_or("refused")?;
-    let items = Items::from_slice(&game, &[1, 1]).ok_or("refused")?;
-    let first = Position {
-        loads: one.copy(),
-        items: items.copy(),
-    };
-    let same = Position {
-        loads: one.copy(),
-        items: items.copy(),
-    };
-    let other_loads = Position {
-        loads: other,
-        items,
-    };
-    let other_items = Position {
-        loads: one,
-        items: Items::from_slice(&game, &[2]).ok_or("refused")?,
-    };
-    assert!(rt; first == same);
-    let mut seen = HashSet::new(rt.alloc());
-    seen.insert(first)?;
-    assert!(rt; seen.contains(&same));
-    assert!(rt; !seen.contains(&other_loads));
-    assert!(rt; !seen.contains(&other_items));
-    Ok(())
+fn equal_positions_are_one_key(rt: HostRuntime) {
+    assert!(rt; is_key_of(rt.alloc(), &[1, 1], 2) == Some(true));
+    assert!(rt; is_key_of(rt.alloc(), &[2, 0], 2) == Some(false));
+    assert!(rt; is_key_of(rt.alloc(), &[1, 1], 1) == Some(false));
 }
 
-fn is_kept(alloc: Global, loads: &Loads, items: &Items) -> Result<bool, Fail> {
-    let packed = PackedPosition::of(alloc, loads, items)?;
-    Ok(packed.loads().same(loads) && packed.items().same(items))
+fn loads_of_8(alloc: Global) -> Option<Loads> {
+    loads_of(alloc, 8, &[239, 120, 120, 7, 1, 0, 0, 0])
 }
 
-fn loads_come_back(alloc: Global, loads: &Loads) -> Result<bool, Fail> {
-    let packed = PackedPosition::of(alloc, loads, &Items::empty())?;
-    Ok(packed.loads().same(loads))
+fn packed(alloc: Global, ones: u16) -> Option<PackedPosition> {
+    let loads = loads_of_8(alloc)?;
+    PackedPosition::of(alloc, &loads, &items_of(ones)).ok()
 }
 
-fn pack_alike(alloc: Global, loads: &Loads, first: &Items, second: &Items) -> Result<bool, Fail> {
-    let packed = PackedPosition::of(alloc, loads, first)?;
-    let other = PackedPosition::of(alloc, loads, second)?;
-    Ok(packed == other && packed.copy()? == other)
+fn comes_back(alloc: Global, ones: u16) -> Option<bool> {
+    let packed = packed(alloc, ones)?;
+    let loads = loads_of_8(alloc)?;
+    Some(packed.loads().same(&loads.copy()) && packed.items().same(&items_of(ones)))
+}
+
+// Whether the positions with so many ones are packed alike.
+fn are_alike(alloc: Global, ones: u16, others: u16) -> Option<bool> {
+    let first = packed(alloc, ones)?.copy().ok()?;
+    Some(first == packed(alloc, others)?)
 }
 
 #[test]
-fn packed_positions_come_back_whole(rt: HostRuntime) -> Result<(), Fail> {
-    let game = Game::new(8, 120, 240)?;
-    let loads = Loads::from_slice(rt.alloc(), &game, &[239, 120, 120, 7, 1, 0, 0, 0]).ok_or(
-        "refused",
-    )?;
-    let items = Items::from_slice(&game, &[1, 2, 2, 119, 120]).ok_or("refused")?;
-    let many = Items::from_slice(&game, &[1; 60]).ok_or("refused")?;
-    assert!(rt; is_kept(rt.alloc(), &loads, &Items::empty())?);
-    assert!(rt; is_kept(rt.alloc(), &loads, &items)?);
-    assert!(rt; is_kept(rt.alloc(), &loads, &many)?);
-    assert!(rt; loads_come_back(rt.alloc(), &loads)?);
-    assert!(rt; pack_alike(rt.alloc(), &loads, &many, &many)?);
-    assert!(rt; !pack_alike(rt.alloc(), &loads, &items, &many)?);
-    Ok(())
+fn packed_positions_come_back_whole(rt: HostRuntime) {
+    assert!(rt; comes_back(rt.alloc(), 0) == Some(true));
+    assert!(rt; comes_back(rt.alloc(), 60) == Some(true));
+    assert!(rt; are_alike(rt.alloc(), 60, 60) == Some(true));
+    assert!(rt; are_alike(rt.alloc(), 60, 59) == Some(false));
 }
 
-fn push_each(list: &mut PackedPositions, loads: &Loads, each: &[Items]) -> Result<(), Fail> {
-    for items in each {
-        list.push(loads, items)?;
+// The list of the positions with so many ones, in their order.
+fn list_of(alloc: Global, loads: &Loads, each: [u16; 4]) -> Option<PackedPositions> {
+    let mut list = PackedPositions::new(alloc);
+    for ones in each {
+        list.push(loads, &items_of(ones)).ok()?;
     }
-    Ok(())
+    Some(list)
 }
 
-fn has(list: &PackedPositions, i: usize, loads: &Loads, items: &Items) -> bool {
+fn has(list: &PackedPositions, i: usize, loads: &Loads, ones: u16) -> bool {
     match list.get(i) {
-        Some(position) => position.loads.same(loads) && position.items.same(items),
+        Some(position) => position.loads.same(loads) && position.items.same(&items_of(ones)),
         None => false,
     }
 }
 
+// In a slot lie up to 21 loads and items.
 #[test]
-fn packed_positions_are_found_by_their_number(rt: HostRuntime) -> Result<(), Fail> {
-    let game = small_game()?;
-    let loads = Loads::from_slice(rt.alloc(), &game, &[3, 2, 2]).ok_or("refused")?;
-    let items = Items::from_slice(&game, &[1, 1, 2, 3]).ok_or("refused")?;
-    let most_in_a_slot = Items::from_slice(&game, &[2; 18]).ok_or("refused")?;
-    let more = Items::from_slice(&game, &[2; 19]).ok_or("refused")?;
-    let each = [Items::empty(), more, items, most_in_a_slot];
-    let mut list = PackedPositions::new(rt.alloc());
-    push_each(&mut list, &loads, &each)?;
-    push_each(&mut list, &loads, &each)?;
-    assert_eq!(rt; list.len(), 8);
-    assert!(rt; has(&list, 0, &loads, &each[0]) && has(&list, 1, &loads, &each[1]));
-    assert!(rt; has(&list, 2, &loads, &each[2]) && has(&list, 3, &loads, &each[3]));
-    assert!(rt; has(&list, 5, &loads, &each[1]) && has(&list, 7, &loads, &each[3]));
-    assert!(rt; !has(&list, 0, &loads, &each[2]) && !has(&list, 3, &loads, &each[1]));
-    assert!(rt; list.get(7).is_some() && list.get(8).is_none());
-    Ok(())
+fn packed_positions_are_found_by_their_number(rt: HostRuntime) {
+    let loads = loads_of(rt.alloc(), 3, &[3, 2, 2]).expect(&rt, "loads");
+    let list = list_of(rt.alloc(), &loads, [17, 18, 0, 4]).expect(&rt, "positions");
+    for (i, ones) in [(0, 17), (1, 18), (2, 0), (3, 4)] {
+        assert!(rt; has(&list, i, &loads, ones));
+    }
+    assert!(rt; !has(&list, 0, &loads, 18));
+    assert!(rt; list.len() == 4 && list.get(4).is_none());
+}
+
+// A list of three positions, of which the first two follow loads 3 2 2 with items 1 1 2 3.
+fn given_as_lists(alloc: Global) -> Option<PackedPositions> {
+    let mut list = PackedPositions::new(alloc);
+    list.push_lists(&[4, 2, 2], &[1, 1, 1, 2, 3]).ok()?;
+    list.push_lists(&[3, 3, 2], &[1, 1, 1, 2, 3]).ok()?;
+    list.push_lists(&[4, 2, 2], &[1, 1, 2, 2, 2]).ok()?;
+    Some(list)
+}
+
+// Whether a position is the one after an item of size 1 went to a bin of loads 3 2 2 that has this load.
+fn is_after(list: &PackedPositions, i: usize, before: &Loads, load: u16) -> Option<bool> {
+    if load > 3 || bin_with(before.as_slice(), load).is_none() {
+        return None;
+    }
+    Some(list.is_after(i, before, &[1, 1, 2, 3], load, 1))
 }
 
 #[test]
-fn a_position_given_as_lists_is_found_after_an_item(rt: HostRuntime) -> Result<(), Fail> {
-    let game = small_game()?;
-    let before = Loads::from_slice(rt.alloc(), &game, &[3, 2, 2]).ok_or("refused")?;
-    let mut list = PackedPositions::new(rt.alloc());
-    list.push_lists(&[4, 2, 2], &[1, 1, 1, 2, 3])?;
-    list.push_lists(&[3, 3, 2], &[1, 1, 1, 2, 3])?;
-    assert_eq!(rt; list.len(), 2);
-    assert!(rt; list.is_after(0, &before, &[1, 1, 2, 3], 3, 1));
-    assert!(rt; list.is_after(1, &before, &[1, 1, 2, 3], 2, 1));
-    assert!(rt; !list.is_after(0, &before, &[1, 1, 2, 3], 2, 1));
-    assert!(rt; !list.is_after(0, &before, &[1, 1, 1, 3], 3, 1));
-    assert!(rt; !list.is_after(2, &before, &[1, 1, 2, 3], 3, 1));
-    Ok(())
+fn a_position_given_as_lists_is_found_after_an_item(rt: HostRuntime) {
+    let list = given_as_lists(rt.alloc()).expect(&rt, "positions");
+    let loads = loads_of(rt.alloc(), 3, &[3, 2, 2]).expect(&rt, "loads");
+    let cases = [
+        (0, 3, true),
+        (1, 2, true),
+        (0, 2, false),
+        (2, 3, false),
+        (3, 3, false),
+    ];
+    for (i, load, after) in cases {
+        assert!(rt; is_after(&list, i, &loads, load) == Some(after));
+    }
 }
 
 #[test]
-fn items_of_loads_ascend_to_their_sum(rt: HostRuntime) -> Result<(), Fail> {
-    let game = small_game()?;
-    let loads = Loads::from_slice(rt.alloc(), &game, &[3, 2, 2]).ok_or("refused")?;
+fn items_of_loads_ascend_to_their_sum(rt: HostRuntime) {
+    let game = Game::new(3, 3, 5).ok().expect(&rt, "a game");
+    let loads = loads_of(rt.alloc(), 3, &[3, 2, 2]).expect(&rt, "loads");
     let sizes = Sizes::of_game(&game);
-    assert!(rt; are_items_of(&sizes, &loads, &[1, 1, 2, 3]));
-    assert!(rt; !are_items_of(&sizes, &loads, &[1, 2, 1, 3]));
-    assert!(rt; !are_items_of(&sizes, &loads, &[1, 1, 2, 2]));
-    assert!(rt; !are_items_of(&sizes, &loads, &[1, 1, 1, 4]));
-    assert!(rt; !are_items_of(&sizes, &loads, &[3, 3, 3]));
-    Ok(())
+    let cases: [(&[u16], bool); 5] = [
+        (&[1, 1, 2, 3], true),
+        (&[1, 2, 1, 3], false),
+        (&[1, 1, 2, 2], false),
+        (&[1, 1, 1, 4], false),
+        (&[3, 3, 3], false),
+    ];
+    for (items, of_loads) in cases {
+        assert!(rt; are_items_of(&sizes, &loads, items) == of_loads);
+    }
 }

@@ -4,6 +4,7 @@ ghost use Rattle.std.specs.Prelude.{◌≡◌, ◌↔◌, ◌+◌, ◌-◌, ◌<
 ghost use Rattle.items.specs.Multiset.{largest_of};
 ghost use Rattle.items.specs.Game.{IsGame};
 ghost use Rattle.items.specs.Packable.{IsRoom, Packable};
+ghost use Rattle.loads.specs.Descending.{distinct};
 ghost use Rattle.good_situations.specs.Finish.{Finishes};
 ghost use Rattle.monotone.specs.Visits.{visit};
 ghost use Rattle.transposition.specs.Memo.{verdict_of};
@@ -16,6 +17,7 @@ ghost use Rattle.minimax.specs.State.{IsBound, IsOpenAt, IsOpenFrom, IsTold, May
 ghost use Rattle.minimax.specs.State.{Stops, WentOn};
 ghost use Rattle.minimax.specs.State.{kept_of, reached_by, with_move};
 
+use crate::distinct_loads::{count_of, distinct_loads, load_at};
 use crate::finish_nodes::FINISHES;
 use crate::nodes::{key_after, loads_after};
 use crate::replies::{Replies, keep, put};
@@ -241,8 +243,21 @@ fn weigh_all<M: Memo>(
 {
     let mut entries = Vec::new(search.alloc);
     let collects = allows_all(game, pass, position);
+    let found = distinct_loads(&position.loads);
+    let count = position.loads.distinct_count();
+    let loads = &found[..count];
     for tried in 0..room {
-        match weigh(game, pass, told, search, memo, position, key, room - tried)? {
+        match weigh(
+            game,
+            pass,
+            told,
+            search,
+            memo,
+            position,
+            key,
+            loads,
+            room - tried,
+        )? {
             Weighed::Won(number) => return Ok(Verdict::Adversary(number)),
             Weighed::Replied(entry) => {
                 if collects {
@@ -279,9 +294,11 @@ fn weigh<M: Memo>(
     memo: &mut M,
     position: &Position,
     key: &Key,
+    loads: &[u16],
     size: u16,
 ) -> Result<Weighed, VisitFault>
     requires of_key { key.now ≡ position.now }
+    requires of_loads { loads.now ≡ distinct position.now.loads }
     requires sound { IsSound game.now pass search.old (M.entries memo.old) }
     requires from_size { IsOpenFrom game.now pass size search.old position.now }
     requires may_come { Packable game.now (position.now.items ++ size ∷ []) }
@@ -303,7 +320,7 @@ fn weigh<M: Memo>(
     if let Some(load) = skipped(game, told, position, size) {
         return Ok(kept(size, load, Verdict::Algorithm(FINISHES)));
     }
-    match try_size(game, pass, search, memo, position, key, size)? {
+    match try_size(game, pass, search, memo, position, key, loads, size)? {
         Tried::Wins(placements) => {
             let number = keep_win(search.alloc, &mut search.wins, position, size, placements)?;
             Ok(Weighed::Won(number))
@@ -331,9 +348,11 @@ fn try_size<M: Memo>(
     memo: &mut M,
     position: &Position,
     key: &Key,
+    loads: &[u16],
     size: u16,
 ) -> Result<Tried, VisitFault>
     requires of_key { key.now ≡ position.now }
+    requires of_loads { loads.now ≡ distinct position.now.loads }
     requires sound { IsSound game.now pass search.old (M.entries memo.old) }
     requires from_size { IsOpenFrom game.now pass size search.old position.now }
     requires may_come { MayCome game.now pass position.now size }
@@ -354,9 +373,9 @@ fn try_size<M: Memo>(
         load: 0,
         next: Then::Over,
     }; MOST_BINS as usize];
-    let count = position.loads.distinct_count();
+    let count = count_of(position, loads);
     for i in 0..count {
-        let load = position.loads.distinct_at(i);
+        let load = load_at(position, loads, i);
         match try_load(game, pass, search, memo, position, key, size, load)? {
             Reached::ByNext(next) => placements[i] = Placement { load, next },
             Reached::Answers(verdict) => return Ok(Tried::Answered { load, verdict }),

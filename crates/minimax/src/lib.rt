@@ -2,6 +2,7 @@
 #![tactic(auto)]
 
 mod answer;
+mod distinct_loads;
 mod expanding;
 mod finish_nodes;
 mod game_search;

@@ -122,6 +122,11 @@ impl Path {
         ensures err { OnErr result (self.new ≡ self.old) }
     {
         let moves = other.moves.as_slice();
+        // The usual case in a search, whose paths follow each other at one depth.
+        if moves.len() == self.moves.len() {
+            self.moves.copy_from_slice(moves);
+            return Ok(());
+        }
         self.moves
             .reserve(moves.len().saturating_sub(self.moves.len()))?;
         self.moves.clear();

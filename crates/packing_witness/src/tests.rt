@@ -4,36 +4,91 @@ ghost use Rattle.packing_witness.specs.Edits.{CanScale};
 use crate::Packing;
 use items::{Game, Items, Nums};
 use std::alloc::{AllocError, Global};
-use std::test::Fail;
 
-// The bins that a text spells, each closed by a slash.
-fn packing(alloc: Global, text: &str) -> Result<Packing, Fail> {
+// Puts a digit into the bin that is open, or closes it at a slash.
+fn put(made: &mut Packing, bin: &mut Nums, byte: u8) -> Result<(), AllocError> {
+    if byte == b'/' {
+        made.push_bin(bin.copy()?)?;
+        *bin = Nums::new(bin.allocator());
+        return Ok(());
+    }
+    bin.push(u16::from(byte.saturating_sub(b'0')))
+}
+
+// The bins that a text spells, a digit for each item.
+fn packing(alloc: Global, text: &[u8]) -> Result<Packing, AllocError> {
     let mut made = Packing::new(alloc);
-    for list in text.split_terminator('/') {
-        made.push_bin(bin(alloc, list)?)?;
+    let mut bin = Nums::new(alloc);
+    for byte in text {
+        put(&mut made, &mut bin, *byte)?;
     }
     Ok(made)
 }
 
-fn bin(alloc: Global, text: &str) -> Result<Nums, Fail> {
-    let mut made = Nums::new(alloc);
-    for word in text.split_whitespace() {
-        made.push(word.parse::<u16>()?)?;
+fn are_same(bins: &[Nums], others: &[Nums]) -> bool {
+    if bins.len() != others.len() {
+        return false;
     }
-    Ok(made)
-}
-
-// The text that spells the bins.
-fn text(alloc: Global, packing: &Packing) -> Result<String, AllocError> {
-    let mut text = String::new(alloc);
-    for bin in packing.bins() {
-        for size in bin.as_slice() {
-            text.push_str(size.to_string(alloc)?.as_str())?;
-            text.push_str(" ")?;
+    for (i, bin) in bins.iter().enumerate() {
+        if others[i].as_slice() != bin.as_slice() {
+            return false;
         }
-        text.push_str("/")?;
     }
-    Ok(text)
+    true
+}
+
+fn is(alloc: Global, found: &Packing, text: &[u8]) -> Result<bool, AllocError> {
+    Ok(are_same(found.bins(), packing(alloc, text)?.bins()))
+}
+
+// Whether these bins of 3 are a packing of 1 1 2.
+fn holds(alloc: Global, bins: &[u8]) -> Option<bool> {
+    let game = Game::new(2, 3, 4).ok()?;
+    let items = Items::from_slice(&game, &[1, 1, 2])?;
+    Some(packing(alloc, bins).ok()?.holds(&game, &items))
+}
+
+// The same of 2 and two items of size 1.
+fn holds_list(alloc: Global, bins: &[u8]) -> Option<bool> {
+    let game = Game::new(2, 3, 4).ok()?;
+    Some(packing(alloc, bins).ok()?.holds_list(&game, &[2], 1, 2))
+}
+
+#[test]
+fn a_packing_has_each_item_once_in_a_bin_of_at_most_the_capacity(rt: HostRuntime) {
+    let cases: [(&[u8], bool); 7] = [
+        (b"12/1/", true),
+        (b"2/111/", false),
+        (b"112//", false),
+        (b"2/1/", false),
+        (b"12/10/", false),
+        (b"12/1//", false),
+        (b"", false),
+    ];
+    for (bins, want) in cases {
+        assert!(rt; holds(rt.alloc(), bins) == Some(want));
+        assert!(rt; holds_list(rt.alloc(), bins) == Some(want));
+    }
+}
+
+// Whether these bins without an item are others; no others stand for None.
+fn leaves(alloc: Global, bins: &[u8], item: u16, others: &[u8]) -> Result<bool, AllocError> {
+    match packing(alloc, bins)?.without(item)? {
+        Some(rest) => is(alloc, &rest, others),
+        None => Ok(others.is_empty()),
+    }
+}
+
+#[test]
+fn the_first_such_number_of_the_first_bin_that_has_one_is_taken_out(rt: HostRuntime) {
+    let cases: [(&[u8], u16, &[u8]); 3] = [
+        (b"12/1/", 2, b"1/1/"),
+        (b"12/1/", 3, b""),
+        (b"7/2325/2/3/", 2, b"7/325/2/3/"),
+    ];
+    for (bins, item, others) in cases {
+        assert!(rt; leaves(rt.alloc(), bins, item, others) == Ok(true));
+    }
 }
 
 // Whether each number times a factor is at most 65,535.
@@ -53,62 +108,16 @@ fn can_scale_bin(bin: &Nums, factor: u16) -> bool
         .all(|size| u32::from(*size) * u32::from(factor) <= 65535)
 }
 
-#[test]
-fn a_packing_has_each_item_once_in_a_bin_of_at_most_the_capacity(
-    rt: HostRuntime,
-) -> Result<(), Fail> {
-    let game = Game::new(2, 3, 4).ok().expect(&rt, "a game");
-    let items = Items::from_slice(&game, &[1, 1, 2]).expect(&rt, "items");
-    let cases = [
-        ("1 2 /1 /", true),
-        ("1 /2 1 /", true),
-        ("2 /1 1 1 /", false),
-        ("1 1 2 //", false),
-        ("2 /1 /", false),
-        ("2 1 /2 /", false),
-        ("1 1 /", false),
-        ("1 2 /1 //", false),
-        ("1 2 /1 0 /", false),
-        ("1 2 /65535 /", false),
-        ("65535 65535 65535 /65535 2 1 /", false),
-        ("", false),
-        ("//", false),
-    ];
-    for (bins, want) in cases {
-        let packing = packing(rt.alloc(), bins)?;
-        assert_eq!(rt; packing.holds(&game, &items), want, "{bins}");
-        assert_eq!(rt; packing.holds_list(&game, &[2], 1, 2), want, "{bins}");
+// Whether the double of these bins is others.
+fn doubles_to(alloc: Global, bins: &[u8], others: &[u8]) -> Result<bool, AllocError> {
+    let copy = packing(alloc, bins)?.copy()?;
+    if !can_scale(&copy, 2) {
+        return Ok(false);
     }
-    Ok(())
+    is(alloc, &copy.scaled(2)?, others)
 }
 
 #[test]
-fn the_first_such_number_of_the_first_bin_that_has_one_is_taken_out(
-    rt: HostRuntime,
-) -> Result<(), Fail> {
-    let cases = [
-        ("1 2 /1 /", 2, Some("1 /1 /")),
-        ("1 2 /1 /", 3, None),
-        ("1 2 /1 /", 0, None),
-        ("7 /2 3 2 5 /2 /3 /", 2, Some("7 /3 2 5 /2 /3 /")),
-        ("7 /2 3 2 5 /2 /3 /", 7, Some("/2 3 2 5 /2 /3 /")),
-        ("7 /2 3 2 5 /2 /3 /", 5, Some("7 /2 3 2 /2 /3 /")),
-    ];
-    for (bins, item, want) in cases {
-        let rest = packing(rt.alloc(), bins)?.without(item)?;
-        assert_eq!(rt; rest.is_some(), want.is_some());
-        if let (Some(rest), Some(want)) = (rest, want) {
-            assert_eq!(rt; text(rt.alloc(), &rest)?.as_str(), want);
-        }
-    }
-    Ok(())
-}
-
-#[test]
-fn each_number_of_each_bin_is_scaled(rt: HostRuntime) -> Result<(), Fail> {
-    let small = packing(rt.alloc(), "1 2 /2 //")?.copy()?;
-    assert!(rt; can_scale(&small, 2) && !can_scale(&small, 32768));
-    assert_eq!(rt; text(rt.alloc(), &small.scaled(2)?)?.as_str(), "2 4 /4 //");
-    assert_eq!(rt; text(rt.alloc(), &small)?.as_str(), "1 2 /2 //");
-    Ok(())
+fn each_number_of_each_bin_is_scaled(rt: HostRuntime) {
+    assert!(rt; doubles_to(rt.alloc(), b"12/1//", b"24/2//") == Ok(true));
 }

@@ -1,8 +1,6 @@
 use super::*;
 use items::Nums;
 use std::alloc::{AllocError, Global};
-use std::process::Abort;
-use std::test::*;
 
 /// Lines that are node 0 of the adversary in both formats.
 const SENDS: [&str; 9] = [
@@ -116,52 +114,65 @@ const NO_REPLIES: [&str; 23] = [
     "0 loads - items - big 0 0",
 ];
 
-/// Whether a line is read as node 0 of the adversary in each format.
-fn sends(alloc: Global, line: &str) -> Result<(bool, bool), AllocError> {
-    let one = parse_adversary(alloc, Format::One, line.as_bytes(), 0)?;
-    let two = parse_adversary(alloc, Format::Two, line.as_bytes(), 0)?;
-    Ok((one.is_some(), two.is_some()))
+/// The node of the adversary that a line spells.
+fn adversary(alloc: Global, format: Format, line: &[u8], number: u32) -> Option<AdvNode> {
+    parse_adversary(alloc, format, line, number).ok()?
 }
 
-/// Whether a line is read as node 0 of the algorithm in each format.
-fn replies(alloc: Global, line: &str) -> Result<(bool, bool), AllocError> {
-    let one = parse_algorithm(alloc, Format::One, line.as_bytes(), 0)?;
-    let two = parse_algorithm(alloc, Format::Two, line.as_bytes(), 0)?;
-    Ok((one.is_some(), two.is_some()))
+/// The node of the algorithm that a line spells.
+fn algorithm(alloc: Global, format: Format, line: &[u8], number: u32) -> Option<AlgNode> {
+    parse_algorithm(alloc, format, line, number).ok()?
+}
+
+/// Whether a line is read as node 0 of a side.
+fn is_read(alloc: Global, side: Side, format: Format, line: &[u8]) -> bool {
+    match side {
+        Side::Adversary => adversary(alloc, format, line, 0).is_some(),
+        Side::Algorithm => algorithm(alloc, format, line, 0).is_some(),
+    }
+}
+
+/// The first of some lines that is read otherwise than as node 0 of a side in these formats.
+fn first_other<'a>(
+    alloc: Global,
+    side: Side,
+    lines: &[&'a str],
+    in_one: bool,
+    in_two: bool,
+) -> Option<&'a str> {
+    for line in lines {
+        if is_read(alloc, side, Format::One, line.as_bytes()) != in_one {
+            return Some(line);
+        }
+        if is_read(alloc, side, Format::Two, line.as_bytes()) != in_two {
+            return Some(line);
+        }
+    }
+    None
 }
 
 #[test]
-fn lines_of_the_adversary_are_read_exactly_where_they_spell_a_node(
-    rt: HostRuntime,
-) -> Result<(), Fail> {
-    for line in SENDS {
-        assert_eq!(rt; sends(rt.alloc(), line)?, (true, true), "{line}");
-        assert_eq!(rt; replies(rt.alloc(), line)?, (false, false), "{line}");
-    }
-    for line in SENDS_IN_FORMAT_2 {
-        assert_eq!(rt; sends(rt.alloc(), line)?, (false, true), "{line}");
-    }
-    for line in NO_SENDS {
-        assert_eq!(rt; sends(rt.alloc(), line)?, (false, false), "{line}");
-    }
-    Ok(())
+fn lines_of_the_adversary_are_read_exactly_where_they_spell_a_node(rt: HostRuntime) {
+    let (alloc, side) = (rt.alloc(), Side::Adversary);
+    assert_eq!(rt; first_other(alloc, side, &SENDS, true, true), None);
+    assert_eq!(rt;
+        first_other(alloc, side, &SENDS_IN_FORMAT_2, false, true),
+        None
+    );
+    assert_eq!(rt; first_other(alloc, side, &NO_SENDS, false, false), None);
+    assert_eq!(rt; first_other(alloc, side, &REPLIES, false, false), None);
 }
 
 #[test]
-fn lines_of_the_algorithm_are_read_exactly_where_they_spell_a_node(
-    rt: HostRuntime,
-) -> Result<(), Fail> {
-    for line in REPLIES {
-        assert_eq!(rt; replies(rt.alloc(), line)?, (true, true), "{line}");
-        assert_eq!(rt; sends(rt.alloc(), line)?, (false, false), "{line}");
-    }
-    for line in REPLIES_IN_FORMAT_2 {
-        assert_eq!(rt; replies(rt.alloc(), line)?, (false, true), "{line}");
-    }
-    for line in NO_REPLIES {
-        assert_eq!(rt; replies(rt.alloc(), line)?, (false, false), "{line}");
-    }
-    Ok(())
+fn lines_of_the_algorithm_are_read_exactly_where_they_spell_a_node(rt: HostRuntime) {
+    let (alloc, side) = (rt.alloc(), Side::Algorithm);
+    assert_eq!(rt; first_other(alloc, side, &REPLIES, true, true), None);
+    assert_eq!(rt;
+        first_other(alloc, side, &REPLIES_IN_FORMAT_2, false, true),
+        None
+    );
+    assert_eq!(rt; first_other(alloc, side, &NO_REPLIES, false, false), None);
+    assert_eq!(rt; first_other(alloc, side, &SENDS, false, false), None);
 }
 
 /// A node of the adversary whose line has 39 bytes, two for each of so many items and those of the last item.
@@ -176,203 +187,201 @@ pub(crate) fn long_line(alloc: Global, ones: usize, last: &[u8]) -> Result<Text,
     Ok(line)
 }
 
-#[test]
-fn a_line_has_at_most_16384_bytes(rt: HostRuntime) -> Result<(), Fail> {
-    for (ones, last, len, read) in [
-        (8171, " 10".as_bytes(), 16384, true),
-        (8173, "".as_bytes(), 16385, false),
-        (8171, " 100".as_bytes(), 16385, false),
-    ] {
-        let line = long_line(rt.alloc(), ones, last)?;
-        assert_eq!(rt; line.len(), len);
-        let node = parse_adversary(rt.alloc(), Format::One, line.as_slice(), 0)?;
-        assert_eq!(rt; node.is_some(), read);
-    }
-    Ok(())
+/// The length of a long line, and whether it is read.
+fn read_long(alloc: Global, ones: usize, last: &[u8]) -> Option<(usize, bool)> {
+    let line = long_line(alloc, ones, last).ok()?;
+    let read = is_read(alloc, Side::Adversary, Format::One, line.as_slice());
+    Some((line.len(), read))
 }
 
-fn same_bins(rt: &impl Abort, read: &[Nums], bins: &[&[u16]]) {
-    assert_eq!(rt; read.len(), bins.len());
+#[test]
+fn a_line_has_at_most_16384_bytes(rt: HostRuntime) {
+    assert!(rt; read_long(rt.alloc(), 8171, b" 10") == Some((16384, true)));
+    assert!(rt; read_long(rt.alloc(), 8173, b"") == Some((16385, false)));
+    assert!(rt; read_long(rt.alloc(), 8171, b" 100") == Some((16385, false)));
+}
+
+fn are_bins(read: &[Nums], bins: &[&[u16]]) -> bool {
+    if read.len() != bins.len() {
+        return false;
+    }
     for (bin, sizes) in read.iter().zip(bins) {
-        assert_eq!(rt; bin.as_slice(), *sizes);
+        if bin.as_slice() != *sizes {
+            return false;
+        }
     }
+    true
 }
 
-fn same_placements(rt: &impl Abort, read: &[Placement]) {
-    let to = Placement {
-        load: 1,
-        next: Then::To(1),
-    };
-    let over = Placement {
-        load: 0,
-        next: Then::Over,
-    };
-    assert_eq!(rt; read, [to, over].as_slice());
-}
-
-fn same_entries(rt: &impl Abort, read: &[Entry]) {
-    let first = Entry {
-        size: 1,
-        load: 1,
-        to: 4,
-    };
-    let second = Entry {
-        size: 2,
-        load: 3,
-        to: 6,
-    };
-    assert_eq!(rt; read, [first, second].as_slice());
-}
-
-#[test]
-fn a_sending_node_has_the_parts_of_its_line(rt: HostRuntime) -> Result<(), Fail> {
-    let line = b"3 loads 1 0 items 1 send 12 pack 10 1 / - / 7 on 1 to 1 on 0 over";
-    let node = parse_adversary(rt.alloc(), Format::One, line, 3)?.ok_or("a node")?;
-    let AdvNode { loads, items, step } = node;
-    assert_eq!(rt; loads.as_slice(), [1, 0].as_slice());
-    assert_eq!(rt; items.as_slice(), [1].as_slice());
+fn sends(step: &Step, sent: u16, bins: &[&[u16]], placed: &[Placement]) -> bool {
     match step {
         Step::Send {
             size,
-            pack,
+            pack: Some(pack),
             placements,
-        } => {
-            assert_eq!(rt; size, 12);
-            same_bins(&rt, pack.ok_or("a packing")?.bins(), &[&[10, 1], &[], &[7]]);
-            same_placements(&rt, placements.as_slice());
-        }
-        Step::Burst { .. } => return Err("a burst".into()),
+        } => *size == sent && are_bins(pack.bins(), bins) && placements.as_slice() == placed,
+        _ => false,
     }
-    Ok(())
 }
 
-#[test]
-fn a_burst_has_the_parts_of_its_line(rt: HostRuntime) -> Result<(), Fail> {
-    let line = b"0 loads 2 0 items 1 1 burst 20 3 pack 3 3 / 1 1";
-    let node = parse_adversary(rt.alloc(), Format::Two, line, 0)?.ok_or("a node")?;
-    let AdvNode { step, .. } = node;
+fn sends_burst(step: &Step, many: u16, sent: u16, bins: &[&[u16]]) -> bool {
     match step {
         Step::Burst { count, size, pack } => {
-            assert_eq!(rt; (count, size), (20, 3));
-            same_bins(&rt, pack.bins(), &[&[3, 3], &[1, 1]]);
+            *count == many && *size == sent && are_bins(pack.bins(), bins)
         }
-        Step::Send { .. } => return Err("one item".into()),
+        Step::Send { .. } => false,
     }
-    Ok(())
+}
+
+fn replies(act: &Act, given: &[Entry]) -> bool {
+    match act {
+        Act::Reply(entries) => entries.as_slice() == given,
+        _ => false,
+    }
+}
+
+fn are(loads: &Nums, items: &Nums, of_loads: &[u16], of_items: &[u16]) -> bool {
+    loads.as_slice() == of_loads && items.as_slice() == of_items
 }
 
 #[test]
-fn a_node_of_the_algorithm_has_the_parts_of_its_line(rt: HostRuntime) -> Result<(), Fail> {
+fn a_sending_node_has_the_parts_of_its_line(rt: HostRuntime) {
+    let line = b"3 loads 1 0 items 1 send 12 pack 10 1 / - / 7 on 1 to 1 on 0 over";
+    let node = adversary(rt.alloc(), Format::One, line, 3).expect(&rt, "a node");
+    let placed = [
+        Placement {
+            load: 1,
+            next: Then::To(1),
+        },
+        Placement {
+            load: 0,
+            next: Then::Over,
+        },
+    ];
+    assert!(rt; are(&node.loads, &node.items, &[1, 0], &[1]));
+    assert!(rt; sends(&node.step, 12, &[&[10, 1], &[], &[7]], &placed));
+}
+
+#[test]
+fn a_burst_has_the_parts_of_its_line(rt: HostRuntime) {
+    let line = b"0 loads 2 0 items 1 1 burst 20 3 pack 3 3 / 1 1";
+    let node = adversary(rt.alloc(), Format::Two, line, 0).expect(&rt, "a node");
+    assert!(rt; sends_burst(&node.step, 20, 3, &[&[3, 3], &[1, 1]]));
+}
+
+#[test]
+fn a_node_of_the_algorithm_has_the_parts_of_its_line(rt: HostRuntime) {
     let line = b"7 loads 3 1 items 1 1 2 reply 1 on 1 to 4 2 on 3 to 6";
-    let node = parse_algorithm(rt.alloc(), Format::One, line, 7)?.ok_or("a node")?;
-    let AlgNode { loads, items, act } = node;
-    assert_eq!(rt; loads.as_slice(), [3, 1].as_slice());
-    assert_eq!(rt; items.as_slice(), [1, 1, 2].as_slice());
-    match act {
-        Act::Reply(entries) => same_entries(&rt, entries.as_slice()),
-        _ => return Err("no replies".into()),
-    }
-    Ok(())
+    let node = algorithm(rt.alloc(), Format::One, line, 7).expect(&rt, "a node");
+    let given = [
+        Entry {
+            size: 1,
+            load: 1,
+            to: 4,
+        },
+        Entry {
+            size: 2,
+            load: 3,
+            to: 6,
+        },
+    ];
+    assert!(rt; are(&node.loads, &node.items, &[3, 1], &[1, 1, 2]));
+    assert!(rt; replies(&node.act, &given));
 }
 
 #[test]
-fn a_node_is_read_in_place_of_the_last_one(rt: HostRuntime) -> Result<(), Fail> {
-    let alloc = rt.alloc();
-    let mut node = AdvNode::empty(alloc);
-    let burst = b"0 loads 2 1 0 items 1 1 1 burst 20 3 pack 3 3 / 1 1";
-    assert!(rt; read_adversary(alloc, Format::Two, burst, 0, &mut node)?);
-    let send = b"1 loads 1 0 items - send 12 pack 1 / - on 1 to 0";
-    assert!(rt; read_adversary(alloc, Format::One, send, 1, &mut node)?);
-    assert_eq!(rt; node.loads.as_slice(), [1, 0].as_slice());
-    assert!(rt; node.items.is_empty());
-    assert!(rt; !read_adversary(alloc, Format::One, burst, 0, &mut node)?);
-
-    let mut node = AlgNode::empty(alloc);
-    let reply = b"0 loads 3 1 items 1 1 2 reply 1 on 1 to 4 2 on 3 to 6";
-    assert!(rt; read_algorithm(alloc, Format::One, reply, 0, &mut node)?);
-    assert!(rt;
-        read_algorithm(
-            alloc,
-            Format::One,
-            b"1 loads 1 items 1 finish",
-            1,
-            &mut node
-        )?
-    );
-    assert_eq!(rt; node.loads.as_slice(), [1].as_slice());
-    assert_eq!(rt; node.items.as_slice(), [1].as_slice());
-    assert!(rt; matches!(node.act, Act::Finish));
-    Ok(())
-}
-
-#[test]
-fn a_node_that_keeps_bins_has_their_number(rt: HostRuntime) -> Result<(), Fail> {
+fn a_node_that_keeps_bins_has_their_number(rt: HostRuntime) {
     let line = b"0 loads 2 2 items 2 2 big 1";
-    let node = parse_algorithm(rt.alloc(), Format::Two, line, 0)?.ok_or("a node")?;
-    let AlgNode { act, .. } = node;
-    match act {
-        Act::Big(kept) => assert_eq!(rt; kept, 1),
-        _ => return Err("no big finish".into()),
-    }
-    Ok(())
+    let node = algorithm(rt.alloc(), Format::Two, line, 0).expect(&rt, "a node");
+    assert!(rt; matches!(node.act, Act::Big(1)));
+}
+
+fn reads_adversary(alloc: Global, format: Format, line: &[u8], node: &mut AdvNode) -> bool {
+    read_adversary(alloc, format, line, 0, node) == Ok(true)
+}
+
+fn reads_algorithm(alloc: Global, line: &[u8], node: &mut AlgNode) -> bool {
+    read_algorithm(alloc, Format::One, line, 0, node) == Ok(true)
+}
+
+#[test]
+fn a_node_of_the_adversary_is_read_in_place_of_the_last_one(rt: HostRuntime) {
+    let mut node = AdvNode::empty(rt.alloc());
+    let burst = b"0 loads 2 1 0 items 1 1 1 burst 20 3 pack 3 3 / 1 1";
+    assert!(rt; reads_adversary(rt.alloc(), Format::Two, burst, &mut node));
+    let send = b"0 loads 1 0 items - send 12 pack 1 / - on 1 to 0";
+    assert!(rt; reads_adversary(rt.alloc(), Format::One, send, &mut node));
+    assert!(rt; are(&node.loads, &node.items, &[1, 0], &[]));
+    assert!(rt; !reads_adversary(rt.alloc(), Format::One, burst, &mut node));
+}
+
+#[test]
+fn a_node_of_the_algorithm_is_read_in_place_of_the_last_one(rt: HostRuntime) {
+    let mut node = AlgNode::empty(rt.alloc());
+    let reply = b"0 loads 3 1 items 1 1 2 reply 1 on 1 to 4 2 on 3 to 6";
+    assert!(rt; reads_algorithm(rt.alloc(), reply, &mut node));
+    assert!(rt; reads_algorithm(rt.alloc(), b"0 loads 1 items 1 finish", &mut node));
+    assert!(rt; are(&node.loads, &node.items, &[1], &[1]));
+    assert!(rt; matches!(node.act, Act::Finish));
 }
 
 #[test]
 fn the_lines_of_a_head_are_read_exactly(rt: HostRuntime) {
-    assert_eq!(rt; parse_first(b"stretch 1"), Some(Format::One));
-    assert_eq!(rt; parse_first(b"stretch 2"), Some(Format::Two));
-    assert_eq!(rt; parse_first(b"stretch 3"), None);
-    assert_eq!(rt; parse_first(b"stretch 1 "), None);
-    assert!(rt; parse_end(b"end"));
-    assert!(rt; !parse_end(b"end\r"));
-    assert_eq!(rt; parse_side(b"side adversary"), Some(Side::Adversary));
-    assert_eq!(rt; parse_side(b"side algorithm"), Some(Side::Algorithm));
-    assert_eq!(rt; parse_side(b"side player"), None);
+    for (line, format) in [
+        ("stretch 1", Some(Format::One)),
+        ("stretch 2", Some(Format::Two)),
+        ("stretch 3", None),
+        ("stretch 1 ", None),
+    ] {
+        assert!(rt; parse_first(line.as_bytes()) == format);
+    }
+    for (line, side) in [
+        ("side adversary", Some(Side::Adversary)),
+        ("side algorithm", Some(Side::Algorithm)),
+        ("side player", None),
+    ] {
+        assert!(rt; parse_side(line.as_bytes()) == side);
+    }
+    for (line, end) in [("end", true), ("end\r", false)] {
+        assert!(rt; parse_end(line.as_bytes()) == end);
+    }
 }
 
 #[test]
 fn the_numbers_of_a_game_are_read_exactly(rt: HostRuntime) {
-    assert_eq!(rt; parse_game(b"game 2 3 4"), Some((2, 3, 4)));
-    assert_eq!(rt; parse_game(b"game 0 65535 10"), Some((0, 65535, 10)));
-    for line in [
-        "game 2 65536 4",
-        "game 2 3",
-        "game 2 3 4 5",
-        "game 2 03 4",
-        "game  2 3 4",
+    for (line, numbers) in [
+        ("game 2 3 4", Some((2, 3, 4))),
+        ("game 0 65535 10", Some((0, 65535, 10))),
+        ("game 2 65536 4", None),
+        ("game 2 3", None),
+        ("game 2 3 4 5", None),
+        ("game 2 03 4", None),
+        ("game  2 3 4", None),
     ] {
-        assert_eq!(rt; parse_game(line.as_bytes()), None, "{line}");
+        assert!(rt; parse_game(line.as_bytes()) == numbers, "{line}");
     }
 }
 
 #[test]
 fn a_number_of_nodes_is_from_1_to_4_000_000_000(rt: HostRuntime) {
-    assert_eq!(rt; parse_nodes(b"nodes 1"), Some(1));
-    assert_eq!(rt; parse_nodes(b"nodes 4000000000"), Some(4_000_000_000));
-    for line in [
-        "nodes 4000000001",
-        "nodes 0",
-        "nodes 05",
-        "nodes 5 ",
-        "nodes",
+    for (line, nodes) in [
+        ("nodes 1", Some(1)),
+        ("nodes 4000000000", Some(4_000_000_000)),
+        ("nodes 4000000001", None),
+        ("nodes 0", None),
+        ("nodes 05", None),
+        ("nodes 5 ", None),
+        ("nodes", None),
     ] {
-        assert_eq!(rt; parse_nodes(line.as_bytes()), None, "{line}");
+        assert!(rt; parse_nodes(line.as_bytes()) == nodes, "{line}");
     }
 }
 
 #[test]
-fn rules_and_sides_have_their_words(rt: HostRuntime) -> Result<(), Fail> {
-    let printed = format!(in rt.alloc();
-        "{:?} {:?} {:?}",
-        Rule::Game,
-        Side::Adversary,
-        Format::Two
-    )?;
-    assert_eq!(rt; printed.as_str(), "Game Adversary Two");
-    assert_eq!(rt; Side::Adversary.word(), "adversary");
-    assert_eq!(rt; Side::Algorithm.word(), "algorithm");
-    assert_eq!(rt; Rule::Placements.word(), "placements");
-    assert_eq!(rt; Rule::Replies.word(), "replies");
+fn rules_and_sides_have_their_words(rt: HostRuntime) {
+    assert!(rt; Side::Adversary.word() == "adversary");
+    assert!(rt; Side::Algorithm.word() == "algorithm");
+    assert!(rt; Rule::Placements.word() == "placements");
+    assert!(rt; Rule::Replies.word() == "replies");
     assert!(rt; Rule::Reply != Rule::Replies);
-    Ok(())
 }

@@ -13,7 +13,7 @@ use std::hash::Hash;
 use std::marker::Model;
 
 // For how many entries a new table has room.
-const FIRST_ROOM: usize = 8;
+const FIRST_ROOM: usize = 16;
 
 /// A map of at most so many entries. Each entry has a mark, which a look-up sets. At capacity a hand goes round the
 /// entries, clears marks and drops the first entry without one for a new key. Memory is taken as entries come.
@@ -120,7 +120,7 @@ fn has_room<K: Eq + Hash, V>(map: &IndexMap<K, V>, clock: &Clock) -> bool
     map.len() < map.capacity() && clock.has_room()
 }
 
-// Makes room for about three times as many entries, but for no more than one beyond the capacity.
+// Makes room for about four times as many entries, but for no more than one beyond the capacity.
 fn make_room<K: Eq + Hash, V>(
     map: &mut IndexMap<K, V>,
     clock: &mut Clock,
@@ -140,11 +140,11 @@ fn make_room<K: Eq + Hash, V>(
 // How many entries to make room for, where there are so many.
 fn more_room(number: usize, capacity: usize) -> usize
     requires within { number ≤ capacity }
-    requires low { number < 2 ^ 63 }
     ensures some { 0 < result }
     ensures within { result ≤ capacity - number + 1 }
 {
-    (2 * number)
+    number
+        .saturating_mul(3)
         .max(FIRST_ROOM)
         .min((capacity - number).saturating_add(1))
 }

@@ -6,7 +6,6 @@ use Rattle.std.proofs.lemmas.List.{length-set, length_push, take_all}
 use Rattle.std.proofs.Math.Seq.{take-suc-set}
 use Rattle.std.proofs.lemmas.List.Elements.{All-contains, All-nil, All-weaker}
 use Rattle.items.proofs.MultisetLemmas.{sum-put_ascending}
-use Rattle.loads.proofs.DistinctLemmas.{length-distinct-le}
 use Rattle.loads.specs.After.{after}
 use Rattle.loads.specs.Descending.{distinct}
 use Rattle.loads.specs.Packed.{are_equal}
@@ -247,9 +246,9 @@ try_size-try_load-requires g t c κs l =
           (
             i.went.sound,
             (
-              opens_load c.args.game.now c.args.pass c.args.search.now c.loop-i.search c.args.position.now c.args.size c.loop-i.i c.distinct_at-load.result
-                  (g.M.Memo.entries c.loop-i.memo) c.requires.from_size i.went i.won (omega (arith, c.loop-i-test.true, c.distinct_count-count.ensures.value))
-                  c.distinct_at-load.ensures.value c.distinct_at-load.ensures.member,
+              opens_load c.args.game.now c.args.pass c.args.search.now c.loop-i.search c.args.position.now c.args.size c.loop-i.i c.load_at-load.result
+                  (g.M.Memo.entries c.loop-i.memo) c.requires.from_size i.went i.won (omega (arith, c.loop-i-test.true, c.count_of-count.ensures.value))
+                  c.load_at-load.ensures.value c.load_at-load.ensures.member,
               (
                 c.requires.may_come,
                 spare_after c.args.game.now 0 0 c.args.search.now c.loop-i.search (g.M.Memo.entries c.args.memo.now) (g.M.Memo.entries c.loop-i.memo)
@@ -261,21 +260,11 @@ try_size-try_load-requires g t c κs l =
       ),
     )
 
-pub try_size-bounds-placements-i : goal.try_size-bounds-placements-i
-try_size-bounds-placements-i g t c = omega (
-  arith,
-  c.loop-i-test.true,
-  c.distinct_count-count.ensures.value,
-  length-distinct-le c.args.position.now.loads,
-  c.requires.from_size.stands.playable.loads.one_each,
-  c.game_is_legal.ensures.bins.high,
-)
-
 pub try_size-returns-in-Answers-clause-found : goal.try_size-returns-in-Answers-clause-found
 try_size-returns-in-Answers-clause-found g t c =
     let game = c.args.game.now in
     let i = c.loop-i.invariant in
-    let load = c.distinct_at-load.result in
+    let load = c.load_at-load.result in
     let e1 = g.M.Memo.entries c.loop-i.memo in
     let e2 = g.M.Memo.entries c.try_load.new.memo in
     let bound : ℕ = get_or (game.target ∷ distinct c.args.position.now.loads) c.loop-i.i 0 in
@@ -283,10 +272,10 @@ try_size-returns-in-Answers-clause-found g t c =
     c.try_load.new.search e1 e2
     i.went c.in_ok-next.ensures.found.0 in
     let opened = opens_load game c.args.pass c.args.search.now c.loop-i.search c.args.position.now c.args.size c.loop-i.i load e1 c.requires.from_size i.went i.won
-    (omega (arith, c.loop-i-test.true, c.distinct_count-count.ensures.value)) c.distinct_at-load.ensures.value c.distinct_at-load.ensures.member in
+    (omega (arith, c.loop-i-test.true, c.count_of-count.ensures.value)) c.load_at-load.ensures.value c.load_at-load.ensures.member in
     let came = subst (HasReached game c.args.pass c.try_load.new.search c.args.position.now c.args.size load) c.in-Answers.is c.in_ok-next.ensures.found.1 in (
       past_size game c.args.pass c.args.search.now c.try_load.new.search c.args.position.now c.args.size load e2 c.requires.may_come.packable went,
-      (c.distinct_at-load.ensures.member, came.0, came.1, came.2, opened.larger_loads),
+      (c.load_at-load.ensures.member, came.0, came.1, came.2, opened.larger_loads),
     )
 
 pub try_size-returns-in-Answers-clause-serves : goal.try_size-returns-in-Answers-clause-serves
@@ -295,7 +284,7 @@ try_size-returns-in-Answers-clause-serves g t c =
     let s2 = c.try_load.new.search in
     let e1 = g.M.Memo.entries c.loop-i.memo in
     let e2 = g.M.Memo.entries c.try_load.new.memo in
-    let load = c.distinct_at-load.result in
+    let load = c.load_at-load.result in
     let next = subst (λ r. KeepsServing c.args.game.now 0 s1 e1 s2 e2 (λ later. IsServedAt c.args.game.now later c.args.position.now c.args.size load r))
     c.in-Answers.is c.in_ok-next.ensures.serves in
     KeepsServing-then c.args.game.now 0 0 0 c.args.search.now s1 s2 (g.M.Memo.entries c.args.memo.now) e1 e2 (λ later. Unit {0}) _ refl c.loop-i.invariant.serves next
@@ -305,7 +294,7 @@ try_size-loop-i-preserved g t c =
     let game = c.args.game.now in
     let p = c.args.position.now in
     let i = c.loop-i.invariant in
-    let load = c.distinct_at-load.result in
+    let load = c.load_at-load.result in
     let e1 = g.M.Memo.entries c.loop-i.memo in
     let e2 = g.M.Memo.entries c.try_load.new.memo in
     let ds : List ℕ = distinct p.loads in
@@ -313,20 +302,12 @@ try_size-loop-i-preserved g t c =
     let past = c.args.search.now.path ++ moved c.args.size bound ∷ [] in
     let went = WentOn-then game c.args.pass c.args.size load past c.args.search.now c.loop-i.search c.try_load.new.search e1 e2 i.went c.in_ok-next.ensures.found.0 in
     let came = subst (HasReached game c.args.pass c.try_load.new.search p c.args.size load) c.in-ByNext.is c.in_ok-next.ensures.found.1 in
-    let here : load ≡ get_or ds c.loop-i.i 0 = c.distinct_at-load.ensures.value in
+    let here : load ≡ get_or ds c.loop-i.i 0 = c.load_at-load.ensures.value in
     let next : get_or (game.target ∷ ds) (c.loop-i.i + 1) 0 ≡ get_or ds c.loop-i.i 0 = next_bound game.target ds c.loop-i.i in
     let placed : Placement = record { load = load; next = c.in-ByNext.next } in
     let made : List Placement = set c.loop-i.placements c.loop-i.i placed in
     let one : c.loop-i.i + 1 ≡ suc c.loop-i.i = omega arith in
-    let within : c.loop-i.i < length c.loop-i.placements = omega (
-      arith,
-      c.loop-i-test.true,
-      c.distinct_count-count.ensures.value,
-      length-distinct-le p.loads,
-      c.requires.from_size.stands.playable.loads.one_each,
-      c.game_is_legal.ensures.bins.high,
-      i.number,
-    ) in
+    let within : c.loop-i.i < length c.loop-i.placements = omega (arith, c.loop-i-test.true, c.count_of-count.ensures.few, i.number) in
     let before = take c.loop-i.i c.loop-i.placements in
     let after_it = take (c.loop-i.i + 1) made in
     let put : after_it ≡ before ++ placed ∷ [] = ap (λ k. take k made) one ∙ take-suc-set c.loop-i.placements c.loop-i.i placed within in
@@ -339,7 +320,7 @@ try_size-loop-i-preserved g t c =
       places = placed_more game c.args.pass p c.loop-i.i load c.in-ByNext.next before after_it here (omega (
         arith,
         c.loop-i-test.true,
-        c.distinct_count-count.ensures.value,
+        c.count_of-count.ensures.value,
       )) i.places
           put;
       each = follows_more game c.args.pass c.loop-i.search c.try_load.new.search p c.args.size load c.in-ByNext.next before after_it e2
@@ -353,13 +334,13 @@ try_size-returns-clause-found g t c =
     let game = c.args.game.now in
     let i = c.loop-i.invariant in
     let ds : List ℕ = distinct c.args.position.now.loads in
-    let end : c.loop-i.i ≡ c.distinct_count-count.result = omega (arith, c.loop-i-test.false, c.loop-i.auto.i-end) in
+    let end : c.loop-i.i ≡ c.count_of-count.result = omega (arith, c.loop-i-test.false, c.loop-i.auto.i-end) in
     let made = c.in_ok-placements.ensures ∙ sym (ap (λ k. take k c.loop-i.placements) end) in
     let bound : ℕ = get_or (game.target ∷ ds) c.loop-i.i 0 in (
       past_size game c.args.pass c.args.search.now c.loop-i.search c.args.position.now c.args.size bound (g.M.Memo.entries c.loop-i.memo) c.requires.may_come.packable i.went,
       (
         ap (map (λ (placement : Placement). placement.load)) made ∙ i.places
-            ∙ take_all c.loop-i.i ds (omega (arith, c.loop-i-test.false, c.distinct_count-count.ensures.value)),
+            ∙ take_all c.loop-i.i ds (omega (arith, c.loop-i-test.false, c.count_of-count.ensures.value)),
         subst (All (FollowsUp game c.args.pass c.loop-i.search c.args.position.now c.args.size)) (sym made) i.each,
       ),
     )
@@ -390,15 +371,18 @@ weigh-try_size-requires g t c κs l = (
     (
       c.requires.of_key,
       (
-        c.requires.sound,
+        c.requires.of_loads,
         (
-          c.requires.from_size,
+          c.requires.sound,
           (
-            may_come_allowed c.args.game.now c.args.pass c.args.position.now c.args.size c.requires.may_come
-                (c.allows.ensures.exact.0 c.if-not-allows.false),
+            c.requires.from_size,
             (
-              c.requires.behind.0,
-              IsBehind-less c.args.game.now 1 0 c.requires.behind.0 c.args.search.now (g.M.Memo.entries c.args.memo.now) (omega arith) c.requires.behind.1,
+              may_come_allowed c.args.game.now c.args.pass c.args.position.now c.args.size c.requires.may_come
+                  (c.allows.ensures.exact.0 c.if-not-allows.false),
+              (
+                c.requires.behind.0,
+                IsBehind-less c.args.game.now 1 0 c.requires.behind.0 c.args.search.now (g.M.Memo.entries c.args.memo.now) (omega arith) c.requires.behind.1,
+              ),
             ),
           ),
         ),
@@ -498,14 +482,17 @@ weigh_all-weigh-requires g t c κs l =
         (
           c.requires.of_key,
           (
-            i.went.sound,
+            ap (λ n. take n c.distinct_loads-found.result) c.distinct_count-count.ensures.value ∙ c.distinct_loads-found.ensures.loads,
             (
-              opens_size game c.args.pass c.args.search.now c.loop-tried.search c.args.position.now c.args.room size (g.M.Memo.entries c.loop-tried.memo)
-                  c.requires.from_room i.went i.none,
+              i.went.sound,
               (
-                Packable-from_room game c.args.position.now.items c.args.room size c.requires.is_room (omega (arith, c.loop-tried-test.true)) (omega arith),
-                spare_after c.args.game.now 1 0 c.args.search.now c.loop-tried.search (g.M.Memo.entries c.args.memo.now) (g.M.Memo.entries
-                    c.loop-tried.memo) _ i.serves c.requires.behind,
+                opens_size game c.args.pass c.args.search.now c.loop-tried.search c.args.position.now c.args.room size (g.M.Memo.entries c.loop-tried.memo)
+                    c.requires.from_room i.went i.none,
+                (
+                  Packable-from_room game c.args.position.now.items c.args.room size c.requires.is_room (omega (arith, c.loop-tried-test.true)) (omega arith),
+                  spare_after c.args.game.now 1 0 c.args.search.now c.loop-tried.search (g.M.Memo.entries c.args.memo.now) (g.M.Memo.entries
+                      c.loop-tried.memo) _ i.serves c.requires.behind,
+                ),
               ),
             ),
           ),
