@@ -1,4 +1,4 @@
-use Rattle.std.proofs.Common.{◌≡◌, length, ap, arith}
+use Rattle.std.proofs.Common.{length, ap, arith}
 use Rattle.loads.proofs.DistinctLemmas.{length-distinct-le}
 use Rattle.minimax.proofs.distinct_loads.count_of.Goals as goal
 

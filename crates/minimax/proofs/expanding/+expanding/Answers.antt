@@ -1,27 +1,25 @@
-use Rattle.std.proofs.Common.{◌≡◌, ◌∙◌, ◌+◌, ◌-◌, ◌<◌, ◌≤◌, ◌⊎◌, ◌++◌, ◌∷◌, [], ℕ, List, Some, None, length}
-use Rattle.std.proofs.Common.{get_or, map, set, suc, take, sum, refl, sym, ap, subst, inl, inr, arith, below_more, Vec, Global}
+use Rattle.std.proofs.Common.{◌≡◌, ◌∙◌, ◌+◌, ◌-◌, ◌<◌, ◌≤◌, ◌⊎◌, ◌++◌, ◌∷◌, [], ℕ, List, length}
+use Rattle.std.proofs.Common.{get_or, map, set, suc, take, sum, refl, sym, ap, subst, arith, below_more, Vec, Global}
 use Rattle.std.specs.Prelude.{All, Err, IsTrue}
 use Rattle.std.proofs.lemmas.Bool.{false≢true, true≢false}
 use Rattle.std.proofs.lemmas.List.{length-set, length_push, take_all}
 use Rattle.std.proofs.Math.Seq.{take-suc-set}
-use Rattle.std.proofs.lemmas.List.Elements.{All-contains, All-nil, All-weaker}
+use Rattle.std.proofs.lemmas.List.Elements.{All-contains, All-nil}
 use Rattle.items.proofs.MultisetLemmas.{sum-put_ascending}
 use Rattle.loads.specs.After.{after}
 use Rattle.loads.specs.Descending.{distinct}
-use Rattle.loads.specs.Packed.{are_equal}
 use Rattle.loads.specs.declared.position.Position.{Position}
 use Rattle.monotone.specs.Paths.{moved}
 use Rattle.monotone.specs.Visits.{Metered, visit}
 use Rattle.packing_witness.proofs.PackingLemmas.{size_of_last, le_room, Packable-from_room}
 use Rattle.strategy_text.specs.declared.node.Entry.{Entry}
 use Rattle.strategy_text.specs.declared.node.Placement.{Placement}
-use Rattle.transposition.specs.Bounded.{Puts}
 use Rattle.transposition.specs.Memo.{verdict_of}
 use Rattle.minimax.specs.Fresh.{CountsFresh, IsShort, progress}
 use Rattle.good_situations.specs.Finish.{Finishes}
 use Rattle.minimax.specs.State.{AreOfAll, FindsVerdict, FollowsUp, HasReached, HasTried, HasWeighed, IsBound, IsPending, IsTold, IsWonIn, StandsAtPath, WentOn}
 use Rattle.minimax.specs.State.{allowed_by, numbers_down}
-use Rattle.minimax.specs.Serving.{IsEntryServed, IsServedAt, IsServedBy, IsServedFor, IsServedWith, KeepsServing, KeepsServingTold, led_to, taken_by}
+use Rattle.minimax.specs.Serving.{IsEntryServed, IsServedAt, IsServedBy, IsServedFor, IsServedWith, KeepsServing, KeepsServingTold, taken_by}
 use Rattle.minimax.specs.declared.finish_nodes.TheConstants.{FINISHES}
 use Rattle.transposition.specs.declared.verdict.Verdict.TheVariants.{Adversary, Algorithm, Held}
 use Rattle.minimax.proofs.PlayableLemmas.{child_is, total_with}
