@@ -2,7 +2,7 @@
 use Rattle.std.proofs.Common.{◌≡◌, ◌==◌, ◌≤◌, ℕ, List, [], ◌∷◌, ◌++◌, length, get_or, take, drop, codes}
 use Rattle.std.proofs.Common.{Option, Some, None, inl, inr, refl, ap, sym, subst, ◌∙◌, arith, append_assoc, append-nil, take-append-drop}
 use Rattle.std.proofs.lemmas.List.{append_cancel_left}
-use Rattle.std.specs.Prelude.{unwrap_or, IfSome, ◌↔◌, if◌then◌else◌}
+use Rattle.std.specs.Prelude.{unwrap_or, if◌then◌else◌}
 use Rattle.std.proofs.lemmas.List.{length-map}
 use Rattle.std.specs.Io.KnownBytes.{append_known}
 use Rattle.port_io.specs.Told.{AppendsSome}
@@ -25,7 +25,7 @@ use Rattle.algorithm_graph.proofs.ReplayLemmas.{replies_are_an_algorithm}
 use Rattle.checker.specs.Head.{AreLegalNodes}
 use Rattle.checker.specs.declared.fault.Accepted.{Accepted}
 use Rattle.checker.specs.Accepted.{Accepts, Loads}
-use Rattle.checker.specs.FirstFault.{FirstFault, IsLegalText}
+use Rattle.checker.specs.FirstFault.{IsLegalText}
 use Rattle.checker.specs.declared.fault.Wanted.{Wanted}
 use Rattle.checker.specs.declared.fault.Wanted.TheVariants.{Either, Only}
 use Rattle.checker.proofs.ForcedLemmas as forced

@@ -1,6 +1,6 @@
 -- What a format writes is the line that is due.
 use Rattle.std.proofs.Common.{◌≡◌, ◌==◌, ◌≤◌, ◌<◌, ◌+◌, zero, get_or, false, suc, arith, ℕ, List, [], ◌∷◌, ◌++◌}
-use Rattle.std.proofs.Common.{ap, append_assoc, length, take, Result, Ok, Err, IfOk, String, string_bytes, decimal, codes, refl, sym, subst, ◌∙◌}
+use Rattle.std.proofs.Common.{ap, length, take, Result, Ok, Err, IfOk, String, string_bytes, decimal, codes, refl, sym, subst, ◌∙◌}
 use Rattle.std.specs.declared.alloc.Global.{Global}
 use Rattle.std.specs.declared.alloc.AllocError.{AllocError}
 use Rattle.std.proofs.lemmas.List.Concat.{flat_map_single}

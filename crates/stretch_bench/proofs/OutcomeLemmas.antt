@@ -1,17 +1,14 @@
 -- What the work of a command comes to.
-use Rattle.std.proofs.Common.{◌≡◌, ◌⊎◌, ◌*◌, ◌≤◌, ◌<◌, ◌+◌, ◌-◌, ℕ, List, [], length, map, get_or}
+use Rattle.std.proofs.Common.{◌≡◌, ◌⊎◌, ◌*◌, ◌≤◌, ◌<◌, ◌+◌, ◌-◌, ℕ, List, [], length}
 use Rattle.std.proofs.Common.{Option, Some, Result, Ok, Err, IfOk, inl, inr, sym, ap, subst, refl, ◌∙◌, arith}
 use Rattle.std.specs.Prelude.{slice_get, All, MatchOption}
-use Rattle.std.proofs.lemmas.List.{length-map, take_all}
+use Rattle.std.proofs.lemmas.List.{take_all}
 use Rattle.std.proofs.lemmas.Option.{slice_get_within}
 use Rattle.items.specs.Game.{GameNumbers}
 use Rattle.items.specs.Multiset.{sizes_of}
 use Rattle.items.specs.Packable.{Packable}
-use Rattle.online_play.specs.Algorithm.{run}
 use Rattle.online_play.specs.declared.transcript.Transcript.{Transcript}
 use Rattle.strategy_text.specs.Text.{side_of}
-use Rattle.strategy_text.specs.declared.node.AdvNode.{AdvNode}
-use Rattle.strategy_text.specs.declared.node.AlgNode.{AlgNode}
 use Rattle.strategy_text.specs.declared.node.Format.{Format}
 use Rattle.strategy_text.specs.declared.node.Nodes.{Nodes}
 use Rattle.strategy_text.specs.declared.node.Nodes.TheVariants as nodes_of_side
@@ -37,13 +34,13 @@ use Rattle.monotone.specs.Visits.{most_visits}
 use Rattle.monotone.specs.declared.path.PathMove.{PathMove}
 use Rattle.loads.specs.Wins.{IsWon, empty_position}
 use Rattle.strategy_text.specs.Spelling.{IsSpellable}
-use Rattle.checker.specs.Accepted.{Loads, IsFaultOf, IsInterrupted}
+use Rattle.checker.specs.Accepted.{Loads, IsFaultOf}
 use Rattle.checker.specs.declared.fault.CheckFault.{CheckFault}
 use Rattle.checker.specs.declared.fault.CheckFault.TheVariants as check_fault
 use Rattle.checker.specs.declared.fault.Wanted.{Wanted}
 use Rattle.checker.specs.declared.fault.Wanted.TheVariants.{Either, Only}
 use Rattle.checker.specs.declared.fault.Why.{Why}
-use Rattle.match_player.specs.Answers.{IsLeastUnpackable, answered_by}
+use Rattle.match_player.specs.Answers.{answered_by}
 use Rattle.match_player.specs.declared.answered.Answered.{Answered}
 use Rattle.match_player.specs.Lines.{play_text, answer_text}
 use Rattle.stretch_bench.specs.declared.command.Command.{Command}
@@ -52,11 +49,10 @@ use Rattle.stretch_bench.specs.declared.due.Due.{Due}
 use Rattle.stretch_bench.specs.declared.status.Status.{Status}
 use Rattle.stretch_bench.specs.declared.status.Status.TheVariants.{Done, Rejected, Usage, Undecided, ReadFault, WriteFault, OutOfMemory, Unpackable}
 use Rattle.stretch_bench.specs.Due.{IsAnswerOf, IsCanonicalText, IsDue, IsFaulty, IsFound, IsOutcome, IsPlayOf}
-use Rattle.stretch_bench.specs.Due.{IsRead, IsRejected, IsSummaryOf, IsUndecided, IsUnpackable, drilled, wanted_by}
-use Rattle.stretch_bench.specs.Lines.{rejected_line, undecided_line, unpackable_line, usage_line}
+use Rattle.stretch_bench.specs.Due.{IsRejected, IsSummaryOf, IsUndecided, drilled, wanted_by}
+use Rattle.stretch_bench.specs.Lines.{rejected_line, undecided_line}
 use Rattle.stretch_bench.specs.Outcomes.{IsAnswered, IsFaultLine, IsFoundBy, IsInRange, IsReply, IsSearched}
 use Rattle.stretch_bench.specs.Words.{Spells, SpellsNone}
-use Rattle.stretch_bench.proofs.WordLemmas.{named_at}
 
 -- what a command that is spelled names is in range
 pub in_range : (names words : List (List ℕ)) (number : ℕ) (command : Command) → length names ≡ number → Spells names words command → IsInRange number command

@@ -1,7 +1,7 @@
 -- Words and the commands that they spell.
-use Rattle.std.proofs.Common.{suc, ◌≡◌, ◌≢◌, ◌-◌, ◌^◌, true, false, Result, Ok, Err, IsTrue, ◌⊎◌, Bool, Option, Some, None, ⊎_elim, ◌<◌, ◌≤◌, ◌+◌}
-use Rattle.std.proofs.Common.{ℕ, All, List, [], ◌∷◌, ◌++◌, length, get_or, take, drop, map, codes, decimal, String, string_bytes, sym, ap, refl, ◌∙◌, subst, arith}
-use Rattle.std.proofs.lemmas.List.{take_more, take_all, get_or-map, length-map}
+use Rattle.std.proofs.Common.{◌≡◌, ◌≢◌, ◌-◌, ◌^◌, true, false, Result, Ok, Err, IsTrue, ◌⊎◌, Bool, Option, Some, None, ⊎_elim, ◌<◌, ◌≤◌, ◌+◌}
+use Rattle.std.proofs.Common.{ℕ, All, List, [], ◌∷◌, length, get_or, take, drop, map, codes, decimal, String, string_bytes, sym, ap, refl, ◌∙◌, subst, arith}
+use Rattle.std.proofs.lemmas.List.{take_all, get_or-map, length-map}
 use Rattle.std.proofs.lemmas.List.Elements.{All-get_or}
 use Rattle.std.proofs.lemmas.Bool.{cases_lt}
 use Rattle.std.proofs.lemmas.Fmt.{decimal_injective, parse-decimal}
@@ -15,9 +15,8 @@ use Rattle.std.specs.Prelude.{slice_get, nat_eq, not, option_map, ◌↔◌, Mat
 use Rattle.std.specs.declared.alloc.Global.{Global}
 use Rattle.items.specs.Game.{GameNumbers, IsGame, numbers}
 use Rattle.items.specs.Multiset.{IsSize}
-use Rattle.stretch_bench.specs.declared.command.Command.{Command}
 use Rattle.stretch_bench.specs.declared.command.Command.TheVariants.{Check, Play, Answer, Minimise, Upgrade, Report, Drill, Search}
-use Rattle.stretch_bench.specs.Words.{spelling_of, Spells, SpellsNone, IsDrill, IsFirstNamed, IsGameOf, IsSearch, most_item}
+use Rattle.stretch_bench.specs.Words.{spelling_of, Spells, SpellsNone, IsDrill, IsFirstNamed, IsSearch, most_item}
 
 -- a text that differs from another in the test differs from it
 other_text : (read word other : List ℕ) → read ≡ word → false ≡ pointwise nat_eq read other → word ≡ other → ⊥

@@ -1,4 +1,4 @@
-use Rattle.std.proofs.Common.{sym, ◌∙◌, arith}
+use Rattle.std.proofs.Common.{sym, ◌∙◌}
 use Rattle.stretch_bench.proofs.WordLemmas.{no_game}
 use Rattle.stretch_bench.proofs.command.game_of.Goals as goal
 

@@ -1,4 +1,4 @@
-use Rattle.std.proofs.Common.{sym, ◌∙◌}
+use Rattle.std.proofs.Common.{◌∙◌}
 use Rattle.stretch_bench.proofs.LineLemmas.{undecided_text}
 use Rattle.stretch_bench.proofs.lines.line_of_undecided.Goals as goal
 
