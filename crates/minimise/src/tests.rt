@@ -1,8 +1,6 @@
 //! Worked strategies and their canonical forms.
 
-ghost use Rattle.std.specs.Prelude.{◌≡◌, IfOk};
-ghost use Rattle.adversary_graph.specs.Pools.{IsLegalOfAdversary};
-ghost use Rattle.algorithm_graph.specs.Pools.{IsLegalOfAlgorithm};
+ghost use Rattle.std.specs.Prelude.{◌≡◌};
 ghost use Rattle.strategy_text.specs.declared.node.Format.TheVariants.{Two};
 
 use crate::minimise;
@@ -12,11 +10,10 @@ use items::Game;
 use std::alloc::{AllocError, Global};
 use std::test::Fail;
 use strategy_text::{
-    Act, AdvNode, AlgNode, Entry, Format, Nodes, Placement, Step, Strategy, parse_adversary,
-    parse_algorithm,
+    Act, AdvNode, AlgNode, Entry, Format, Nodes, Placement, Step, parse_adversary, parse_algorithm,
 };
 
-const X: [&str; 5] = [
+const X: &[&str] = &[
     "0 loads 2 2 items 1 1 2 send 2 pack 1 2 / 1 2 on 2 over",
     "1 loads 2 0 items 1 1 send 2 pack 1 2 / 1 on 2 over on 0 to 0",
     "2 loads 1 1 items 1 1 send 3 pack 3 / 1 1 on 1 over",
@@ -25,7 +22,7 @@ const X: [&str; 5] = [
 ];
 
 // X with a copy of node 0 and a copy of node 2.
-const WITH_COPIES: [&str; 7] = [
+const WITH_COPIES: &[&str] = &[
     "0 loads 2 2 items 1 1 2 send 2 pack 1 2 / 1 2 on 2 over",
     "1 loads 2 2 items 1 1 2 send 2 pack 1 2 / 1 2 on 2 over",
     "2 loads 2 0 items 1 1 send 2 pack 1 2 / 1 on 2 over on 0 to 1",
@@ -36,7 +33,7 @@ const WITH_COPIES: [&str; 7] = [
 ];
 
 // The nodes of X in another order, with one more that nothing reaches and whose loads are those of another.
-const IN_ANOTHER_ORDER: [&str; 6] = [
+const IN_ANOTHER_ORDER: &[&str] = &[
     "0 loads 1 1 items 1 1 send 3 pack 3 / 1 1 on 1 over",
     "1 loads 2 2 items 1 1 1 1 send 2 pack 1 2 / 1 1 1 on 2 over",
     "2 loads 2 2 items 1 1 2 send 2 pack 1 2 / 1 2 on 2 over",
@@ -45,14 +42,14 @@ const IN_ANOTHER_ORDER: [&str; 6] = [
     "5 loads 0 0 items - send 1 pack 1 / - on 0 to 4",
 ];
 
-const BURSTS: [&str; 4] = [
+const BURSTS: &[&str] = &[
     "0 loads 2 0 items 1 1 burst 2 2 pack 1 2 / 1 2",
     "1 loads 1 1 items 1 1 burst 1 3 pack 3 / 1 1",
     "2 loads 1 0 items 1 send 1 on 1 to 0 on 0 to 1",
     "3 loads 0 0 items - send 1 on 0 to 2",
 ];
 
-const Y: [&str; 5] = [
+const Y: &[&str] = &[
     "0 loads 2 0 items 1 1 finish",
     "1 loads 2 1 items 1 2 finish",
     "2 loads 1 0 items 1 reply 1 on 1 to 0 2 on 0 to 1",
@@ -61,7 +58,7 @@ const Y: [&str; 5] = [
 ];
 
 // Y with its root twice.
-const WITH_TWO_ROOTS: [&str; 6] = [
+const WITH_TWO_ROOTS: &[&str] = &[
     "0 loads 2 0 items 1 1 finish",
     "1 loads 2 1 items 1 2 finish",
     "2 loads 1 0 items 1 reply 1 on 1 to 0 2 on 0 to 1",
@@ -72,71 +69,66 @@ const WITH_TWO_ROOTS: [&str; 6] = [
 
 #[test]
 fn an_adversary_s_nodes_are_distinct_and_in_post_order(rt: HostRuntime) -> Result<(), Fail> {
-    let x = of_adversary(&rt, Format::One, &X)?;
-    for lines in [
-        X.as_slice(),
-        WITH_COPIES.as_slice(),
-        IN_ANOTHER_ORDER.as_slice(),
+    for (format, lines, due) in [
+        (Format::One, X, X),
+        (Format::One, WITH_COPIES, X),
+        (Format::One, IN_ANOTHER_ORDER, X),
+        (Format::Two, BURSTS, BURSTS),
     ] {
-        let strategy = of_adversary(&rt, Format::One, lines)?;
-        let once = minimise(rt.alloc(), &strategy)?;
-        assert!(rt; are_same(&once, &x));
-        assert!(rt; are_same(&minimise(rt.alloc(), &once)?, &x));
+        assert!(rt; of_adversary(&rt, format, lines, due)?);
     }
-    let bursts = of_adversary(&rt, Format::Two, &BURSTS)?;
-    assert!(rt; are_same(&minimise(rt.alloc(), &bursts)?, &bursts));
     Ok(())
 }
 
 #[test]
 fn an_algorithm_s_nodes_are_distinct_and_in_post_order(rt: HostRuntime) -> Result<(), Fail> {
-    let y = of_algorithm(&rt, &Y)?;
-    for lines in [Y.as_slice(), WITH_TWO_ROOTS.as_slice()] {
-        let strategy = of_algorithm(&rt, lines)?;
-        assert!(rt; are_same(&minimise(rt.alloc(), &strategy)?, &y));
+    for lines in [Y, WITH_TWO_ROOTS] {
+        assert!(rt; of_algorithm(&rt, lines, Y)?);
     }
     Ok(())
 }
 
-// The strategy of these nodes for the game 2 3 4.
+// Whether the canonical form of the strategy of these nodes for the game 2 3 4 has the nodes that are due.
 fn of_adversary(
     rt: &(impl AllocGlobal + std::process::Abort),
     format: Format,
     lines: &[&str],
-) -> Result<Strategy, Fail>
-    ensures { IfOk result IsLegalOfAdversary }
-{
+    due: &[&str],
+) -> Result<bool, Fail> {
     let mut pool = AdvPool::new(rt.alloc(), &Game::new(2, 3, 4)?, format);
     for line in lines {
-        let node = parse_adversary(rt.alloc(), pool.format(), line.as_bytes(), pool.len())?;
-        put_adversary(rt, &mut pool, node.expect(rt, "a node"))?;
+        assert!(rt; put_adversary(rt.alloc(), &mut pool, line)?);
     }
     let root = pool.len().saturating_sub(1);
     assert!(rt; pool.is_root(root));
-    Ok(pool.into_strategy(root))
+    let made = minimise(rt.alloc(), &pool.into_strategy(root))?;
+    Ok(are_adversary(rt.alloc(), format, &made.nodes, due)?)
 }
 
-fn put_adversary(
-    rt: &(impl AllocGlobal + std::process::Abort),
-    pool: &mut AdvPool,
-    node: AdvNode,
-) -> Result<(), Fail> {
+// Puts the node of a line at the end of a pool; whether it meets its rules there.
+fn put_adversary(alloc: Global, pool: &mut AdvPool, line: &str) -> Result<bool, AllocError> {
     let format = pool.format();
-    assert!(rt; format == Format::Two || matches!(&node.step, Step::Send { .. }));
-    let fault = adversary_graph::node_fault(&pool.game(), format, pool.positions(), false, &node);
-    assert_eq!(rt; fault, None);
-    assert!(rt; pool.len() < 4_000_000_000);
-    let _number = pool.push(node)?;
-    Ok(())
+    let Some(node) = parse_adversary(alloc, format, line.as_bytes(), pool.len())? else {
+        return Ok(false);
+    };
+    if pool.len() >= 4_000_000_000 {
+        return Ok(false);
+    }
+    match adversary_graph::node_fault(&pool.game(), format, pool.positions(), false, &node) {
+        Some(_) => Ok(false),
+        None => {
+            pool.push(node)?;
+            Ok(true)
+        }
+    }
 }
 
-// The strategy of these nodes for the game 2 2 3.
+// Whether the canonical form of the strategy of these nodes for the game 2 2 3 has the nodes that are due.
 fn of_algorithm(
     rt: &(impl AllocGlobal + std::process::Abort),
     lines: &[&str],
-) -> Result<Strategy, Fail>
-    ensures { IfOk result IsLegalOfAlgorithm }
-{
+    due: &[&str],
+) -> Result<bool, Fail> {
     let mut pool = AlgPool::new(rt.alloc(), &Game::new(2, 2, 3)?, Format::Two);
     for line in lines {
         let node = parse_algorithm(rt.alloc(), Format::Two, line.as_bytes(), pool.len())?;
@@ -144,7 +136,8 @@ fn of_algorithm(
     }
     let root = pool.len().saturating_sub(1);
     assert!(rt; pool.is_root(root));
-    Ok(pool.into_strategy(root))
+    let made = minimise(rt.alloc(), &pool.into_strategy(root))?;
+    Ok(are_algorithm(rt.alloc(), &made.nodes, due)?)
 }
 
 // Puts a node at the end of a pool of format 2; whether it meets its rules there.
@@ -166,30 +159,30 @@ fn put_algorithm(alloc: Global, pool: &mut AlgPool, node: AlgNode) -> Result<boo
     }
 }
 
-// Whether two strategies have the same format and the same nodes, but for their packings.
-fn are_same(one: &Strategy, other: &Strategy) -> bool {
-    one.format == other.format
-        && match (&one.nodes, &other.nodes) {
-            (Nodes::Adversary(ones), Nodes::Adversary(others)) => {
-                are_same_adversary(ones.as_slice(), others.as_slice())
-            }
-            (Nodes::Algorithm(ones), Nodes::Algorithm(others)) => {
-                are_same_algorithm(ones.as_slice(), others.as_slice())
-            }
-            _ => false,
-        }
-}
-
-fn are_same_adversary(ones: &[AdvNode], others: &[AdvNode]) -> bool {
-    for (one, other) in ones.iter().zip(others) {
-        if one.loads.as_slice() != other.loads.as_slice()
-            || one.items.as_slice() != other.items.as_slice()
-            || placements(&one.step) != placements(&other.step)
-        {
-            return false;
+// Whether these are the nodes of these lines, but for their packings and the items that they send.
+fn are_adversary(
+    alloc: Global,
+    format: Format,
+    nodes: &Nodes,
+    lines: &[&str],
+) -> Result<bool, AllocError> {
+    let Nodes::Adversary(nodes) = nodes else {
+        return Ok(false);
+    };
+    let mut number = 0u32;
+    for (node, line) in nodes.as_slice().iter().zip(lines) {
+        match parse_adversary(alloc, format, line.as_bytes(), number)? {
+            Some(due) if is_same_adversary(node, &due) => number = number.wrapping_add(1),
+            _ => return Ok(false),
         }
     }
-    ones.len() == others.len()
+    Ok(nodes.len() == lines.len())
+}
+
+fn is_same_adversary(one: &AdvNode, other: &AdvNode) -> bool {
+    one.loads.as_slice() == other.loads.as_slice()
+        && one.items.as_slice() == other.items.as_slice()
+        && placements(&one.step) == placements(&other.step)
 }
 
 fn placements(step: &Step) -> &[Placement] {
@@ -199,16 +192,24 @@ fn placements(step: &Step) -> &[Placement] {
     }
 }
 
-fn are_same_algorithm(ones: &[AlgNode], others: &[AlgNode]) -> bool {
-    for (one, other) in ones.iter().zip(others) {
-        if one.loads.as_slice() != other.loads.as_slice()
-            || one.items.as_slice() != other.items.as_slice()
-            || entries(&one.act) != entries(&other.act)
-        {
-            return false;
+fn are_algorithm(alloc: Global, nodes: &Nodes, lines: &[&str]) -> Result<bool, AllocError> {
+    let Nodes::Algorithm(nodes) = nodes else {
+        return Ok(false);
+    };
+    let mut number = 0u32;
+    for (node, line) in nodes.as_slice().iter().zip(lines) {
+        match parse_algorithm(alloc, Format::Two, line.as_bytes(), number)? {
+            Some(due) if is_same_algorithm(node, &due) => number = number.wrapping_add(1),
+            _ => return Ok(false),
         }
     }
-    ones.len() == others.len()
+    Ok(nodes.len() == lines.len())
+}
+
+fn is_same_algorithm(one: &AlgNode, other: &AlgNode) -> bool {
+    one.loads.as_slice() == other.loads.as_slice()
+        && one.items.as_slice() == other.items.as_slice()
+        && entries(&one.act) == entries(&other.act)
 }
 
 fn entries(act: &Act) -> &[Entry] {
