@@ -109,75 +109,72 @@ fn put_algorithm(
     }
 }
 
-// The legal strategy of these nodes.
+// What a report tells: the side, the nodes, the depth, and the target over the capacity.
+type Told = (Side, u32, u16, u16, u16);
+
+fn told(report: &Report) -> Told {
+    (
+        report.side,
+        report.nodes,
+        report.depth,
+        report.top,
+        report.bottom,
+    )
+}
+
+// What the report of the strategy of these nodes tells.
 fn of_adversary(
     rt: &(impl AllocGlobal + std::process::Abort),
     game: &Game,
     format: Format,
     lines: &[&str],
-) -> Result<Strategy, Fail>
-    ensures { IfOk result IsLegalOfAdversary }
-{
+) -> Result<Told, Fail> {
     let mut pool = AdvPool::new(rt.alloc(), game, format);
     for line in lines {
         assert_eq!(rt; put_adversary(rt, &mut pool, line)?, None, "{line}");
     }
     let root = pool.len().saturating_sub(1);
     assert!(rt; pool.is_root(root));
-    Ok(pool.into_strategy(root))
+    Ok(told(&summarise(rt.alloc(), &pool.into_strategy(root))?))
 }
 
 fn of_algorithm(
     rt: &(impl AllocGlobal + std::process::Abort),
     game: &Game,
     lines: &[&str],
-) -> Result<Strategy, Fail>
-    ensures { IfOk result IsLegalOfAlgorithm }
-{
+) -> Result<Told, Fail> {
     let mut pool = AlgPool::new(rt.alloc(), game, Format::Two);
     for line in lines {
         assert_eq!(rt; put_algorithm(rt, &mut pool, line)?, None, "{line}");
     }
     let root = pool.len().saturating_sub(1);
     assert!(rt; pool.is_root(root));
-    Ok(pool.into_strategy(root))
-}
-
-// The numbers of a report: the nodes, the depth, and the target over the capacity.
-fn numbers_of(report: &Report) -> (u32, u16, u16, u16) {
-    (report.nodes, report.depth, report.top, report.bottom)
+    Ok(told(&summarise(rt.alloc(), &pool.into_strategy(root))?))
 }
 
 #[test]
 fn strategies_of_the_adversary_are_reported(rt: HostRuntime) -> Result<(), Fail> {
-    let game = Game::new(2, 3, 4)?;
-    for (format, lines, wanted) in [
-        (Format::One, X, (5, 4, 4, 3)),
-        (Format::One, COPIES, (7, 4, 4, 3)),
-        (Format::Two, BURSTS, (4, 4, 4, 3)),
+    for (format, lines, nodes) in [
+        (Format::One, X, 5),
+        (Format::One, COPIES, 7),
+        (Format::Two, BURSTS, 4),
     ] {
-        let strategy = of_adversary(&rt, &game, format, lines)?;
-        let report = summarise(rt.alloc(), &strategy)?;
-        assert_eq!(rt; numbers_of(&report), wanted);
-        assert_eq!(rt; report.side, Side::Adversary);
-        assert_eq!(rt; report.game.t(), 4);
+        let told = of_adversary(&rt, &Game::new(2, 3, 4)?, format, lines)?;
+        assert_eq!(rt; told, (Side::Adversary, nodes, 4, 4, 3));
     }
     Ok(())
 }
 
 #[test]
 fn strategies_of_the_algorithm_are_reported(rt: HostRuntime) -> Result<(), Fail> {
-    for ((m, g, t), lines, wanted) in [
+    for ((m, g, t), lines, (nodes, depth, top, bottom)) in [
         ((2, 2, 3), REPLIES, (5, 2, 3, 2)),
         ((2, 2, 3), BIG, (6, 2, 3, 2)),
         ((2, 3, 5), FINISH, (1, 0, 5, 3)),
         ((8, 120, 240), FINISH_8, (1, 0, 2, 1)),
     ] {
-        let game = Game::new(m, g, t)?;
-        let strategy = of_algorithm(&rt, &game, lines)?;
-        let report = summarise(rt.alloc(), &strategy)?;
-        assert_eq!(rt; numbers_of(&report), wanted);
-        assert_eq!(rt; report.side, Side::Algorithm);
+        let told = of_algorithm(&rt, &Game::new(m, g, t)?, lines)?;
+        assert_eq!(rt; told, (Side::Algorithm, nodes, depth, top, bottom));
     }
     Ok(())
 }
@@ -222,6 +219,6 @@ fn the_choices_are_those_of_the_generator(rt: HostRuntime) -> Result<(), Fail> {
 fn a_large_strategy_is_reported(rt: HostRuntime) -> Result<(), Fail> {
     let strategy = drill_strategy(rt.alloc(), 7, 2_000)?;
     let report = summarise(rt.alloc(), &strategy)?;
-    assert_eq!(rt; numbers_of(&report), (8_001, 4, 4, 3));
+    assert_eq!(rt; told(&report), (Side::Adversary, 8_001, 4, 4, 3));
     Ok(())
 }
