@@ -15,6 +15,7 @@ use std::test::Fail;
 type Step = (bool, u16, u16);
 
 const PUT: bool = true;
+
 const GET: bool = false;
 
 // The keys are of both forms.
@@ -127,8 +128,14 @@ fn a_memo_of_one_entry_keeps_the_last(rt: HostRuntime) -> Result<(), Fail> {
 #[test]
 fn an_entry_that_was_not_used_of_late_goes(rt: HostRuntime) -> Result<(), Fail> {
     let loads = Loads::zero(rt.alloc(), &Game::new(2, 120, 240)?);
-    assert!(rt; lru(rt.alloc(), &loads, 2, TWO_ENTRIES)?, "the least recently used");
-    assert!(rt; clock(rt.alloc(), &loads, 3, THREE_ENTRIES)?, "where the hand stops");
+    assert!(rt;
+        lru(rt.alloc(), &loads, 2, TWO_ENTRIES)?,
+        "the least recently used"
+    );
+    assert!(rt;
+        clock(rt.alloc(), &loads, 3, THREE_ENTRIES)?,
+        "where the hand stops"
+    );
     Ok(())
 }
 
