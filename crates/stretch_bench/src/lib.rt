@@ -4,6 +4,10 @@
 mod bench;
 mod command;
 mod due;
+#[cfg(test)]
+mod failing_tests;
+#[cfg(test)]
+mod fault_tests;
 mod lines;
 mod made;
 mod number;
