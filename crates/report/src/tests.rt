@@ -10,7 +10,7 @@ use items::Game;
 use std::alloc::{AllocError, Global};
 use std::test::Fail;
 use strategy_text::{
-    Format, Nodes, Placement, Rule, Side, Step, Strategy, Then, parse_adversary, parse_algorithm,
+    AlgNode, Format, Nodes, Placement, Side, Step, Strategy, Then, parse_adversary, parse_algorithm,
 };
 
 // Five nodes of the game 2 3 4.
@@ -64,47 +64,46 @@ const FINISH: &[&str] = &["0 loads 0 0 items - finish"];
 
 const FINISH_8: &[&str] = &["0 loads 0 0 0 0 0 0 0 0 items - finish"];
 
-// Judges a node of the adversary after those of a pool, and puts it into the pool where it breaks no rule.
-fn put_adversary(
-    rt: &(impl AllocGlobal + std::process::Abort),
-    pool: &mut AdvPool,
-    line: &str,
-) -> Result<Option<Rule>, Fail> {
-    let node = parse_adversary(rt.alloc(), pool.format(), line.as_bytes(), pool.len())?.expect(
-        rt, "a node",
-    );
+// Puts a node of the adversary into a pool; false where it is no node or breaks a rule.
+fn put_adversary(alloc: Global, pool: &mut AdvPool, line: &str) -> Result<bool, AllocError> {
+    let Some(node) = parse_adversary(alloc, pool.format(), line.as_bytes(), pool.len())? else {
+        return Ok(false);
+    };
     let earlier = pool.positions();
     let fault = adversary_graph::node_fault(&pool.game(), pool.format(), earlier, false, &node);
-    if let Some(rule) = fault {
-        return Ok(Some(rule));
+    if let Some(_rule) = fault {
+        return Ok(false);
     }
     if pool.len() < 4_000_000_000 {
         let _number = pool.push(node)?;
     }
-    Ok(None)
+    Ok(true)
 }
 
 // The same for a node of the algorithm in format 2.
-fn put_algorithm(
-    rt: &(impl AllocGlobal + std::process::Abort),
-    pool: &mut AlgPool,
-    line: &str,
-) -> Result<Option<Rule>, Fail>
+fn put_algorithm(alloc: Global, pool: &mut AlgPool, line: &str) -> Result<bool, AllocError>
     requires { pool.old.format ≡ Two }
     ensures { pool.new.format ≡ Two }
 {
-    let node = parse_algorithm(rt.alloc(), Format::Two, line.as_bytes(), pool.len())?.expect(
-        rt, "a node",
-    );
+    match parse_algorithm(alloc, Format::Two, line.as_bytes(), pool.len())? {
+        Some(node) => push_algorithm(alloc, pool, node),
+        None => Ok(false),
+    }
+}
+
+fn push_algorithm(alloc: Global, pool: &mut AlgPool, node: AlgNode) -> Result<bool, AllocError>
+    requires { pool.old.format ≡ Two }
+    ensures { pool.new.format ≡ Two }
+{
     let game = pool.game();
-    match algorithm_graph::node_fault(rt.alloc(), &game, pool.positions(), false, &node)? {
-        Some(rule) => Ok(Some(rule)),
+    match algorithm_graph::node_fault(alloc, &game, pool.positions(), false, &node)? {
+        Some(_rule) => Ok(false),
         None => {
             if pool.len() >= 4_000_000_000 {
-                return Ok(None);
+                return Ok(false);
             }
             let _number = pool.push(node)?;
-            Ok(None)
+            Ok(true)
         }
     }
 }
@@ -122,47 +121,90 @@ fn told(report: &Report) -> Told {
     )
 }
 
-// What the report of the strategy of these nodes tells.
+fn fill_adversary(alloc: Global, pool: &mut AdvPool, lines: &[&str]) -> Result<bool, AllocError> {
+    for line in lines {
+        if !put_adversary(alloc, pool, line)? {
+            return Ok(false);
+        }
+    }
+    Ok(true)
+}
+
+// Whether the report of the strategy of a pool tells this.
+fn reports_adversary(alloc: Global, pool: AdvPool, wanted: Told) -> Result<bool, AllocError> {
+    let root = pool.len().saturating_sub(1);
+    if !pool.is_root(root) {
+        return Ok(false);
+    }
+    let strategy = pool.into_strategy(root);
+    let report = summarise(alloc, &strategy)?;
+    Ok(told(&report) == wanted)
+}
+
+// The same of these nodes.
 fn of_adversary(
-    rt: &(impl AllocGlobal + std::process::Abort),
-    game: &Game,
+    alloc: Global,
     format: Format,
     lines: &[&str],
-) -> Result<Told, Fail> {
-    let mut pool = AdvPool::new(rt.alloc(), game, format);
-    for line in lines {
-        assert_eq!(rt; put_adversary(rt, &mut pool, line)?, None, "{line}");
+    wanted: Told,
+) -> Result<bool, AllocError> {
+    match Game::new(2, 3, 4) {
+        Ok(game) => {
+            let mut pool = AdvPool::new(alloc, &game, format);
+            if !fill_adversary(alloc, &mut pool, lines)? {
+                return Ok(false);
+            }
+            reports_adversary(alloc, pool, wanted)
+        }
+        Err(_) => Ok(false),
     }
+}
+
+fn fill_algorithm(alloc: Global, pool: &mut AlgPool, lines: &[&str]) -> Result<bool, AllocError>
+    requires { pool.old.format ≡ Two }
+    ensures { pool.new.format ≡ Two }
+{
+    for line in lines {
+        if !put_algorithm(alloc, pool, line)? {
+            return Ok(false);
+        }
+    }
+    Ok(true)
+}
+
+fn reports_algorithm(alloc: Global, pool: AlgPool, wanted: Told) -> Result<bool, AllocError> {
     let root = pool.len().saturating_sub(1);
-    assert!(rt; pool.is_root(root));
-    Ok(told(&summarise(rt.alloc(), &pool.into_strategy(root))?))
+    if !pool.is_root(root) {
+        return Ok(false);
+    }
+    let strategy = pool.into_strategy(root);
+    let report = summarise(alloc, &strategy)?;
+    Ok(told(&report) == wanted)
 }
 
 fn of_algorithm(
-    rt: &(impl AllocGlobal + std::process::Abort),
+    alloc: Global,
     game: &Game,
     lines: &[&str],
-) -> Result<Told, Fail> {
-    let mut pool = AlgPool::new(rt.alloc(), game, Format::Two);
-    for line in lines {
-        assert_eq!(rt; put_algorithm(rt, &mut pool, line)?, None, "{line}");
+    wanted: Told,
+) -> Result<bool, AllocError> {
+    let mut pool = AlgPool::new(alloc, game, Format::Two);
+    if !fill_algorithm(alloc, &mut pool, lines)? {
+        return Ok(false);
     }
-    let root = pool.len().saturating_sub(1);
-    assert!(rt; pool.is_root(root));
-    Ok(told(&summarise(rt.alloc(), &pool.into_strategy(root))?))
+    reports_algorithm(alloc, pool, wanted)
 }
 
 #[test]
-fn strategies_of_the_adversary_are_reported(rt: HostRuntime) -> Result<(), Fail> {
+fn strategies_of_the_adversary_are_reported(rt: HostRuntime) {
     for (format, lines, nodes) in [
         (Format::One, X, 5),
         (Format::One, COPIES, 7),
         (Format::Two, BURSTS, 4),
     ] {
-        let told = of_adversary(&rt, &Game::new(2, 3, 4)?, format, lines)?;
-        assert_eq!(rt; told, (Side::Adversary, nodes, 4, 4, 3));
+        let wanted = (Side::Adversary, nodes, 4, 4, 3);
+        assert!(rt; of_adversary(rt.alloc(), format, lines, wanted) == Ok(true));
     }
-    Ok(())
 }
 
 #[test]
@@ -173,8 +215,8 @@ fn strategies_of_the_algorithm_are_reported(rt: HostRuntime) -> Result<(), Fail>
         ((2, 3, 5), FINISH, (1, 0, 5, 3)),
         ((8, 120, 240), FINISH_8, (1, 0, 2, 1)),
     ] {
-        let told = of_algorithm(&rt, &Game::new(m, g, t)?, lines)?;
-        assert_eq!(rt; told, (Side::Algorithm, nodes, depth, top, bottom));
+        let wanted = (Side::Algorithm, nodes, depth, top, bottom);
+        assert!(rt; of_algorithm(rt.alloc(), &Game::new(m, g, t)?, lines, wanted) == Ok(true));
     }
     Ok(())
 }
@@ -201,24 +243,42 @@ fn put_children(children: &mut Vec<u32>, placements: &[Placement]) -> Result<(),
     Ok(())
 }
 
+// Whether the drill of this number and so many copies has these children.
+fn chooses(alloc: Global, number: u64, copies: u32, wanted: &[u32]) -> Result<bool, AllocError> {
+    if copies < 1 || copies > 2_000 {
+        return Ok(false);
+    }
+    let strategy = drill_strategy(alloc, number, copies)?;
+    let children = children_of(alloc, &strategy)?;
+    Ok(children.as_slice() == wanted)
+}
+
 // The words were computed apart from this program, by the published text of the generators.
 #[test]
-fn the_choices_are_those_of_the_generator(rt: HostRuntime) -> Result<(), Fail> {
-    let one: &[u32] = &[0, 1, 2, 3];
-    let two: &[u32] = &[1, 0, 2, 4, 2, 5, 6];
-    let three: &[u32] = &[2, 2, 2, 3, 7, 3, 6, 3, 6, 9];
-    let last: &[u32] = &[0, 1, 1, 4, 8, 5, 6, 4, 8, 11];
-    for (number, copies, wanted) in [(7, 1, one), (7, 2, two), (7, 3, three), (u64::MAX, 3, last)] {
-        let strategy = drill_strategy(rt.alloc(), number, copies)?;
-        assert_eq!(rt; children_of(rt.alloc(), &strategy)?.as_slice(), wanted);
+fn the_choices_are_those_of_the_generator(rt: HostRuntime) {
+    let cases: [(u64, u32, &[u32]); 4] = [
+        (7, 1, &[0, 1, 2, 3]),
+        (7, 2, &[1, 0, 2, 4, 2, 5, 6]),
+        (7, 3, &[2, 2, 2, 3, 7, 3, 6, 3, 6, 9]),
+        (u64::MAX, 3, &[0, 1, 1, 4, 8, 5, 6, 4, 8, 11]),
+    ];
+    for (number, copies, wanted) in cases {
+        assert!(rt; chooses(rt.alloc(), number, copies, wanted) == Ok(true));
     }
-    Ok(())
+}
+
+// Whether the report of the drill of this number and so many copies tells this.
+fn drills(alloc: Global, number: u64, copies: u32, wanted: Told) -> Result<bool, AllocError> {
+    if copies < 1 || copies > 2_000 {
+        return Ok(false);
+    }
+    let strategy = drill_strategy(alloc, number, copies)?;
+    let report = summarise(alloc, &strategy)?;
+    Ok(told(&report) == wanted)
 }
 
 #[test]
-fn a_large_strategy_is_reported(rt: HostRuntime) -> Result<(), Fail> {
-    let strategy = drill_strategy(rt.alloc(), 7, 2_000)?;
-    let report = summarise(rt.alloc(), &strategy)?;
-    assert_eq!(rt; told(&report), (Side::Adversary, 8_001, 4, 4, 3));
-    Ok(())
+fn a_large_strategy_is_reported(rt: HostRuntime) {
+    let wanted = (Side::Adversary, 8_001, 4, 4, 3);
+    assert!(rt; drills(rt.alloc(), 7, 2_000, wanted) == Ok(true));
 }

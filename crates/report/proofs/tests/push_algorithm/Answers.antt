@@ -11,7 +11,7 @@ use Rattle.strategy_text.specs.declared.rule.Rule.{Rule}
 use Rattle.algorithm_graph.specs.Nodes.{position_of, IsOfFormat}
 use Rattle.algorithm_graph.specs.Pools.{Pool, MayComeNext}
 use Rattle.algorithm_graph.specs.Rules.{MeetsRules, Breaks}
-use Rattle.report.proofs.tests.put_algorithm.Goals as goal
+use Rattle.report.proofs.tests.push_algorithm.Goals as goal
 
 may_come_next : (pool : Pool) (node : AlgNode) (game : GameNumbers) (earlier : List Position) (fault : Option Rule)
     → game ≡ pool.game → earlier ≡ map position_of pool.nodes → fault ≡ None
@@ -28,8 +28,8 @@ may_come_next pool node game earlier fault g e none m room two =
     }
 
 pub push-requires : goal.push-requires
-push-requires g c =
+push-requires c =
     record {
       next = may_come_next c.args.pool.now _ c.game-game.result c.positions.result.now _ c.game-game.ensures.value c.positions.ensures.value c.in-None.is
-          c.in_ok-rule.ensures.exact (omega (arith, c.len-in-None.ensures.value, c.if-len-ge4000000000.false)) c.requires;
+          c.in_ok-_rule.ensures.exact (omega (arith, c.len.ensures.value, c.if-len-ge4000000000.false)) c.requires;
     }
