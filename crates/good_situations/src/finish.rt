@@ -1,11 +1,13 @@
 //! The finish rule and the order that is kept from a finish on.
 
-ghost use Rattle.std.specs.Prelude.{◌≡◌, ◌+◌, ◌*◌, ◌<◌, ◌≤◌, ◌↔◌, IsTrue, All, length, take, max, sum_by};
+ghost use Rattle.std.specs.Prelude.{◌≡◌, ◌+◌, ◌*◌, ◌<◌, ◌≤◌, ◌↔◌, IsTrue, All, Contains, length, take, max, sum_by};
+ghost use Rattle.loads.specs.Loads.{IsLoads, loads_after};
 ghost use Rattle.good_situations.specs.Finish.{Finishes, raised_total};
 ghost use Rattle.good_situations.specs.KeptOrder.{kept_order, finish_bin, CanAdd};
 
 use crate::kept_order::BinOrder;
 use items::Game;
+use items::laws::game_is_legal;
 use loads::Loads;
 use std::marker::Model;
 
@@ -18,6 +20,28 @@ pub fn finishes(game: &Game, loads: &Loads) -> bool
     let filled = first_loads(loads.as_slice(), usize::from(game.m()) - 1);
     let covered = raised_total(filled, game.t() - game.g()) + u32::from(game.t() - 1);
     u32::from(game.m() * game.g()) <= covered
+}
+
+/// Whether the loads finish after an item of size `s` went to a bin of this load. Where that is not the least load, it
+/// is told from the total alone.
+pub fn finishes_after(game: &Game, loads: &Loads, load: u16, s: u16) -> bool
+    requires of_game { IsLoads game.now loads.now }
+    requires has_load { Contains loads.now load }
+    requires below_target { load + s < game.now.target }
+    ensures exact { IsTrue result ↔ Finishes game.now (loads_after loads.now load s) }
+{
+    game_is_legal(game);
+    let all = loads.as_slice();
+    let least = all[all.len() - 1];
+    if load == least {
+        return finishes(game, &loads.place(game, load, s).unwrap());
+    }
+    let floor = game.t() - game.g();
+    let total = raised_total(all, floor);
+    let due = u32::from(game.m() * game.g())
+        + u32::from(load.max(floor))
+        + u32::from(least.max(floor));
+    due <= total + u32::from((load + s).max(floor)) + u32::from(game.t() - 1)
 }
 
 /// The order of the bins that is made where a position finishes and kept to the end of the play. Takes no memory.

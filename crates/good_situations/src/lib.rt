@@ -7,7 +7,7 @@ mod kept_order;
 pub mod laws;
 
 pub use big_finish::{BigFinish, big_bound, big_finishes};
-pub use finish::{Finish, finishes};
+pub use finish::{Finish, finishes, finishes_after};
 
 #[cfg(test)]
 mod tests;

@@ -84,6 +84,35 @@ fn loads_finish_where_they_cover_what_the_bins_hold(rt: HostRuntime) -> Result<(
     Ok(())
 }
 
+// Loads of the game 3 6 9, a load among them, an item, and whether the loads after it finish: whether the first two,
+// each at least 3, come to 10.
+const AFTER: [([u16; 3], u16, u16, bool); 6] = [
+    ([5, 2, 0], 5, 2, true),
+    ([5, 2, 0], 5, 1, false),
+    ([5, 2, 0], 2, 3, true),
+    ([5, 2, 0], 2, 2, false),
+    ([6, 3, 1], 1, 3, true),
+    ([5, 3, 3], 3, 1, false),
+];
+
+// Whether the loads after an item finish, where the item fits a load of the game 3 6 9.
+fn finish_after(alloc: Global, list: &[u16], load: u16, s: u16) -> Option<bool> {
+    let game = Game::new(3, 6, 9).ok()?;
+    let loads = Loads::from_slice(alloc, &game, list)?;
+    if list.contains(&load) && s < 9 && load < 9 - s {
+        Some(finishes_after(&game, &loads, load, s))
+    } else {
+        None
+    }
+}
+
+#[test]
+fn loads_after_an_item_finish_as_they_do(rt: HostRuntime) {
+    for (list, load, s, want) in &AFTER {
+        assert!(rt; finish_after(rt.alloc(), list, *load, *s) == Some(*want));
+    }
+}
+
 #[test]
 fn the_least_number_of_reserved_bins_is_found(rt: HostRuntime) -> Result<(), Fail> {
     let cases = [

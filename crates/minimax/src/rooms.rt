@@ -1,4 +1,4 @@
-//! The rooms of multisets of items that a search asked for, in a table of bounded size.
+//! The rooms of multisets of items, of which a table of bounded size keeps those that take long to find.
 
 ghost use Rattle.std.specs.Prelude.{◌≡◌, ℕ, ◌≤◌, ◌++◌, ◌∷◌, [], IfOk};
 ghost use Rattle.std.specs.Bool.{OnTrue};
@@ -6,7 +6,7 @@ ghost use Rattle.items.specs.Packable.{IsRoom, Packable};
 
 use items::{Game, Items};
 use loads::Loads;
-use reachable_loads::room_up_to;
+use reachable_loads::{room_between, room_bounds};
 use std::alloc::{AllocError, Global};
 use std::marker::Model;
 use transposition::{ClockTable, Key};
@@ -14,7 +14,7 @@ use transposition::{ClockTable, Key};
 // How many rooms are kept at most.
 const MOST_ROOMS: usize = 1000000;
 
-/// The rooms that were asked for in one game. The positions that lead to a multiset of items have one room.
+/// The rooms that no bounds told in one game. The positions that lead to a multiset of items have one room.
 #[derive(Drop)]
 pub(crate) struct Rooms {
     game: Game,
@@ -44,8 +44,8 @@ impl Rooms {
         })
     }
 
-    /// The greatest size of an item that may come next, where a bound on it is known. It is kept where the game is that
-    /// of the table. The key is one of a position with these items.
+    /// The greatest size of an item that may come next, where a bound on it is known. Where the bounds do not tell it,
+    /// it is kept, if the game is that of the table. The key is one of a position with these items.
     pub(crate) fn room_up_to(
         &mut self,
         alloc: Global,
@@ -58,14 +58,18 @@ impl Rooms {
         requires bound { (size : ℕ) → Packable game.now (items.now ++ size ∷ []) → size ≤ most }
         ensures exact { IfOk result (IsRoom game.now items.now) }
     {
+        let (least, most) = room_bounds(game, items, most);
+        if least == most {
+            return Ok(least);
+        }
         if !is_same(&self.game, game) {
-            return room_up_to(alloc, game, items, most);
+            return room_between(alloc, game, items, least, most);
         }
         let key = key.with_loads(alloc, &self.no_loads)?;
         if let Some(room) = self.table.get(&key) {
             return Ok(room);
         }
-        let room = room_up_to(alloc, game, items, most)?;
+        let room = room_between(alloc, game, items, least, most)?;
         self.table.insert(key, room)?;
         Ok(room)
     }

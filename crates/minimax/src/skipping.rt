@@ -9,7 +9,7 @@ ghost use Rattle.minimax.specs.Serving.{IsFirst, IsSkipped};
 ghost use Rattle.minimax.specs.State.{IsPlayable, allowed_by};
 
 use crate::table::Told;
-use good_situations::finishes;
+use good_situations::finishes_after;
 use items::Game;
 use items::laws::game_is_legal;
 use loads::Position;
@@ -59,6 +59,5 @@ fn leads_to_finish(game: &Game, position: &Position, size: u16, load: u16) -> bo
     requires below_target { load + size < game.now.target }
     ensures { OnTrue result (Finishes game.now (after position.now load size).loads) }
 {
-    game_is_legal(game);
-    finishes(game, &position.loads.place(game, load, size).unwrap())
+    finishes_after(game, &position.loads, load, size)
 }

@@ -1,16 +1,17 @@
 -- The room, told from the least load of any assignment.
-use Rattle.std.proofs.Common.{◌≡◌, ◌↔◌, ℕ, sum, ◌*◌, ◌+◌, ◌-◌, ◌<◌, ◌≤◌, List, [], ◌∷◌, ◌++◌, length, get_or, set, drop, refl, sym, ap, ◌∙◌, subst, arith}
-use Rattle.std.specs.Prelude.{Contains}
+use Rattle.std.proofs.Common.{◌≡◌, ◌↔◌, ℕ, zero, suc, sum, ◌*◌, ◌+◌, ◌-◌, ◌<◌, ◌≤◌, List, [], ◌∷◌, ◌++◌, length, get_or, set, drop, refl, sym, ap, ◌∙◌, subst, arith}
+use Rattle.std.specs.Prelude.{All, Contains}
 use Rattle.std.proofs.lemmas.List.{get_or-set_same, get_or_default, length-set, set-set, set-get_or}
 use Rattle.std.proofs.lemmas.List.Elements.{All-contains}
 use Rattle.std.proofs.lemmas.List.Sums.{sum_by-append, sum_by-cons}
 use Rattle.items.specs.Game.{GameNumbers}
-use Rattle.items.specs.Multiset.{Same}
+use Rattle.items.specs.Multiset.{IsSize, Same}
 use Rattle.items.specs.Packable.{Packable, IsRoom}
 use Rattle.items.proofs.SameLemmas.{Same-append_comm, Same-push, Same-refl, Same-sym}
 use Rattle.packing_witness.proofs.PackableLemmas.{Packable-Same, sum-Packable-le}
 use Rattle.packing_witness.proofs.PackingLemmas.{size_of_last}
 use Rattle.loads.proofs.CountLemmas.{Contains-Same}
+use Rattle.reachable_loads.specs.Rooms.{IsRoomBetween}
 use Rattle.reach_planes.specs.Reached.{totals, HasTotals, IsLeastLoad}
 use Rattle.reach_planes.proofs.TotalsLemmas.{All-HasTotals, bin_to_take, HasTotals-put}
 use Rattle.reach_planes.proofs.LoadLemmas.{descending_form, Same-descending_form, IsReached-from_totals, HasTotals-reached}
@@ -80,6 +81,19 @@ IsRoom-bound game items room within bound may = record {
   may_come = may;
   greatest = λ size above fit p. omega (arith, bound size p, above);
 }
+
+-- what is between a size that may come and a bound
+pub IsRoomBetween-from : (game : GameNumbers) (items : List ℕ) (least most : ℕ) → most ≤ game.capacity → (1 ≤ least → Packable game (items ++ least ∷ []))
+    → ((size : ℕ) → Packable game (items ++ size ∷ []) → size ≤ most) → (1 ≤ most → All (IsSize game.capacity) items) → IsRoomBetween game items least most
+IsRoomBetween-from game items zero most within may bound sizes =
+    record { order = omega arith; within = within; may_come = may; bound = bound; sizes = sizes }
+IsRoomBetween-from game items (suc n) most within may bound sizes =
+    record { order = bound (suc n) (may (omega arith)); within = within; may_come = may; bound = bound; sizes = sizes }
+
+-- a room between two sizes that are one
+pub IsRoom-between : (game : GameNumbers) (items : List ℕ) (least most : ℕ) → IsRoomBetween game items least most → least ≡ most → IsRoom game items least
+IsRoom-between game items least most h e =
+    IsRoom-bound game items least (omega (arith, h.within, e)) (λ size p. omega (arith, h.bound size p, e)) h.may_come
 
 -- what the capacity and the total of the bins leave is a bound on the room
 pub bound_by_volume : (game : GameNumbers) (items : List ℕ) (size : ℕ) → Packable game (items ++ size ∷ []) → (size ≤ game.capacity)

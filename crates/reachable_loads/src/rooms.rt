@@ -1,9 +1,10 @@
 //! The room and the packability of a multiset of items.
 
-ghost use Rattle.std.specs.Prelude.{◌≡◌, ◌↔◌, ℕ, ◌+◌, ◌≤◌, [], ◌∷◌, ◌++◌, drop, length, sum, All, IfOk, IsTrue};
+ghost use Rattle.std.specs.Prelude.{◌≡◌, ◌≢◌, ◌↔◌, ℕ, ◌+◌, ◌≤◌, [], ◌∷◌, ◌++◌, drop, length, sum, All, IfOk, IsTrue};
 ghost use Rattle.std.specs.Bool.{OnTrue};
 ghost use Rattle.items.specs.Multiset.{IsSize};
 ghost use Rattle.items.specs.Packable.{IsRoom, Packable};
+ghost use Rattle.reachable_loads.specs.Rooms.{IsRoomBetween};
 
 use crate::best_fit::{COMMON, descending, fits_by_best_fit, push_descending, room_by_best_fit};
 use crate::placing::place_all;
@@ -24,15 +25,25 @@ pub fn room_up_to(alloc: Global, game: &Game, items: &Items, most: u16) -> Resul
     requires bound { (size : ℕ) → Packable game.now (items.now ++ size ∷ []) → size ≤ most }
     ensures exact { IfOk result (IsRoom game.now items.now) }
 {
+    let (least, most) = room_bounds(game, items, most);
+    if least == most {
+        return Ok(least);
+    }
+    room_between(alloc, game, items, least, most)
+}
+
+/// A size from which on the room is and one up to which it is, where a bound on it is known. Mostly they are one, the
+/// room. Takes no memory.
+pub fn room_bounds(game: &Game, items: &Items, most: u16) -> (u16, u16)
+    requires bound { (size : ℕ) → Packable game.now (items.now ++ size ∷ []) → size ≤ most }
+    ensures between { IsRoomBetween game.now items.now result.0 result.1 }
+    ensures room { result.0 ≡ result.1 → IsRoom game.now items.now result.0 }
+{
     let most = most.min(room_by_volume(game, items));
     if most == 0 {
-        return Ok(0);
+        return (0, 0);
     }
-    let room = room_by_best_fit(game, items);
-    if room >= most {
-        return Ok(room);
-    }
-    room_exactly(alloc, game, items, room, most)
+    (room_by_best_fit(game, items), most)
 }
 
 /// Whether the items fit: whether they have an assignment. Fails only where memory runs out.
@@ -77,20 +88,18 @@ fn fits_by_placing(alloc: Global, game: &Game, list: &[u16]) -> Result<bool, All
     }
 }
 
-// The room, from a size on that may come, or from 0.
-fn room_exactly(
+/// The room, where it is told that it is from a size on and up to another. The items are placed with one more, of each
+/// size between them. Fails only where memory runs out.
+pub fn room_between(
     alloc: Global,
     game: &Game,
     items: &Items,
     least: u16,
     most: u16,
 ) -> Result<u16, AllocError>
-    requires sizes { All (IsSize game.now.capacity) items.now }
-    requires order { least ≤ most }
-    requires within { most ≤ game.now.capacity }
-    requires may_come { 1 ≤ least → Packable game.now (items.now ++ least ∷ []) }
-    requires bound { (size : ℕ) → Packable game.now (items.now ++ size ∷ []) → size ≤ most }
-    ensures { IfOk result (IsRoom game.now items.now) }
+    requires between { IsRoomBetween game.now items.now least most }
+    requires apart { least ≢ most }
+    ensures exact { IfOk result (IsRoom game.now items.now) }
 {
     let mut list = Vec::with_capacity(alloc, COMMON)?;
     list.push(most)?;
