@@ -1,5 +1,5 @@
 -- What the rules of a node rest on: items of loads, distinct loads, and totals of packings.
-use Rattle.std.proofs.Common.{◌≡◌, ℕ, ◌*◌, ◌<◌, ◌≤◌, List, length, get_or, arith, Contains, mul-le-mul}
+use Rattle.std.proofs.Common.{◌≡◌, ℕ, ◌*◌, ◌<◌, ◌≤◌, List, length, get_or, Contains, mul-le-mul}
 use Rattle.std.proofs.Common.{Bool, Option, Some, None, inr}
 use Rattle.std.specs.List.{All}
 use Rattle.std.specs.Prelude.{MatchOption}
@@ -12,23 +12,10 @@ use Rattle.adversary_graph.specs.Judging.{BreaksPastItems}
 use Rattle.adversary_graph.specs.Rules.{Breaks, Meets, MeetsRules, rules_past_items}
 use Rattle.std.proofs.lemmas.List.Elements.{All-weaker, All-contains_itself, All-get_or}
 use Rattle.items.specs.Game.{GameNumbers, IsGame}
-use Rattle.items.specs.Multiset.{IsMultiset, IsSize}
 use Rattle.loads.specs.Descending.{distinct}
 use Rattle.loads.proofs.DistinctLemmas.{Contains-from_distinct}
-use Rattle.loads.proofs.LoadsLemmas.{multiset_from_items}
 use Rattle.loads.specs.Loads.{IsLoads}
 use Rattle.loads.specs.Position.{AreItemsOf}
-
--- items of a game's loads are a multiset
-pub multiset_of_loads : (game : GameNumbers) (sizes loads items : List ℕ) → IsGame game → All (IsSize game.capacity) sizes → IsLoads game loads
-    → AreItemsOf sizes loads items → IsMultiset 120 items
-multiset_of_loads game sizes loads items g s l a =
-    let m = multiset_from_items game sizes loads items g s l a in
-    record {
-      ascending = m.ascending;
-      sizes = All-weaker (IsSize game.capacity) (IsSize 120) (λ x h. record { low = h.low; high = omega (arith, h.high, g.capacity.high) }) items m.sizes;
-      total = m.total;
-    }
 
 -- each distinct load is one of the loads
 pub distinct_are_loads : (loads : List ℕ) → All (Contains loads) (distinct loads)

@@ -45,7 +45,7 @@ not_last : (game : GameNumbers) (sizes : List ℕ) (earlier : List Position) (la
 not_last game sizes earlier last node m = with_root game sizes earlier last false node m (λ e. absurd (false≢true e))
 
 -- an element of the first ones of a list
-slice_get-take-within : {X : Type 0} (xs : List X) (k i : ℕ) (x : X) → i < k → slice_get xs i ≡ Some x → slice_get (take k xs) i ≡ Some x
+pub slice_get-take-within : {X : Type 0} (xs : List X) (k i : ℕ) (x : X) → i < k → slice_get xs i ≡ Some x → slice_get (take k xs) i ≡ Some x
 slice_get-take-within xs zero i x l e = absurd (omega arith)
 slice_get-take-within [] (suc k) i x l e = absurd (none-some x e)
 slice_get-take-within (y ∷ ys) (suc k) zero x l e = e

@@ -6,8 +6,6 @@ use Rattle.std.proofs.lemmas.List.Elements.{All-weaker, All-set}
 use Rattle.std.proofs.lemmas.List.Sums.{sum_by-le, sum_by-set}
 use Rattle.std.proofs.lemmas.List.{length-set}
 use Rattle.items.specs.Game.{GameNumbers, IsGame}
-use Rattle.items.specs.Multiset.{IsMultiset, IsSize}
-use Rattle.loads.proofs.LoadsLemmas.{multiset_from_items}
 use Rattle.loads.specs.Loads.{IsLoads}
 use Rattle.loads.specs.Position.{AreItemsOf}
 use Rattle.loads.specs.declared.position.Position.{Position}
@@ -27,17 +25,6 @@ loads_total_after game loads load size g l c below =
     let each : All (λ x. x ≤ 239) after = All-set (λ x. x ≤ 239) loads c.0 (load + size) (omega (arith, below, g.target.high, g.capacity.high)) small in
     omega (arith, sum_by-le (λ x. x) 239 after each, sum_by-set (λ x. x) loads c.0 (load + size) load c.1, c.2, length-set loads c.0 (load + size), l.one_each, g.bins.high)
 
--- items of a game's loads are a multiset
-pub multiset_of_loads : (game : GameNumbers) (sizes loads items : List ℕ) → IsGame game → All (IsSize game.capacity) sizes → IsLoads game loads
-    → AreItemsOf sizes loads items → IsMultiset 120 items
-multiset_of_loads game sizes loads items g s l a =
-    let m = multiset_from_items game sizes loads items g s l a in
-    record {
-      ascending = m.ascending;
-      sizes = All-weaker (IsSize game.capacity) (IsSize 120) (λ x h. record { low = h.low; high = omega (arith, h.high, g.capacity.high) }) items m.sizes;
-      total = m.total;
-    }
-
 -- the rules past `items` of a node with loads and items of the game
 pub past_items : (game : GameNumbers) (sizes : List ℕ) (earlier : List Position) (last : Bool) (node : AlgNode) (fault : Option Rule)
     → IsLoads game node.loads → AreItemsOf sizes node.loads node.items
@@ -48,9 +35,11 @@ past_items game sizes earlier last node (Some rule) loads items b = (b.0, b.1, i
 
 pub past_items_read : {E : Type 0} (game : GameNumbers) (sizes : List ℕ) (earlier : List Position) (last : Bool) (node : AlgNode) (p : Position) (read : Result (Option Rule) E)
     → p ≡ position_of node → IsLoads game node.loads → AreItemsOf sizes node.loads node.items
-    → IfOk read (λ fault. MatchOption fault (AllMet (Meets game sizes earlier last (node_at p node.act)) rules_past_items) (BreaksPastItems game sizes earlier last (node_at p node.act)))
+    → IfOk read (λ fault. MatchOption fault (AllMet (Meets game sizes earlier last (node_at p node.act)) rules_past_items)
+    (BreaksPastItems game sizes earlier last (node_at p node.act)))
     → IfOk read (λ fault. MatchOption fault (MeetsRules game sizes earlier last node) (Breaks game sizes earlier last node))
 past_items_read game sizes earlier last node p (Ok fault) e loads items m =
     past_items game sizes earlier last node fault loads items
-    (subst (λ (q : Position). MatchOption fault (AllMet (Meets game sizes earlier last (node_at q node.act)) rules_past_items) (BreaksPastItems game sizes earlier last (node_at q node.act))) e m)
+    (subst (λ (q : Position). MatchOption fault (AllMet (Meets game sizes earlier last (node_at q node.act)) rules_past_items)
+    (BreaksPastItems game sizes earlier last (node_at q node.act))) e m)
 past_items_read game sizes earlier last node p (Err e) is loads items m = tt

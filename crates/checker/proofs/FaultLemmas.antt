@@ -5,6 +5,7 @@ use Rattle.std.specs.List.{slice_get}
 use Rattle.std.proofs.lemmas.List.{length-map, length_push, append-nil}
 use Rattle.std.proofs.lemmas.Option.{slice_get_within, slice_get-get_or}
 use Rattle.port_io.specs.Lines.{ReaderState}
+use Rattle.items.proofs.ListLemmas.{slice_get-front}
 use Rattle.items.specs.Game.{GameNumbers, IsGame}
 use Rattle.loads.specs.declared.position.Position.{Position}
 use Rattle.strategy_text.specs.Spelling.{SpellsGame, most_nodes}
@@ -24,7 +25,7 @@ use Rattle.checker.specs.declared.fault.Wanted.{Wanted}
 use Rattle.checker.specs.declared.fault.Why.{Why}
 use Rattle.checker.specs.declared.fault.Why.TheVariants as why
 use Rattle.checker.proofs.HeadLemmas.{game_same, side_same, head_same, first_from, game_from, side_from, head_from}
-use Rattle.checker.proofs.LineLemmas.{next_from, form_from, line_at, front_get, after_get, HasWhole-from, few_whole}
+use Rattle.checker.proofs.LineLemmas.{next_from, form_from, line_at, after_get, HasWhole-from, few_whole}
 use Rattle.checker.proofs.NodeLemmas.{meets_excludes, HasNodes, node_same, positions_front, HasPositions-from, length-node_lines, node_lines_get}
 use Rattle.checker.proofs.ProgressLemmas.{told_all, told_at}
 
@@ -146,7 +147,7 @@ pub HasNodes-from : (head : Head) (nodes : List AnyNode) (more : List (List ℕ)
     → StandFirst (lines_of_head head ++ node_lines 0 nodes ++ more) bytes rest → HasNodes bytes head nodes
 HasNodes-from head nodes more bytes rest start judged stood k node e =
     let line : List ℕ = node_line k node in
-    let get : slice_get (node_lines 0 nodes ++ more) k ≡ Some line = front_get (node_lines 0 nodes) more k line
+    let get : slice_get (node_lines 0 nodes ++ more) k ≡ Some line = slice_get-front (node_lines 0 nodes) more k line
     (node_lines_get 0 nodes k node e ∙ ap (λ (i : ℕ). Some (node_line i node)) (omega arith)) in (
       line,
       line_at (lines_of_head head ++ node_lines 0 nodes ++ more) bytes rest (4 + k) (head.start + k) line stood

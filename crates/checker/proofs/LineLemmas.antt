@@ -105,11 +105,6 @@ line_at lines bytes rest k n line stood at place =
           ∙ ap (λ (more : List ℕ). text_of_lines s.0 ++ more) (append_assoc (with_lf line) (text_of_lines s.1) rest);
     }
 
-pub front_get : {X : Type 0} (xs more : List X) (k : ℕ) (x : X) → slice_get xs k ≡ Some x → slice_get (xs ++ more) k ≡ Some x
-front_get [] more k x e = let none : None ≡ Some x = e in absurd cc
-front_get (y ∷ ys) more zero x e = e
-front_get (y ∷ ys) more (suc k) x e = front_get ys more k x e
-
 pub after_get : {X : Type 0} (xs more : List X) (k : ℕ) (x : X) → slice_get more k ≡ Some x → slice_get (xs ++ more) (length xs + k) ≡ Some x
 after_get [] more k x e = let at : k ≡ 0 + k = omega arith in subst (λ (i : ℕ). slice_get more i ≡ Some x) at e
 after_get (y ∷ ys) more k x e =

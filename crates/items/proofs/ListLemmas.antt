@@ -1,4 +1,4 @@
--- The elements of a list with one more at its end, those of its first ones, and where a mapped value comes from.
+-- The elements of a list with one more or several at its end, those of its first ones, and where a mapped value comes from.
 use Rattle.std.proofs.Common.{◌≡◌, ℕ, zero, suc, ◌<◌, List, [], ◌∷◌, ◌++◌, length, take, Option, Some, None, refl, ap, ◌⊎◌, ⊎_elim, inl, inr, arith}
 use Rattle.std.specs.List.{slice_get}
 use Rattle.std.specs.Option.{option_map}
@@ -11,6 +11,12 @@ slice_get-push [] y (suc k) z e = absurd (none-some z e)
 slice_get-push (x ∷ xs) y zero z e = inl e
 slice_get-push (x ∷ xs) y (suc k) z e =
     ⊎_elim (λ here. inl here) (λ last. inr (ap suc last.0, last.1)) (slice_get-push xs y k z e)
+
+-- an element of a list stands at its place in a longer one
+pub slice_get-front : {X : Type 0} (xs more : List X) (k : ℕ) (x : X) → slice_get xs k ≡ Some x → slice_get (xs ++ more) k ≡ Some x
+slice_get-front [] more k x e = absurd (none-some x e)
+slice_get-front (y ∷ ys) more zero x e = e
+slice_get-front (y ∷ ys) more (suc k) x e = slice_get-front ys more k x e
 
 pub slice_get-take : {X : Type 0} (xs : List X) (k i : ℕ) (x : X) → slice_get (take k xs) i ≡ Some x → (slice_get xs i ≡ Some x) × (i < k)
 slice_get-take xs zero i x e = absurd (none-some x e)

@@ -1,5 +1,6 @@
 -- Items that follow on from a lowest size and have a total, and a number put in at its place.
-use Rattle.std.proofs.Common.{eqb, leb, inl, inr, ◌≡◌, ℕ, zero, suc, ◌+◌, ◌-◌, ◌<◌, ◌≤◌, true, false, List, [], ◌∷◌, ◌++◌, length, take, drop, get_or, leb, refl, sym, ap, ◌∙◌, subst, sum, arith, Contains}
+use Rattle.std.proofs.Common.{eqb, leb, inl, inr, ◌≡◌, ℕ, zero, suc, ◌+◌, ◌-◌, ◌<◌, ◌≤◌, true, false, List, [], ◌∷◌, ◌++◌, length, take, drop, get_or, refl, sym, ap, ◌∙◌}
+use Rattle.std.proofs.Common.{subst, sum, arith, Contains}
 use Rattle.std.specs.Prelude.{◌↔◌}
 use Rattle.std.specs.List.{All}
 use Rattle.std.proofs.Math.Seq.{drop-cons, take-length}

@@ -1,5 +1,6 @@
 -- Loads after an item.
-use Rattle.std.proofs.Common.{◌≡◌, ℕ, zero, suc, ◌+◌, ◌*◌, ◌<◌, ◌≤◌, true, List, [], ◌∷◌, leb, refl, inl, inr, length, get_or, set, cond, eqb, sum, arith, sym, ap, ◌∙◌, subst, Option, Some, None}
+use Rattle.std.proofs.Common.{◌≡◌, ℕ, zero, suc, ◌+◌, ◌*◌, ◌<◌, ◌≤◌, true, List, [], ◌∷◌, leb, refl, inl, inr, length, get_or, set, cond, eqb, sum, arith, sym, ap, ◌∙◌, subst}
+use Rattle.std.proofs.Common.{Option, Some, None}
 use Rattle.std.specs.Prelude.{All, Contains, IfSome, MatchOption, insert, remove, position, unwrap_or, nat_le}
 use Rattle.std.proofs.lemmas.List.{get_or_default}
 use Rattle.std.specs.List.{sum_by}
@@ -39,6 +40,17 @@ multiset_from_items game sizes loads items g s l a = record {
   sizes = All-weaker (Contains sizes) (IsSize game.capacity) (λ x c. All-contains (IsSize game.capacity) sizes x s c) items a.allowed;
   total = omega (arith, loads_total game loads g l, a.total);
 }
+
+-- with sizes of any game
+pub multiset_of_loads : (game : GameNumbers) (sizes loads items : List ℕ) → IsGame game → All (IsSize game.capacity) sizes → IsLoads game loads
+    → AreItemsOf sizes loads items → IsMultiset 120 items
+multiset_of_loads game sizes loads items g s l a =
+    let m = multiset_from_items game sizes loads items g s l a in
+    record {
+      ascending = m.ascending;
+      sizes = All-weaker (IsSize game.capacity) (IsSize 120) (λ x h. record { low = h.low; high = omega (arith, h.high, g.capacity.high) }) items m.sizes;
+      total = m.total;
+    }
 
 -- an item in a bin that stays below the target leaves loads of the game
 pub IsLoads-after : (game : GameNumbers) (loads : List ℕ) (load size : ℕ) → IsLoads game loads → Contains loads load → load + size < game.target

@@ -1,7 +1,7 @@
 //! Positions in bytes: the number of the loads, the loads, and the items in ascending order.
 
-ghost use Rattle.std.specs.Prelude.{◌≡◌, ◌↔◌, ◌+◌, ◌<◌, ◌≤◌, ◌++◌, ◌*◌, All, Contains, IsTrue, IfOk, OnOk, length, replicate};
-ghost use Rattle.std.specs.Prelude.{vec_capacity, vec_len};
+ghost use Rattle.std.specs.Prelude.{◌≡◌, ◌↔◌, ◌+◌, ◌<◌, ◌≤◌, ◌++◌, ◌*◌, All, Contains, IsTrue, IfOk, OnOk};
+ghost use Rattle.std.specs.Prelude.{length, replicate, vec_capacity, vec_len};
 ghost use Rattle.items.specs.Multiset.{IsMultiset, put_ascending};
 ghost use Rattle.loads.specs.After.{after};
 ghost use Rattle.loads.specs.Descending.{IsDescending, put_descending, take_out};

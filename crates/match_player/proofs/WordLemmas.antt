@@ -9,7 +9,7 @@ use Rattle.std.proofs.lemmas.Result.{on_ok_weaker}
 use Rattle.match_player.specs.Words.{words_of}
 use Rattle.strategy_text.specs.Text.{list_words, pack_words}
 use Rattle.strategy_text.specs.Writing.{spaced}
-use Rattle.strategy_text.proofs.Spaced.{each_spaced, each_more, spaced-append}
+use Rattle.strategy_text.proofs.Spaced.{each_spaced, each_more, rest_of, spaced-append}
 use Rattle.strategy_text.proofs.StepsTaken.{pack_bins}
 
 -- a list of numbers is spelled in decimal digits
@@ -36,9 +36,6 @@ put_more words xs i x old text new h e so_far next =
 pub put_all : {X : Type 0} (words : X → List (List ℕ)) (xs : List X) (i : ℕ) (old text : List ℕ) → length xs ≤ i
     → text ≡ old ++ each_spaced words (take i xs) → text ≡ old ++ each_spaced words xs
 put_all words xs i old text h e = e ∙ ap (λ ys. old ++ each_spaced words ys) (take_all i xs h)
-
-rest_of : (x : List ℕ) (xs : List (List ℕ)) → take (length (x ∷ xs) - 1) (drop 1 (x ∷ xs)) ≡ xs
-rest_of x xs = take_all (length (x ∷ xs) - 1) xs (omega arith)
 
 -- the lists of a packing after the first, each after a slash
 abbrev pub next_bins : List (List ℕ) → List (List ℕ)

@@ -5,7 +5,7 @@ use Rattle.std.specs.Prelude.{All, slice_get}
 use Rattle.std.proofs.lemmas.Bool.{cases_lt}
 use Rattle.std.proofs.lemmas.List.{append-nil, length_push, map-append, take-append-le, take_all}
 use Rattle.std.proofs.lemmas.List.Elements.{All-push, All-weaker}
-use Rattle.std.proofs.lemmas.Option.{slice_get-map, get_or_from_slice_get, slice_get_within, none-some, same_Some}
+use Rattle.std.proofs.lemmas.Option.{slice_get-map, get_or_from_slice_get, slice_get_within, same_Some}
 use Rattle.items.specs.Game.{GameNumbers}
 use Rattle.loads.specs.After.{after}
 use Rattle.loads.specs.Position.{StandsAt}
@@ -16,7 +16,7 @@ use Rattle.strategy_text.specs.declared.node.Placement.{Placement}
 use Rattle.strategy_text.specs.declared.node.Then.{Then}
 use Rattle.strategy_text.specs.declared.node.Then.TheVariants.{Over, To}
 use Rattle.adversary_graph.specs.Rules.{LeadsTo}
-use Rattle.items.proofs.ListLemmas.{mapped}
+use Rattle.items.proofs.ListLemmas.{mapped, slice_get-front}
 use Rattle.algorithm_graph.specs.Nodes as algorithm
 use Rattle.monotone.specs.Passes.{whole_game}
 use Rattle.monotone.specs.Visits.{Visit, Metered, IsLater, IsVisit, counted}
@@ -42,15 +42,10 @@ GoesOn-push xs x = (x ∷ [], refl)
 pub GoesOn-trans : {X : Type 0} (xs ys zs : List X) → GoesOn xs ys → GoesOn ys zs → GoesOn xs zs
 GoesOn-trans xs ys zs a b = (a.0 ++ b.0, b.1 ∙ ap (λ l. l ++ b.0) a.1 ∙ append_assoc xs a.0 b.0)
 
-slice_get-goes : {X : Type 0} (xs more : List X) (n : ℕ) (x : X) → slice_get xs n ≡ Some x → slice_get (xs ++ more) n ≡ Some x
-slice_get-goes [] more n x e = absurd (none-some x e)
-slice_get-goes (y ∷ ys) more zero x e = e
-slice_get-goes (y ∷ ys) more (suc n) x e = slice_get-goes ys more n x e
-
-slice_get-front : {X : Type 0} (xs more : List X) (k : ℕ) → k < length xs → slice_get (xs ++ more) k ≡ slice_get xs k
-slice_get-front [] more k l = absurd (omega (arith, l))
-slice_get-front (y ∷ ys) more zero l = refl
-slice_get-front (y ∷ ys) more (suc k) l = slice_get-front ys more k (omega (arith, l))
+slice_get-before : {X : Type 0} (xs more : List X) (k : ℕ) → k < length xs → slice_get (xs ++ more) k ≡ slice_get xs k
+slice_get-before [] more k l = absurd (omega (arith, l))
+slice_get-before (y ∷ ys) more zero l = refl
+slice_get-before (y ∷ ys) more (suc k) l = slice_get-before ys more k (omega (arith, l))
 
 slice_get-last : {X : Type 0} (xs : List X) (x : X) (k : ℕ) → k ≡ length xs → slice_get (xs ++ x ∷ []) k ≡ Some x
 slice_get-last xs x k e = subst (λ n. slice_get (xs ++ x ∷ []) n ≡ Some x) (sym e) (at_end xs)
@@ -62,7 +57,7 @@ slice_get-last xs x k e = subst (λ n. slice_get (xs ++ x ∷ []) n ≡ Some x) 
 pub StandsAt-goes : {X : Type 0} (f : X → Position) (xs ys : List X) (n : ℕ) (p : Position) → GoesOn xs ys → StandsAt (map f xs) n p → StandsAt (map f ys) n p
 StandsAt-goes f xs ys n p g h =
     subst (λ l. StandsAt (map f l) n p) (sym g.1)
-    (subst (λ l. StandsAt l n p) (sym (map-append f xs g.0)) (slice_get-goes (map f xs) (map f g.0) n p h))
+    (subst (λ l. StandsAt l n p) (sym (map-append f xs g.0)) (slice_get-front (map f xs) (map f g.0) n p h))
 
 last_at : {X : Type 0} (f : X → Position) (xs : List X) (x : X) → StandsAt (map f (xs ++ x ∷ [])) (length xs) (f x)
 last_at f [] x = refl
@@ -149,7 +144,7 @@ IsPending-goes game replies more position entry g p =
 pub EachOver-push : {X : Type 0} (P : List X → X → Type 0) (xs : List X) (x : X) → EachOver P xs → P xs x → EachOver P (xs ++ x ∷ [])
 EachOver-push P xs x each here k y e = elim (cases_lt k (length xs)) [
   | inl before ↦ subst (λ front. P front y) (sym (take-append-le k xs (x ∷ []) (omega (arith, before))))
-      (each k y (sym (slice_get-front xs (x ∷ []) k before) ∙ e))
+      (each k y (sym (slice_get-before xs (x ∷ []) k before) ∙ e))
   | inr after ↦
       let within = slice_get_within (xs ++ x ∷ []) k y e in
       let last : k ≡ length xs = omega (arith, after, within, length_push xs x) in

@@ -7,7 +7,8 @@ use Rattle.std.proofs.lemmas.Bool.{cases_lt, eqb-true}
 use Rattle.std.proofs.lemmas.List.{length-append, length-replicate}
 use Rattle.std.proofs.lemmas.List.Elements.{All-append, All-cons, All-map, All-nil, All-replicate}
 use Rattle.std.proofs.lemmas.List.FromFn.{get_or-map-range_with_len, length-map-range_with_len}
-use Rattle.std.proofs.lemmas.Option.{none-some, same_Some, slice_get-get_or, slice_get-map, slice_get_within}
+use Rattle.std.proofs.lemmas.Option.{same_Some, slice_get-get_or, slice_get-map, slice_get_within}
+use Rattle.items.proofs.ListLemmas.{slice_get-front}
 use Rattle.items.specs.Game.{numbers}
 use Rattle.items.specs.Multiset.{sizes_of}
 use Rattle.loads.specs.Position.{StandsAt}
@@ -16,15 +17,11 @@ use Rattle.strategy_text.specs.declared.node.Format.TheVariants.{One}
 use Rattle.adversary_graph.specs.Legal.{EachMeetsRules, IsLegal}
 use Rattle.adversary_graph.specs.Nodes.{IsOfFormat, position_of}
 use Rattle.adversary_graph.specs.Rules.{MeetsRules}
+use Rattle.algorithm_graph.proofs.PoolLemmas.{slice_get-take-within}
 use Rattle.report.proofs.DrillRules.{drill_is_game, meets_0, meets_1, meets_2, meets_3, meets_4}
 use Rattle.report.specs.Drill.{choice, copy_of_1, copy_of_3, drill_nodes, node_0, node_2, node_4}
 
 -- ---- places of nodes in a list
-
-front_at : {X : Type 0} (xs ys : List X) (k : ℕ) (x : X) → slice_get xs k ≡ Some x → slice_get (xs ++ ys) k ≡ Some x
-front_at [] ys k x e = absurd (none-some x e)
-front_at (z ∷ zs) ys zero x e = e
-front_at (z ∷ zs) ys (suc k) x e = front_at zs ys k x e
 
 back_at : {X : Type 0} (xs ys : List X) (n i k : ℕ) (x : X) → length xs ≡ n → n + i ≡ k → slice_get ys i ≡ Some x → slice_get (xs ++ ys) k ≡ Some x
 back_at [] ys n i k x long e is = subst (λ j. slice_get ys j ≡ Some x) (omega (arith, long, e)) is
@@ -40,13 +37,6 @@ made_at : {X : Type 0} (f : ℕ → X) (n k : ℕ) → k < n → slice_get (map 
 made_at f n k l =
     slice_get-get_or (map f (range_with_len 0 n)) k (f k) (omega (arith, l, length-map-range_with_len f 0 n))
     ∙ ap Some (get_or-map-range_with_len f 0 n k k (f k) l (omega arith))
-
--- the front of a list keeps its places
-taken_at : {X : Type 0} (xs : List X) (n k : ℕ) (x : X) → k < n → slice_get xs k ≡ Some x → slice_get (take n xs) k ≡ Some x
-taken_at xs zero k x l e = absurd (omega (arith, l))
-taken_at [] (suc n) k x l e = absurd (none-some x e)
-taken_at (y ∷ ys) (suc n) zero x l e = e
-taken_at (y ∷ ys) (suc n) (suc k) x l e = taken_at ys n k x (omega (arith, l)) e
 
 -- ---- the places of the nodes
 
@@ -91,24 +81,24 @@ module _ (number copies : ℕ) where
 
   at_0 : (k : ℕ) → k < copies → slice_get nodes k ≡ Some node_0
   at_0 k l =
-      front_at up_to_3 (root ∷ []) k node_0 (front_at up_to_2 threes k node_0 (front_at up_to_1 (replicate copies node_2) k node_0
-      (front_at (replicate copies node_0) ones k node_0 (replicated_at copies k node_0 l))))
+      slice_get-front up_to_3 (root ∷ []) k node_0 (slice_get-front up_to_2 threes k node_0 (slice_get-front up_to_1 (replicate copies node_2) k node_0
+      (slice_get-front (replicate copies node_0) ones k node_0 (replicated_at copies k node_0 l))))
 
   at_1 : (i k : ℕ) → i < copies → copies + i ≡ k → slice_get nodes k ≡ Some (copy_of_1 number copies i)
   at_1 i k l e =
       let node = copy_of_1 number copies i in
-      front_at up_to_3 (root ∷ []) k node (front_at up_to_2 threes k node (front_at up_to_1 (replicate copies node_2) k node
+      slice_get-front up_to_3 (root ∷ []) k node (slice_get-front up_to_2 threes k node (slice_get-front up_to_1 (replicate copies node_2) k node
       (back_at (replicate copies node_0) ones copies i k node (length-replicate copies node_0) e (made_at (copy_of_1 number copies) copies i l))))
 
   at_2 : (i k : ℕ) → i < copies → 2 * copies + i ≡ k → slice_get nodes k ≡ Some node_2
   at_2 i k l e =
-      front_at up_to_3 (root ∷ []) k node_2 (front_at up_to_2 threes k node_2
+      slice_get-front up_to_3 (root ∷ []) k node_2 (slice_get-front up_to_2 threes k node_2
       (back_at up_to_1 (replicate copies node_2) (2 * copies) i k node_2 length_1 e (replicated_at copies i node_2 l)))
 
   at_3 : (i k : ℕ) → i < copies → 3 * copies + i ≡ k → slice_get nodes k ≡ Some (copy_of_3 number copies i)
   at_3 i k l e =
       let node = copy_of_3 number copies i in
-      front_at up_to_3 (root ∷ []) k node
+      slice_get-front up_to_3 (root ∷ []) k node
       (back_at up_to_2 threes (3 * copies) i k node length_2 e (made_at (copy_of_3 number copies) copies i l))
 
   at_4 : (k : ℕ) → 4 * copies ≡ k → slice_get nodes k ≡ Some root
@@ -116,7 +106,7 @@ module _ (number copies : ℕ) where
 
   -- a node before the one of this number stands at its position
   stands : (k child : ℕ) (node : AdvNode) → child < k → slice_get nodes child ≡ Some node → StandsAt (map position_of (take k nodes)) child (position_of node)
-  stands k child node l e = slice_get-map position_of (take k nodes) child ∙ ap (option_map position_of) (taken_at nodes k child node l e)
+  stands k child node l e = slice_get-map position_of (take k nodes) child ∙ ap (option_map position_of) (slice_get-take-within nodes k child node l e)
 
   -- the rules of the node of each place
 

@@ -60,7 +60,8 @@ left_from-past_word line left at end l is e = elim (cases_lt end (length left)) 
   | inr m ↦ left_from-past line (at + end + 1) (omega (arith, l, m, ap length is, length-drop at line)) ∙ sym (left_none left end e m)
 ]
 
-full : (n : ℕ) → (suc n == 0) ≡ false
+-- a list that has a first element is not empty
+pub full : (n : ℕ) → (suc n == 0) ≡ false
 full n = grind (arith, nat_tests)
 
 pub some_left : (bytes : List ℕ) → false ≡ (length (words_left (Some bytes)) == 0)

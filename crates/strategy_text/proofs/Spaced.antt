@@ -75,7 +75,8 @@ pub some_entries : (xs : List Entry) → xs ≢ [] → flat_map entry_words xs �
 some_entries [] h = absurd (h refl)
 some_entries (x ∷ xs) h = refl
 
-rest_of : (x : List ℕ) (xs : List (List ℕ)) → take (length (x ∷ xs) - 1) (drop 1 (x ∷ xs)) ≡ xs
+-- the elements after the first, as the code cuts them
+pub rest_of : (x : List ℕ) (xs : List (List ℕ)) → take (length (x ∷ xs) - 1) (drop 1 (x ∷ xs)) ≡ xs
 rest_of x xs = take_all (length (x ∷ xs) - 1) xs (omega arith)
 
 -- the first list of a packing was taken, and the others were written

@@ -1,14 +1,14 @@
 -- What each step of reading takes, and that it takes it again.
-use Rattle.std.proofs.Common.{◌≡◌, ◌≢◌, ℕ, suc, ◌<◌, ◌≤◌, ◌^◌, Bool, true, false, cond, ◌==◌, List, [], ◌∷◌, length, decimal, Option, Some, None, refl, arith}
+use Rattle.std.proofs.Common.{◌≡◌, ◌≢◌, ℕ, ◌<◌, ◌≤◌, ◌^◌, Bool, true, false, cond, ◌==◌, List, [], ◌∷◌, length, decimal, Option, Some, None, refl}
 use Rattle.std.specs.Option.{option_map}
 use Rattle.std.specs.Str.{bytes_eq}
-use Rattle.std.proofs.lemmas.Bool.Decides.{nat_tests}
 use Rattle.std.proofs.lemmas.Option.{cond_some}
 use Rattle.std.proofs.lemmas.Slice.Eq.{bytes_eq-Decides}
 use Rattle.strategy_text.specs.Words.{number_of, after, number_at}
 use Rattle.strategy_text.specs.declared.node.Format.{Format}
 use Rattle.strategy_text.specs.declared.node.Format.TheVariants.{One, Two}
 use Rattle.strategy_text.specs.Reading.{◌>>=◌, whole, some_at, choose, second}
+use Rattle.strategy_text.proofs.FirstWord.{full}
 use Rattle.strategy_text.proofs.Numerals.{number_takes, number_again}
 
 -- the value of a step that did not fail
@@ -85,9 +85,6 @@ pub some_takes : {X : Type 0} (found x : List X × List (List ℕ)) → some_at 
 some_takes found x e =
     let t = some_test (length found.0 == 0) found x e in
     (t.1, rw (← t.1) (nonempty found.0 t.0))
-
-full : (n : ℕ) → (suc n == 0) ≡ false
-full n = grind (arith, nat_tests)
 
 pub some_again : {X : Type 0} (xs : List X) (left : List (List ℕ)) → xs ≢ [] → some_at (xs, left) ≡ Some (xs, left)
 some_again [] left h = absurd (h refl)

@@ -134,7 +134,8 @@ not_packable left new_left (Drill number copies) text accepted more due e = due
 not_packable left new_left (Search game budget table) text accepted more due e = due
 
 -- a legal strategy stands after an accepted line
-outcome_stands : (names : List (List ℕ)) (answers : List (GameNumbers → List ℕ → ℕ)) (left new_left : Option (List ℕ)) (command : Command) (status : Status) (text : List ℕ) (accepted : Accepted) (more : List ℕ)
+outcome_stands : (names : List (List ℕ)) (answers : List (GameNumbers → List ℕ → ℕ)) (left new_left : Option (List ℕ)) (command : Command)
+    → (status : Status) (text : List ℕ) (accepted : Accepted) (more : List ℕ)
     → IsOutcome names answers left new_left command status text → text ≡ accepted_line accepted ++ more → Accepts Either accepted left new_left
 outcome_stands names answers left new_left Check Done text accepted more due e =
     subst (λ a. Accepts Either a left new_left) (same_line due.accepted accepted more (legal_numbers due.accepted left new_left due.accepts) (sym due.line ∙ e)) due.accepts
@@ -188,7 +189,8 @@ none_written known accepted first =
     not_empty (accepted_line accepted ++ found.0) found.1 refl
 
 -- the text was written whole, as a piece of the same bytes
-pub after_whole : (names : List (List ℕ)) (answers : List (GameNumbers → List ℕ → ℕ)) (words : List (List ℕ)) (left new_left : Option (List ℕ)) (status : Status) (text piece : List ℕ) (old new : Option (List ℕ)) (accepted : Accepted)
+pub after_whole : (names : List (List ℕ)) (answers : List (GameNumbers → List ℕ → ℕ)) (words : List (List ℕ)) (left new_left : Option (List ℕ))
+    → (status : Status) (text piece : List ℕ) (old new : Option (List ℕ)) (accepted : Accepted)
     → IsDue (made_call names answers words left new_left) status text
     → piece ≡ text → new ≡ append_known old piece → WritesFirst old new (accepted_line accepted) → Accepts Either accepted left new_left
 after_whole names answers words left new_left status text piece old new accepted due same whole first =
@@ -196,7 +198,8 @@ after_whole names answers words left new_left status text piece old new accepted
     stands_after (made_call names answers words left new_left) status text accepted found.0 due (sym same ∙ found.1)
 
 -- a prefix of the text was written
-pub after_prefix : (names : List (List ℕ)) (answers : List (GameNumbers → List ℕ → ℕ)) (words : List (List ℕ)) (left new_left : Option (List ℕ)) (status : Status) (text piece : List ℕ) (old new : Option (List ℕ)) (accepted : Accepted)
+pub after_prefix : (names : List (List ℕ)) (answers : List (GameNumbers → List ℕ → ℕ)) (words : List (List ℕ)) (left new_left : Option (List ℕ))
+    → (status : Status) (text piece : List ℕ) (old new : Option (List ℕ)) (accepted : Accepted)
     → IsDue (made_call names answers words left new_left) status text
     → piece ≡ text → AppendsSome old new piece → WritesFirst old new (accepted_line accepted) → Accepts Either accepted left new_left
 after_prefix names answers words left new_left status text piece old new accepted due same some first =

@@ -26,7 +26,8 @@ said (Err e) text line h same = tt
 
 pub accepted_text : (accepted : Accepted) (side : List ℕ) (bins capacity target : ℕ) → side ≡ side_word accepted.side → bins ≡ accepted.game.bins
     → capacity ≡ accepted.game.capacity → target ≡ accepted.game.target
-    → codes "accepted " ++ (side ++ (codes " " ++ (decimal bins ++ (codes " " ++ (decimal capacity ++ (codes " " ++ (decimal target ++ (codes " nodes " ++ (decimal accepted.nodes ++ codes "\n"))))))))) ≡ accepted_line accepted
+    → codes "accepted " ++ (side ++ (codes " " ++ (decimal bins ++ (codes " " ++ (decimal capacity ++ (codes " "
+    ++ (decimal target ++ (codes " nodes " ++ (decimal accepted.nodes ++ codes "\n"))))))))) ≡ accepted_line accepted
 accepted_text accepted side bins capacity target e1 e2 e3 e4 = rw (e1, e2, e3, e4)
 
 pub syntax_text : (line : ℕ) (fault : Why) → fault ≡ why.Syntax → codes "rejected line " ++ (decimal line ++ codes " syntax\n") ≡ rejected_line line fault

@@ -128,7 +128,8 @@ module _ {E : Type 0} (names : List (List ℕ)) (answers : List (GameNumbers →
       → slice_get names place ≡ Some name → slice_get answers place ≡ Some answer → Loads (Only Adversary) strategy left new_left
       → IfOk r (λ due. (due.status ≡ Done) × IsPlayOf name answer due.text strategy)
       → IfOk r (λ due. IsOutcome names answers left new_left (Play place) due.status due.text)
-  play_outcome place name answer strategy (Ok due) named so loads is = play_status names answers left new_left place name answer strategy due.status due.text named so loads is.0 is.1
+  play_outcome place name answer strategy (Ok due) named so loads is = play_status names answers left new_left place name answer strategy due.status due.text
+      named so loads is.0 is.1
   play_outcome place name answer strategy (Err e) named so loads is = tt
 
   -- the replies of a strategy that was read

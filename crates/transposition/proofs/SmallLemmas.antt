@@ -1,7 +1,7 @@
 -- Positions with few and small items: what their bytes stand for.
 use Rattle.std.proofs.Common.{◌≡◌, ◌↔◌, ◌&&◌, ℕ, zero, suc, ◌+◌, ◌-◌, ◌*◌, ◌<◌, ◌≤◌, max, Bool, true, false, cond, IsTrue, All, List, [], ◌∷◌, ◌++◌, length}
 use Rattle.std.proofs.Common.{get_or, set, take, drop, replicate, sum}
-use Rattle.std.proofs.Common.{refl, sym, ap, ◌∙◌, subst, append_assoc, eqb, leb, arith}
+use Rattle.std.proofs.Common.{refl, sym, ap, ◌∙◌, subst, eqb, leb, arith}
 use Rattle.std.specs.Bool.{Decides}
 use Rattle.std.specs.Cmp.Lexicographic.{pointwise}
 use Rattle.std.proofs.lemmas.Bool.{leb-true, le-leb, lt-leb, and_from}
@@ -13,20 +13,13 @@ use Rattle.std.proofs.lemmas.List.Sums.{sum_by-append}
 use Rattle.items.specs.Multiset.{IsMultiset, IsSize, largest_of, put_ascending, put_times}
 use Rattle.items.specs.Counters.{counters_of, expanded}
 use Rattle.items.proofs.MultisetLemmas.{RisesFrom, IsNonDecreasing-from_rises, same_ascending, sum-put_times, Same-push_times, IsNonDecreasing-put_times}
-use Rattle.items.proofs.CounterLemmas.{RisesFrom-expanded, counters_of-expanded, expanded-counters_of, expanded-past}
+use Rattle.items.proofs.CounterLemmas.{RisesFrom-expanded, expanded-append, counters_of-expanded, expanded-counters_of, expanded-past}
 use Rattle.items.proofs.CounterLemmas.{expanded-drop, same_counters, counter-le-sum, length-counters_of, put-expanded, IsBetween, All-expanded}
 use Rattle.items.proofs.MultisetLemmas.{largest_of-le, largest_of-put_ascending, sum-put_ascending}
 use Rattle.loads.specs.Loads.{AreLoads}
 use Rattle.loads.specs.Packed.{bytes_of}
 use Rattle.loads.specs.Position.{position}
 use Rattle.transposition.specs.SmallPositions.{IsSmallPosition, counted_position, are_small, padded, hashed}
-
--- counters one after another
-expanded-append : (k : ℕ) (xs ys : List ℕ) → expanded k (xs ++ ys) ≡ expanded k xs ++ expanded (k + length xs) ys
-expanded-append k [] ys = ap (λ n. expanded n ys) (omega arith)
-expanded-append k (x ∷ xs) ys =
-    ap (λ zs. replicate x k ++ zs) (expanded-append (k + 1) xs ys ∙ ap (λ n. expanded (k + 1) xs ++ expanded n ys) (omega arith))
-    ∙ sym (append_assoc (replicate x k) (expanded (k + 1) xs) (expanded (k + suc (length xs)) ys))
 
 -- counters of 0 stand for nothing
 expanded-zeros : (k n : ℕ) → expanded k (replicate n 0) ≡ []

@@ -3,7 +3,7 @@ use Rattle.std.proofs.lemmas.Bool.{false≢true}
 use Rattle.items.specs.Multiset.{IsSize}
 use Rattle.adversary_graph.specs.NodeRules as the
 use Rattle.std.proofs.lemmas.List.Elements.{All-contains}
-use Rattle.adversary_graph.proofs.RuleLemmas.{multiset_of_loads}
+use Rattle.loads.proofs.LoadsLemmas.{multiset_of_loads}
 use Rattle.adversary_graph.proofs.rules.fault_past_items.Goals as goal
 
 pub returns-then-not-contains : goal.returns-then-not-contains

@@ -7,4 +7,5 @@ use Rattle.adversary_graph.proofs.rules.lead_to_children.Given as goal
 
 abbrev pub invariant-loop-placement : goal.invariant-loop-placement
 invariant-loop-placement g l =
-    All (λ placement. LeadsTo (g.E.EarlierPositions.positions l.earlier) placement.next (after (position l.loads l.items) placement.load l.size)) (take l.placement-index l.placements)
+    All (λ placement. LeadsTo (g.E.EarlierPositions.positions l.earlier) placement.next (after (position l.loads l.items) placement.load l.size))
+    (take l.placement-index l.placements)

@@ -9,8 +9,7 @@ use Rattle.algorithm_graph.specs.Rules.{NamesLoad}
 use Rattle.algorithm_graph.specs.Rules as the
 use Rattle.algorithm_graph.proofs.SizesLemmas.{entries_of_have_sizes}
 use Rattle.algorithm_graph.proofs.rules.fault_past_items.Goals.{else-last-via-then-last+else-not-is_root, else-last-via-else-last}
-use Rattle.loads.proofs.LoadsLemmas.{multiset_from_items}
-use Rattle.algorithm_graph.proofs.RuleLemmas.{multiset_of_loads}
+use Rattle.loads.proofs.LoadsLemmas.{multiset_from_items, multiset_of_loads}
 use Rattle.algorithm_graph.proofs.rules.fault_past_items.Goals as goal
 
 pub returns-then-not-finishes_if_said : goal.returns-then-not-finishes_if_said

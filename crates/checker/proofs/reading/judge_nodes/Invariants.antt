@@ -8,4 +8,5 @@ abbrev pub invariant-loop-k : goal.invariant-loop-k
 invariant-loop-k g l =
     let left = g.S.Source.left in
     ((nodes : List AnyNode) × (length nodes ≡ l.k) × (l.positions ≡ map position_of nodes) × AreJudged (told_by l.head) nodes
-    × ReadsLines (node_lines 0 nodes) l.initial.lines l.lines (left l.initial.source) (left l.source)) × (side_of_node (any_node l.node) ≡ l.head.side) × (g.S.Source.faults l.initial.source ≤ g.S.Source.faults l.source)
+    × ReadsLines (node_lines 0 nodes) l.initial.lines l.lines (left l.initial.source) (left l.source)) × (side_of_node (any_node l.node) ≡ l.head.side)
+    × (g.S.Source.faults l.initial.source ≤ g.S.Source.faults l.source)

@@ -45,19 +45,11 @@ use Rattle.minimax.proofs.expanding.+expanding.Goals.{weigh_all-in-Replied+then-
 -- ---- expand
 
 pub expand-look_up-requires : goal.expand-look_up-requires
-expand-look_up-requires g t c κs l = (
-  omega (arith, c.decreases),
-  (
-    l,
-    (
-      c.requires.of_key,
-      (
-        (λ finishes. false≢true (sym c.if-finishes.false ∙ c.finishes.ensures.exact.1 (subst (Finishes c.args.game.now) (sym c.requires.of_key) finishes))),
-        (c.requires.sound, (c.requires.may, c.requires.behind)),
-      ),
-    ),
-  ),
-)
+expand-look_up-requires g t c κs l =
+    let finishes = c.finishes.ensures.exact.1 in
+    let unfinished : Finishes c.args.game.now c.args.key.loads → ⊥ =
+    λ f. false≢true (sym c.if-finishes.false ∙ finishes (subst (Finishes c.args.game.now) (sym c.requires.of_key) f)) in
+    (omega (arith, c.decreases), (l, (c.requires.of_key, (unfinished, (c.requires.sound, (c.requires.may, c.requires.behind))))))
 
 -- ---- look_up
 
@@ -131,23 +123,11 @@ look_up-returns-clause-serves g t c =
 -- ---- decide
 
 pub decide-weigh_all-requires : goal.decide-weigh_all-requires
-decide-weigh_all-requires g t c κs l = (
-  omega (arith, c.decreases),
-  (
-    l,
-    (
-      c.requires.of_key,
-      (
-        c.requires.sound,
-        (
-          opens c.args.game.now c.args.pass c.args.search.now c.room_up_to.new.self c.args.position.now c.in_ok-room.room c.requires.stands c.requires.visited
-              c.requires.unfinished c.in_ok-room.ensures.exact,
-          (c.in_ok-room.ensures.exact, (c.requires.told, c.requires.behind)),
-        ),
-      ),
-    ),
-  ),
-)
+decide-weigh_all-requires g t c κs l =
+    let room = c.in_ok-room.ensures.exact in
+    let from_room = opens c.args.game.now c.args.pass c.args.search.now c.room_up_to.new.self c.args.position.now c.in_ok-room.room c.requires.stands
+    c.requires.visited c.requires.unfinished room in
+    (omega (arith, c.decreases), (l, (c.requires.of_key, (c.requires.sound, (from_room, (room, (c.requires.told, c.requires.behind)))))))
 
 pub decide-returns-clause-found : goal.decide-returns-clause-found
 decide-returns-clause-found g t c =
@@ -186,23 +166,11 @@ try_load-expand-requires g t c κs l =
     let items = sum-put_ascending c.args.size c.args.position.now.items in
     let child : sum c.in_ok-next.next.items ≡ c.args.size + sum c.args.position.now.items = ap (λ (p : Position). sum p.items) is ∙ items in
     let total = total_with c.args.game.now c.args.position.now c.args.size c.requires.may_come.packable in
-    let low = (size_of_last c.args.game.now c.args.position.now.items c.args.size c.requires.may_come.packable).low in (
-      omega (arith, c.decreases, child, total, low),
-      (
-        l,
-        (
-          sym (ap (λ (p : Position). p.loads) c.in_ok-next.ensures),
-          (
-            c.requires.sound,
-            (
-              may_visit_child c.args.game.now c.args.pass c.args.search.now c.push.new.self c.args.position.now c.in_ok-next.next c.args.size c.args.load
-                  c.requires.at_load c.requires.may_come below c.in_ok-push.ensures.ok is,
-              c.requires.behind,
-            ),
-          ),
-        ),
-      ),
-    )
+    let low = (size_of_last c.args.game.now c.args.position.now.items c.args.size c.requires.may_come.packable).low in
+    let loads = sym (ap (λ (p : Position). p.loads) c.in_ok-next.ensures) in
+    let may = may_visit_child c.args.game.now c.args.pass c.args.search.now c.push.new.self c.args.position.now c.in_ok-next.next c.args.size c.args.load
+    c.requires.at_load c.requires.may_come below c.in_ok-push.ensures.ok is in
+    (omega (arith, c.decreases, child, total, low), (l, (loads, (c.requires.sound, (may, c.requires.behind)))))
 
 pub try_load-returns-then-load-size-clause-serves : goal.try_load-returns-then-load-size-clause-serves
 try_load-returns-then-load-size-clause-serves g t c =

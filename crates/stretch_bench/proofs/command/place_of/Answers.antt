@@ -15,4 +15,5 @@ loop-place-preserved g c =
     (omega (arith, c.loop-place-test.true, c.len-place-end.ensures)) c.index.ensures c.as_str.ensures.value c.if-eq.ensures c.loop-place.invariant
 
 pub returns : goal.returns
-returns g c = none_named (λ player. player.name) c.args.players.now.items c.loop-place.place c.args.name.now (omega (arith, c.loop-place-test.false, c.len-place-end.ensures)) c.loop-place.invariant
+returns g c = none_named (λ player. player.name) c.args.players.now.items c.loop-place.place c.args.name.now
+    (omega (arith, c.loop-place-test.false, c.len-place-end.ensures)) c.loop-place.invariant

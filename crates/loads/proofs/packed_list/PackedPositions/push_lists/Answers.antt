@@ -23,14 +23,16 @@ pub invariant_of-self-2 : goal.invariant_of-self-2
 invariant_of-self-2 c =
     let d = (goal.at.invariant_of-self-2 c).After-push_reserved in
     let legal = ArePositionBytes-bytes_of d.args.loads.now d.args.items.now d.requires.loads d.requires.items in
-    let put = IsInSlot-put d.self.inside.bytes.items _ _ _ _ d.slot_of_last-slot.result (bytes_after d) (start d) d.slot_of_last-slot.ensures.kept d.slot_of_last-slot.ensures.others in
+    let put = IsInSlot-put d.self.inside.bytes.items _ _ _ _ d.slot_of_last-slot.result (bytes_after d) (start d)
+    d.slot_of_last-slot.ensures.kept d.slot_of_last-slot.ensures.others in
     rw (slots_after d) (AreKept-push d.self.inside.bytes.items _ _ _ _ d.self.invariant put.1 put.0 d.slot_of_last-slot.ensures.within legal)
 
 pub returns-clause-ok : goal.returns-clause-ok
 returns-clause-ok c =
     let d = (goal.at.returns-clause-ok c).After-push_reserved in
     let more = bytes_of (position d.args.loads.now d.args.items.now) in
-    let put = IsInSlot-put d.self.inside.bytes.items _ _ _ _ d.slot_of_last-slot.result (bytes_after d) (start d) d.slot_of_last-slot.ensures.kept d.slot_of_last-slot.ensures.others in
+    let put = IsInSlot-put d.self.inside.bytes.items _ _ _ _ d.slot_of_last-slot.result (bytes_after d) (start d)
+    d.slot_of_last-slot.ensures.kept d.slot_of_last-slot.ensures.others in
     rw (slots_after d) (positions_in-push d.self.inside.bytes.items _ more d.self.inside.slots.items _ d.self.invariant put.1 put.0)
     ∙ ap (λ positions. positions ++ position_in more ∷ []) d.self.view_is
     ∙ ap (λ last. d.args.self.now ++ last ∷ []) (position_in-bytes_of d.args.loads.now d.args.items.now)
