@@ -12,8 +12,9 @@ use std::alloc::{AllocError, Global};
 use std::hash::Hash;
 use std::marker::Model;
 
-// For how many entries a new table has room.
-const FIRST_ROOM: usize = 16;
+// For how many entries a new table has room. The map's index has nine entries for each of a power of two of groups, so
+// twice nine, and four times as many each time, fill it before it grows.
+const FIRST_ROOM: usize = 18;
 
 /// A map of at most so many entries. Each entry has a mark, which a look-up sets. At capacity a hand goes round the
 /// entries, clears marks and drops the first entry without one for a new key. Memory is taken as entries come.

@@ -1,8 +1,6 @@
-use Rattle.std.proofs.Common.{◌≡◌, ◌∙◌, ap, sym, true, arith}
+use Rattle.std.proofs.Common.{◌≡◌, ◌∙◌, ap, arith}
 use Rattle.std.proofs.lemmas.Bool.{lt-leb}
 use Rattle.items.specs.Counters.{expanded}
-use Rattle.items.specs.Multiset.{put_ascending}
-use Rattle.transposition.specs.SmallPositions.{are_small}
 use Rattle.transposition.proofs.SmallLemmas.{small_with, large_with}
 use Rattle.transposition.proofs.small_position.SmallPosition.may_take.Goals as goal
 
