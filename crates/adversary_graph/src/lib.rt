@@ -7,8 +7,8 @@ mod pool;
 mod rules;
 mod step;
 
-pub use plays::refute;
-pub use pool::AdvPool;
+pub use plays::{refute, refute_by};
+pub use pool::{AdvJudged, AdvPool, AdversaryRules};
 pub use rules::{judge, node_fault};
 
 #[cfg(test)]

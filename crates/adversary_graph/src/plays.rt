@@ -14,7 +14,7 @@ ghost use Rattle.adversary_graph.specs.Pools.{IsRoot};
 ghost use Rattle.adversary_graph.specs.Playing.{IsCourse, IsEnd, IsStep, ShowsEndPacking, StandsReady, play_of};
 
 use crate::laws::pool_is_legal;
-use crate::pool::AdvPool;
+use crate::pool::{AdvJudged, AdvPool};
 use crate::step::packing_of;
 use items::laws::game_is_legal;
 use items::{Game, Nums};
@@ -29,6 +29,21 @@ use strategy_text::{Placement, Step, Then};
 pub fn refute<O: Online>(
     alloc: Global,
     pool: &AdvPool,
+    root: u32,
+    player: &O,
+) -> Result<Transcript, AllocError>
+    requires root { IsRoot pool.now.nodes root }
+    ensures played { let answer = O.answer player.now pool.now.game in
+        IfOk result (λ transcript. play pool.now.game pool.now.nodes root answer ≡ Some (play_of transcript)) }
+    ensures lost { IfOk result (λ transcript. IsLost pool.now.game (play_of transcript)) }
+{
+    refute_by(alloc, pool.nodes(), root, player)
+}
+
+/// As [`refute`], for nodes without their positions.
+pub fn refute_by<O: Online>(
+    alloc: Global,
+    pool: &AdvJudged,
     root: u32,
     player: &O,
 ) -> Result<Transcript, AllocError>
@@ -110,7 +125,7 @@ impl Course {
 
 // Plays from the root to the end, and gives the number of the node that sent the last item.
 fn play_on<O: Online>(
-    pool: &AdvPool,
+    pool: &AdvJudged,
     root: u32,
     player: &O,
     course: &mut Course,
@@ -135,7 +150,7 @@ fn play_on<O: Online>(
 
 // Sends what the node of this number sends, and gives the child at which the play goes on, if it does.
 fn play_step<O: Online>(
-    pool: &AdvPool,
+    pool: &AdvJudged,
     number: u32,
     player: &O,
     course: &mut Course,
@@ -187,7 +202,7 @@ fn child_of(next: Then) -> Option<u32>
 }
 
 // A packing of a play's items: the end packing of the node of this number without what that has beyond the items.
-fn packing_for(pool: &AdvPool, number: u32, items: &Nums) -> Result<Packing, AllocError>
+fn packing_for(pool: &AdvJudged, number: u32, items: &Nums) -> Result<Packing, AllocError>
     requires end { IsEnd pool.now number items.now }
     ensures made { IfOk result (λ packing.
         (bins : List (List ℕ)) × (end_packing pool.now.nodes (number + 1) number ≡ Some bins)
@@ -201,7 +216,7 @@ fn packing_for(pool: &AdvPool, number: u32, items: &Nums) -> Result<Packing, All
 }
 
 // The end packing of the node of this number.
-fn end_packing(pool: &AdvPool, number: u32) -> &Packing
+fn end_packing(pool: &AdvJudged, number: u32) -> &Packing
     requires within { number < length pool.now.nodes }
     ensures { end_packing pool.now.nodes (number + 1) number ≡ Some result.now }
 {
@@ -209,7 +224,7 @@ fn end_packing(pool: &AdvPool, number: u32) -> &Packing
 }
 
 // The node whose packing is the end packing of the node of this number.
-fn packed_node(pool: &AdvPool, number: u32) -> u32
+fn packed_node(pool: &AdvJudged, number: u32) -> u32
     requires within { number < length pool.now.nodes }
     ensures { ShowsEndPacking pool.now.nodes number result }
 {

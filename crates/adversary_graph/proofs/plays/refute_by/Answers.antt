@@ -2,7 +2,7 @@ use Rattle.std.proofs.Common.{◌+◌, ◌∙◌, []}
 use Rattle.adversary_graph.specs.Play.{end_at}
 use Rattle.adversary_graph.proofs.EndLemmas.{ends_lost}
 use Rattle.adversary_graph.proofs.PlayLemmas.{root_ready}
-use Rattle.adversary_graph.proofs.plays.refute.Goals as goal
+use Rattle.adversary_graph.proofs.plays.refute_by.Goals as goal
 
 pub packing_for-requires : goal.packing_for-requires
 packing_for-requires g c =
