@@ -1,7 +1,7 @@
 //! Packings of items into bins.
 
 ghost use Rattle.std.specs.Prelude.{◌≡◌, ◌↔◌, ◌+◌, ◌*◌, ◌≤◌, [], ◌∷◌, ◌++◌, IsTrue, OnOk, OnErr, IfOk};
-ghost use Rattle.std.specs.Prelude.{◌<◌, All, length, replicate, sum, take};
+ghost use Rattle.std.specs.Prelude.{◌<◌, All, MatchOption, length, replicate, slice_get, sum, take};
 ghost use Rattle.items.specs.Multiset.{IsSize};
 ghost use Rattle.items.specs.Packable.{IsPacking};
 ghost use Rattle.packing_witness.specs.Edits.{without, scaled, CanScale};
@@ -50,6 +50,7 @@ impl Packing {
     /// Takes the bin of a number away, so that another one is made in its memory; an empty one where there is none.
     /// Those before it stay. Takes no memory.
     pub fn lend_bin(&mut self, k: usize) -> Nums
+        ensures bin { MatchOption (slice_get self.old k) (result ≡ []) (λ bin. result ≡ bin) }
         ensures before { take k self.new ≡ take k self.old }
         ensures number { length self.new ≡ length self.old }
     {
