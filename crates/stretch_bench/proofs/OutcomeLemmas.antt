@@ -25,11 +25,11 @@ use Rattle.checker.specs.FirstFault.{IsLegalText}
 use Rattle.minimise.specs.Strategies.{IsLegal, canonical_form, canonical_nodes}
 use Rattle.minimise.proofs.StrategyLemmas.{canonical-legal, canonical_forms_stay, canonical_forms_have_no_more_nodes}
 use Rattle.minimax.specs.Answers.{IsAnswer, IsDecided, IsFor}
-use Rattle.minimax.specs.Budgets.{AreNumbersOfEnds, HasRoom, IsOfAdversary, ends_before}
+use Rattle.minimax.specs.Budgets.{AreNumbersOfReachable, HasRoom, IsOfAdversary, reachable_before}
 use Rattle.minimax.specs.declared.answer.Answer.{Answer as SearchAnswer}
 use Rattle.minimax.specs.declared.answer.Answer.TheVariants as answers
 use Rattle.monotone.specs.Passes.{allowed_in, whole_game}
-use Rattle.monotone.specs.Positions.{CountsAllEnds}
+use Rattle.monotone.specs.Positions.{CountsAllReachable}
 use Rattle.monotone.specs.Visits.{most_visits}
 use Rattle.monotone.specs.declared.path.PathMove.{PathMove}
 use Rattle.loads.specs.Wins.{IsWon, empty_position}
@@ -255,9 +255,9 @@ line_of_fault fault line why r wanted left new_left text e is of =
 pub found_undecided : (game : GameNumbers) (budget table room visits pass : ℕ) (path : List PathMove) (answer : SearchAnswer) (text : List ℕ)
     → answer ≡ answers.Undecided visits pass path → room ≡ table → IsAnswer game budget answer
     → (most_visits (whole_game game) ≤ budget → IsDecided answer)
-    → ((all : ℕ) → CountsAllEnds game all → all ≤ room → game.capacity * all ≤ budget → IsDecided answer)
-    → ((numbers : ℕ → ℕ) (won : ℕ) → AreNumbersOfEnds game numbers → HasRoom game room
-    → IsWon game (allowed_in (sizes_of game) won) (empty_position game) → ends_before numbers (won + 1) ≤ budget → IsOfAdversary answer)
+    → ((all : ℕ) → CountsAllReachable game all → all ≤ room → game.capacity * all ≤ budget → IsDecided answer)
+    → ((numbers : ℕ → ℕ) (won : ℕ) → AreNumbersOfReachable game numbers → HasRoom game room
+    → IsWon game (allowed_in (sizes_of game) won) (empty_position game) → reachable_before numbers (won + 1) ≤ budget → IsOfAdversary answer)
     → text ≡ undecided_line game visits pass path → IsUndecided game budget table text
 found_undecided game budget table room visits pass path answer text e same is many all won line =
     let due = subst (IsAnswer game budget) e is in

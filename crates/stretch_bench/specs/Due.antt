@@ -25,12 +25,12 @@ use Rattle.match_player.specs.Answers.{IsLeastUnpackable, answered_by}
 use Rattle.match_player.specs.Lines.{play_text, answer_text}
 use Rattle.items.specs.Multiset.{sizes_of}
 use Rattle.loads.specs.Wins.{IsWon, empty_position}
-use Rattle.minimax.specs.Budgets.{AreNumbersOfEnds, HasRoom, ends_before}
+use Rattle.minimax.specs.Budgets.{AreNumbersOfReachable, HasRoom, reachable_before}
 use Rattle.minimax.specs.Settled as settled
 use Rattle.minimise.specs.Strategies.{canonical_form}
 use Rattle.minimise.specs.Upgrade.{IsCanonicalUpgrade}
 use Rattle.monotone.specs.Passes.{allowed_in, whole_game}
-use Rattle.monotone.specs.Positions.{CountsAllEnds}
+use Rattle.monotone.specs.Positions.{CountsAllReachable}
 use Rattle.monotone.specs.Visits.{most_visits, visit}
 use Rattle.monotone.specs.declared.path.PathMove.{PathMove}
 use Rattle.report.specs.Drill.{drill}
@@ -138,16 +138,17 @@ pub record IsFound (game : GameNumbers) (budget : ℕ) (text : List ℕ) : Type 
   pub spelled : text ≡ text_of strategy
 
 -- the line of a visit that was due when a search of a game had spent its budget, which was less than the number of
--- visits that there can be. Where the table has room for all positions at which legal paths end, the budget was less
--- than these for each pass; where the adversary wins a pass, less than those of the passes up to it.
+-- visits that there can be. Where the table has room for all reachable positions, the budget was less than these for
+-- each pass; where the adversary wins a pass, less than those of the passes up to it.
 pub record IsUndecided (game : GameNumbers) (budget table : ℕ) (text : List ℕ) : Type 0 where
   pub pass : ℕ
   pub path : List PathMove
   pub due : settled.IsDue (whole_game game) budget (visit pass path)
   pub fewer_than_visits : most_visits (whole_game game) ≤ budget → ⊥
-  pub fewer_than_positions : (all : ℕ) → CountsAllEnds game all → all ≤ table → game.capacity * all ≤ budget → ⊥
-  pub not_won : (numbers : ℕ → ℕ) (won : ℕ) → AreNumbersOfEnds game numbers → HasRoom game table
-      → IsWon game (allowed_in (sizes_of game) won) (empty_position game) → ends_before numbers (won + 1) ≤ budget → ⊥
+  pub fewer_than_positions : (all : ℕ) → CountsAllReachable game all → all ≤ table → game.capacity * all ≤ budget → ⊥
+  pub not_won : (numbers : ℕ → ℕ) (won : ℕ) → AreNumbersOfReachable game numbers → HasRoom game table
+      → IsWon game (allowed_in (sizes_of game) won) (empty_position game)
+      → reachable_before numbers (won + 1) ≤ budget → ⊥
   pub line : text ≡ undecided_line game budget pass path
 
 -- a fault was found, the first one of the bytes read and of the whole input

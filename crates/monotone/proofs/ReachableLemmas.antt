@@ -1,4 +1,4 @@
--- The positions at which legal paths end, and their number.
+-- The reachable positions, and their number.
 use Rattle.std.proofs.Common.{◌≡◌, ◌≢◌, ◌↔◌, ℕ, ◌-◌, ◌<◌, ◌≤◌, ◌⊎◌, Bool, true, false, cond, ◌&&◌, eqb, List, [], ◌∷◌, map, length, get_or, refl, sym, ap, ◌∙◌, subst}
 use Rattle.std.proofs.Common.{⊎_elim, inl, inr, arith}
 use Rattle.std.specs.Prelude.{All, AllPairs, Contains, IsTrue}
@@ -13,7 +13,7 @@ use Rattle.monotone.specs.declared.path.PathMove.{PathMove}
 use Rattle.loads.specs.Wins.{empty_position}
 use Rattle.monotone.specs.Paths.{IsLegalFrom, IsLegalPath, position_after}
 use Rattle.monotone.specs.Passes.{allowed_in}
-use Rattle.monotone.specs.Positions.{IsEnd, AreEnds, CountsEnds, CountsEndsOfPass, CountsAllEnds}
+use Rattle.monotone.specs.Positions.{IsReachable, AreReachable, CountsReachable, CountsReachableOfPass, CountsAllReachable}
 use Rattle.monotone.proofs.ListLemmas.{Contains-first, Contains-later, Contains-nothing, Contains-split, Contains-map, from_map, AllPairs-cons, length-le-members}
 use Rattle.monotone.proofs.PassLemmas.{allowed_later}
 use Rattle.monotone.proofs.DecideLemmas.{both, any_found, any_told, is_legal_from, path_told}
@@ -110,7 +110,7 @@ module _ (test : List PathMove → Bool) where
   kept (x ∷ xs) y c h = ⊎_elim (λ e. subst (Contains (filter test (x ∷ xs))) e (filter_here (test x) x (filter test xs) (subst (λ z. IsTrue (test z)) (sym e) h)))
       (λ later. filter_later (test x) x (filter test xs) y (kept xs y later h)) (Contains-split x xs y c)
 
--- the positions at which legal paths end, written out
+-- the reachable positions, written out
 module _ (game : GameNumbers) (allowed : List ℕ → ℕ → Bool) where
   unfoldable pub legal_paths : List (List PathMove)
   legal_paths = filter (is_legal_from game allowed (empty_position game)) (paths_of game)
@@ -126,12 +126,12 @@ module _ (game : GameNumbers) (allowed : List ℕ → ℕ → Bool) where
   legal_if_there path c =
       (path_told game allowed (empty_position game) path).0 (passed (is_legal_from game allowed (empty_position game)) (paths_of game) path c)
 
-  unfoldable pub ends : List Position
-  ends = each_once (map (position_after (empty_position game)) legal_paths)
+  unfoldable pub reachable : List Position
+  reachable = each_once (map (position_after (empty_position game)) legal_paths)
 
-  pub AreEnds-ends : AreEnds game allowed ends
-  unfolding ends
-  AreEnds-ends =
+  pub AreReachable-reachable : AreReachable game allowed reachable
+  unfolding reachable
+  AreReachable-reachable =
       let all = map (position_after (empty_position game)) legal_paths in
       let h = IsOnceOf-each_once all in
       record {
@@ -142,22 +142,22 @@ module _ (game : GameNumbers) (allowed : List ℕ → ℕ → Bool) where
         once = h.once;
       }
 
-  pub ends_are_counted : (number : ℕ) × CountsEnds game allowed number
-  ends_are_counted = (length ends, (ends, AreEnds-ends, refl))
+  pub reachable_positions_are_counted : (number : ℕ) × CountsReachable game allowed number
+  reachable_positions_are_counted = (length reachable, (reachable, AreReachable-reachable, refl))
 
-  pub ends_are_no_more : (number : ℕ) (positions : List Position) → CountsEnds game allowed number → All (IsEnd game allowed) positions → AllPairs ◌≢◌ positions
+  pub reachable_are_no_more : (number : ℕ) (positions : List Position) → CountsReachable game allowed number → All (IsReachable game allowed) positions → AllPairs ◌≢◌ positions
       → length positions ≤ number
-  ends_are_no_more number positions (all, h, e) are once =
+  reachable_are_no_more number positions (all, h, e) are once =
       let few = length-le-members positions all once (λ k d l. (h.exact (get_or positions k d)).1 (are k d l)) in
       omega (arith, few, e)
 
-  number_le : (one other : ℕ) → CountsEnds game allowed one → CountsEnds game allowed other → one ≤ other
+  number_le : (one other : ℕ) → CountsReachable game allowed one → CountsReachable game allowed other → one ≤ other
   number_le one other (all, h, e) others =
-      let few = ends_are_no_more other all others (λ k d l. (h.exact (get_or all k d)).0 (Contains-get_or all k d l)) h.once in
+      let few = reachable_are_no_more other all others (λ k d l. (h.exact (get_or all k d)).0 (Contains-get_or all k d l)) h.once in
       omega (arith, few, e)
 
-  pub one_number_of_ends : (one other : ℕ) → CountsEnds game allowed one → CountsEnds game allowed other → one ≡ other
-  one_number_of_ends one other h k = omega (arith, number_le one other h k, number_le other one k h)
+  pub one_number_of_reachable : (one other : ℕ) → CountsReachable game allowed one → CountsReachable game allowed other → one ≡ other
+  one_number_of_reachable one other h k = omega (arith, number_le one other h k, number_le other one k h)
 
 -- what more sizes are allowed in, more paths are legal in
 legal_in_more : (game : GameNumbers) (allowed more : List ℕ → ℕ → Bool) → ((items : List ℕ) (size : ℕ) → IsTrue (allowed items size) → IsTrue (more items size))
@@ -168,14 +168,14 @@ legal_in_more game allowed more h start (step ∷ path) l = (
   legal_in_more game allowed more h (after start step.load step.item) path l.1,
 )
 
-pub last_pass_has_most : (game : GameNumbers) (pass number all : ℕ) → pass < game.capacity → CountsEndsOfPass game pass number → CountsAllEnds game all → number ≤ all
-last_pass_has_most game pass number all below (ends, h, e) most =
+pub last_pass_has_most : (game : GameNumbers) (pass number all : ℕ) → pass < game.capacity → CountsReachableOfPass game pass number → CountsAllReachable game all → number ≤ all
+last_pass_has_most game pass number all below (reachable, h, e) most =
     let sizes = sizes_of game in
     let last = game.capacity - 1 in
     let more = legal_in_more game (allowed_in sizes pass) (allowed_in sizes last) (λ items size. allowed_later sizes items pass last size (omega (arith, below)))
     (empty_position game) in
-    let each : All (IsEnd game (allowed_in sizes last)) ends = λ k d l.
-    let is = (h.exact (get_or ends k d)).0 (Contains-get_or ends k d l) in
+    let each : All (IsReachable game (allowed_in sizes last)) reachable = λ k d l.
+    let is = (h.exact (get_or reachable k d)).0 (Contains-get_or reachable k d l) in
     (is.0, more is.0 is.1, is.2) in
-    let few = ends_are_no_more game (allowed_in sizes last) all ends most each h.once in
+    let few = reachable_are_no_more game (allowed_in sizes last) all reachable most each h.once in
     omega (arith, few, e)
