@@ -161,8 +161,9 @@ fn take_node(
     requires sizes { All (IsSize head.now.terms.game.capacity) head.now.terms.sizes }
     requires most { head.now.count ≤ most_nodes }
     ensures ok { OnOk result (TakesNode (told_by head.now) earlier.old earlier.new (any_node node.new) text.now) }
-    ensures err { IfErr result (λ fault. IsRefusedLine (head.now.start + length earlier.old) (IsNodeLine (told_by head.now)
-        (length earlier.old)) (IsBrokenNodeLine (told_by head.now) earlier.old) fault text.now) }
+    ensures err { IfErr result (λ fault. IsRefusedLine (head.now.start + length earlier.old)
+        (IsNodeLine (told_by head.now) (length earlier.old)) (IsBrokenNodeLine (told_by head.now) earlier.old) fault
+        text.now) }
 {
     let number = earlier.len() as u32;
     next_node(alloc, head, text, number, node)?;
@@ -192,9 +193,9 @@ pub(crate) fn read_node<S: Source>(
         (any_node node.new) lines.old lines.new (S.left source.old) (S.left source.new)) }
     ensures read { result ≡ Err Read → Rose (S.faults source.old) (S.faults source.new) }
     ensures no_lf { result ≡ Err Read → HasNoLf lines.new.held }
-    ensures refused { IfErr result (λ fault. RefusesNext (head.now.start + length earlier.old) (IsNodeLine (told_by head.now)
-        (length earlier.old)) (IsBrokenNodeLine (told_by head.now) earlier.old) fault lines.old (S.left source.old)
-        (S.left source.new)) }
+    ensures refused { IfErr result (λ fault. RefusesNext (head.now.start + length earlier.old)
+        (IsNodeLine (told_by head.now) (length earlier.old)) (IsBrokenNodeLine (told_by head.now) earlier.old) fault
+        lines.old (S.left source.old) (S.left source.new)) }
 {
     next_text(lines, source, head.line_of(earlier.len() as u32))?;
     take_node(alloc, head, earlier, lines.text(), node)
