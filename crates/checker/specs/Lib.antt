@@ -1,3 +1,4 @@
+pub mod AnyNode
 pub mod Head
 pub mod FirstFault
 pub mod Accepted
