@@ -240,8 +240,8 @@ fn packed_node(pool: &AdvJudged, number: u32) -> u32
     }
 }
 
-// The child of the first placement that has one.
-fn first_child(step: &Step) -> Option<u32>
+/// The child of the first placement of a step that has one. Takes no memory.
+pub fn first_child(step: &Step) -> Option<u32>
     ensures { result ≡ first_child (placements_of step.now) }
 {
     match step {
@@ -261,8 +261,10 @@ fn first_child_of(placements: &[Placement]) -> Option<u32>
     None
 }
 
-// The bins without what they have beyond the items.
-fn without_beyond(game: &Game, bins: &Packing, items: &[u16]) -> Result<Packing, AllocError>
+/// The bins without what they have beyond the items: each item is taken out of the first bin that has one, in
+/// ascending order. So a packing of the items and others becomes one of the items. Costs a copy of the bins for each
+/// item taken out.
+pub fn without_beyond(game: &Game, bins: &Packing, items: &[u16]) -> Result<Packing, AllocError>
     requires few { (x : ℕ) → count x (concat bins.now) ≤ 960 }
     ensures { IfOk result (λ packing. packing ≡ without_all (beyond game.now (concat bins.now) items.now) bins.now) }
 {
