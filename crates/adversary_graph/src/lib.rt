@@ -7,7 +7,7 @@ mod pool;
 mod rules;
 mod step;
 
-pub use plays::{first_child, refute, refute_by, without_beyond};
+pub use plays::{first_child, packing_for, refute, refute_by, without_beyond};
 pub use pool::{AdvJudged, AdvPool, AdversaryRules};
 pub use rules::{judge, node_fault};
 pub use step::packing_of;

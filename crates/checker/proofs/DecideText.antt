@@ -27,7 +27,7 @@ use Rattle.strategy_text.proofs.HeadLines.{game_exact, count_exact}
 use Rattle.strategy_text.proofs.NodeLines.{adversary_line_takes, algorithm_line_takes, adversary_refused, algorithm_refused}
 use Rattle.checker.specs.Accepted.{IsFaultOf, IsTextFaultOf}
 use Rattle.checker.specs.FirstFault.{IsWanted, IsFirstLine, IsGameLine, IsSideLine, IsCountLine, HasNoFault, IsLegalText}
-use Rattle.checker.specs.AnyNode.{position_of}
+use Rattle.strategies.specs.AnyNode.{position_of}
 use Rattle.checker.specs.Head.{Head, head_of_game, SpellsUnder, IsNodeLine, IsBrokenNodeLine}
 use Rattle.checker.specs.Laws.{HasFirstFault, EveryTextHasAFirstFaultOrNone, OnlyLegalTextsHaveNoFault}
 use Rattle.checker.specs.Progress.{StandFirst, HasNext, IsWrongNext, IsWrongAfter, RefusesAfter, IsPastEnd, NoRule, BreaksGame, BreaksSide, IsHead, lines_of_head, AreJudged}

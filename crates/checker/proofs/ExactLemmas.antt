@@ -6,7 +6,7 @@ use Rattle.std.proofs.lemmas.Bool.{false≢true}
 use Rattle.port_io.specs.Faults.{Rose}
 use Rattle.strategy_text.specs.Text.{node_lines, nodes_of, side_of, end_line, text_of}
 use Rattle.strategy_text.specs.declared.node.Strategy.{Strategy}
-use Rattle.checker.specs.AnyNode.{IsLegal}
+use Rattle.strategies.specs.AnyNode.{IsLegal}
 use Rattle.checker.specs.Accepted.{BeginsWithLegalText, Spells, IsTextFaultOf, IsTextLine}
 use Rattle.checker.specs.FirstFault.{FirstFault, HasHead}
 use Rattle.checker.specs.Progress.{StandFirst, IsHead}

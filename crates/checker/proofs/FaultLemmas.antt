@@ -17,7 +17,7 @@ use Rattle.checker.specs.Accepted.{IsFaultOf, IsTextFaultOf, IsTextLine}
 use Rattle.checker.specs.FirstFault.{HasForm, HasWhole, HasBytesPast, HasPositions, IsWanted, IsFirstLine, IsGameLine, IsSideLine, IsCountLine}
 use Rattle.checker.specs.FirstFault.{HasHead, HeadFault, first_syntax, game_syntax, game_rule, side_syntax, side_rule, count_syntax, BodyFault}
 use Rattle.checker.specs.FirstFault.{node_syntax, node_rule, end_syntax, past_syntax, LineFault, in_head, in_body, FirstFault}
-use Rattle.checker.specs.AnyNode.{position_of, EachMeetsRules}
+use Rattle.strategies.specs.AnyNode.{position_of, EachMeetsRules}
 use Rattle.checker.specs.Head.{Head, MeetsUnder, EachMeetsUnder, IsNodeLine, IsBrokenNodeLine}
 use Rattle.checker.specs.Progress.{StandFirst, IsWrongNext, IsWrongAfter, RefusesAfter, IsPastEnd, NoRule, BreaksGame, BreaksSide, IsHead, lines_of_head, AreJudged}
 use Rattle.checker.specs.declared.fault.CheckFault.{CheckFault}

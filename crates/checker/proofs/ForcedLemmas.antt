@@ -12,7 +12,7 @@ use Rattle.strategy_text.specs.declared.node.Side.TheVariants.{Adversary}
 use Rattle.strategy_text.specs.declared.node.Strategy.{Strategy}
 use Rattle.adversary_graph.proofs.WonLemmas.{legal_strategy_forces}
 use Rattle.checker.specs.Accepted.{Spells, IsLoaded, Accepts}
-use Rattle.checker.specs.AnyNode.{AreLegalNodes, IsLegal}
+use Rattle.strategies.specs.AnyNode.{AreLegalNodes, IsLegal}
 use Rattle.checker.specs.declared.fault.Accepted.{Accepted}
 use Rattle.checker.specs.declared.fault.CheckFault.{CheckFault}
 use Rattle.checker.specs.declared.fault.Wanted.{Wanted}

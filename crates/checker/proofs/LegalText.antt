@@ -26,7 +26,7 @@ use Rattle.adversary_graph.specs.Legal.{EachMeetsRules as EachAdversary}
 use Rattle.algorithm_graph.specs.Nodes as algorithm_nodes
 use Rattle.algorithm_graph.specs.Legal.{EachMeetsRules as EachAlgorithm}
 use Rattle.checker.specs.declared.fault.Wanted.{Wanted}
-use Rattle.checker.specs.AnyNode.{position_of, side_of_node, AreLegalNodes, IsLegal, EachMeetsRules}
+use Rattle.strategies.specs.AnyNode.{position_of, side_of_node, AreLegalNodes, IsLegal, EachMeetsRules}
 use Rattle.checker.specs.Head.{Head, head_of_game, MeetsUnder, EachMeetsUnder}
 use Rattle.checker.specs.FirstFault.{HasForm, HasBytesPast, LineFault, HasNoFault, IsWanted, LegalTextHasNoFault}
 use Rattle.checker.specs.Laws.{LegalIsSpellable, LegalLinesAreLines, LegalTextTellsStrategy, NoLegalTextBeginsAnother}
@@ -55,7 +55,7 @@ positions f g same (suc k) (x ∷ xs) = ap (λ (p : Position). p ∷ map g (take
 
 each_adversary : (format : Format) (game : GameNumbers) (list : List AdvNode) → EachAdversary format game (sizes_of game) (length list) list
     → EachMeetsUnder (head_of_game format game Adversary (length (map of_adversary list))) (map of_adversary list)
-unfolding EachAdversary EachMeetsRules
+unfolding EachMeetsRules
 each_adversary format game list each k node e =
     let head : Head = head_of_game format game Adversary (length (map of_adversary list)) in
     let m = mapped of_adversary list k node e in
@@ -64,9 +64,9 @@ each_adversary format game list each k node e =
     (subst (λ (ps : List Position). MeetsUnder head ps (k + 1 == length (map of_adversary list)) (of_adversary m.0)) front
     (subst (λ (c : ℕ). MeetsUnder head (map adversary_nodes.position_of (take k list)) (k + 1 == c) (of_adversary m.0)) (sym (length-map list of_adversary)) (each k m.0 m.1)))
 
-each_algorithm : (format : Format) (game : GameNumbers) (list : List AlgNode) → EachAlgorithm game (sizes_of game) (length list) list
+each_algorithm : (format : Format) (game : GameNumbers) (list : List AlgNode) → EachAlgorithm format game (sizes_of game) (length list) list
     → EachMeetsUnder (head_of_game format game Algorithm (length (map of_algorithm list))) (map of_algorithm list)
-unfolding EachAlgorithm EachMeetsRules
+unfolding EachMeetsRules
 each_algorithm format game list each k node e =
     let head : Head = head_of_game format game Algorithm (length (map of_algorithm list)) in
     let m = mapped of_algorithm list k node e in

@@ -25,7 +25,7 @@ use Rattle.adversary_graph.specs.NodeRules as adversary_rules
 use Rattle.adversary_graph.specs.Rules as adversary
 use Rattle.algorithm_graph.specs.Rules as algorithm
 use Rattle.checker.specs.FirstFault.{HasForm, HasPositions}
-use Rattle.checker.specs.AnyNode.{position_of, EachMeetsRules}
+use Rattle.strategies.specs.AnyNode.{position_of, EachMeetsRules}
 use Rattle.checker.specs.Head.{Head, SpellsUnder, MeetsUnder, BreaksUnder, EachMeetsUnder, IsNodeLine, IsNodeLineAt, IsBrokenNodeLine}
 use Rattle.checker.specs.Progress.{AreKept, AreJudged, TakesNode, ReadsLines, RefusesNext, RefusesAfter, RefusesNode, IsWrongNext}
 use Rattle.checker.specs.declared.fault.CheckFault.{CheckFault}

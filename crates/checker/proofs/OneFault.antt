@@ -12,7 +12,7 @@ use Rattle.strategy_text.proofs.NodesSame.{line_tells}
 use Rattle.checker.specs.declared.fault.Wanted.{Wanted}
 use Rattle.checker.specs.declared.fault.Why.{Why}
 use Rattle.checker.specs.declared.fault.Why.TheVariants as why
-use Rattle.checker.specs.AnyNode.{position_of}
+use Rattle.strategies.specs.AnyNode.{position_of}
 use Rattle.checker.specs.Head.{Head, BreaksUnder, IsNodeLine, IsNodeLineAt, IsBrokenNodeLine}
 use Rattle.checker.specs.FirstFault.{HasForm, HasPositions, HeadFault, first_syntax, game_syntax, game_rule, side_syntax, side_rule, count_syntax, BodyFault, node_syntax}
 use Rattle.checker.specs.FirstFault.{node_rule, end_syntax, past_syntax, LineFault, in_head, in_body, FirstFault, OneFirstFault}

@@ -32,7 +32,7 @@ use Rattle.algorithm_graph.specs.Legal as algorithm_legal
 use Rattle.algorithm_graph.specs.Nodes as algorithm_nodes
 use Rattle.checker.specs.Accepted.{Spells, IsLoaded, Accepts, IsFaultOf, IsTextFaultOf}
 use Rattle.checker.specs.FirstFault.{IsWanted}
-use Rattle.checker.specs.AnyNode.{position_of, side_of_node, AreLegalNodes, EachMeetsRules}
+use Rattle.strategies.specs.AnyNode.{position_of, side_of_node, AreLegalNodes, EachMeetsRules}
 use Rattle.checker.specs.Head.{Head, MeetsUnder, EachMeetsUnder}
 use Rattle.checker.specs.Progress.{ReadsText, ReadsWhole, ReadsEnd, AreKept, RefusesAfter, IsPastEnd, IsHead, AreJudged, strategy_or, strategy_of_parts, told_by}
 use Rattle.checker.specs.declared.fault.Accepted.{Accepted}
@@ -63,13 +63,13 @@ algorithm_positions (suc k) [] = refl
 algorithm_positions (suc k) (node ∷ list) = ap (λ ps. algorithm_nodes.position_of node ∷ ps) (algorithm_positions k list)
 
 adversary_each : (head : Head) (list : List AdvNode) → EachMeetsUnder head (map of_adversary list) → adversary_legal.EachMeetsRules head.format head.game head.sizes head.count list
-unfolding EachMeetsRules adversary_legal.EachMeetsRules
+unfolding EachMeetsRules
 adversary_each head list each k node e =
     subst (λ (ps : List Position). MeetsUnder head ps (k + 1 == head.count) (of_adversary node)) (adversary_positions k list)
     (each k (of_adversary node) (map_get of_adversary list k node e))
 
-algorithm_each : (head : Head) (list : List AlgNode) → EachMeetsUnder head (map of_algorithm list) → algorithm_legal.EachMeetsRules head.game head.sizes head.count list
-unfolding EachMeetsRules algorithm_legal.EachMeetsRules
+algorithm_each : (head : Head) (list : List AlgNode) → EachMeetsUnder head (map of_algorithm list) → algorithm_legal.EachMeetsRules head.format head.game head.sizes head.count list
+unfolding EachMeetsRules
 algorithm_each head list each k node e =
     subst (λ (ps : List Position). MeetsUnder head ps (k + 1 == head.count) (of_algorithm node)) (algorithm_positions k list)
     (each k (of_algorithm node) (map_get of_algorithm list k node e))
@@ -107,8 +107,8 @@ legal_from wanted head (nodes.Algorithm list) is number judged =
       high = omega (arith, count, is.high);
       formed = λ k d within. act_formed head.format (get_or list k d).act
           (judged.spelled k (of_algorithm (get_or list k d)) (map_get of_algorithm list k (get_or list k d) (slice_get-get_or list k d within))).spells.spellable.act;
-      each = subst (λ (n : ℕ). algorithm_legal.EachMeetsRules head.game (sizes_of head.game) n list) (sym count)
-          (subst (λ (sizes : List ℕ). algorithm_legal.EachMeetsRules head.game sizes head.count list) is.whole_game (algorithm_each head list judged.each));
+      each = subst (λ (n : ℕ). algorithm_legal.EachMeetsRules head.format head.game (sizes_of head.game) n list) (sym count)
+          (subst (λ (sizes : List ℕ). algorithm_legal.EachMeetsRules head.format head.game sizes head.count list) is.whole_game (algorithm_each head list judged.each));
     }
 
 -- the nodes of a side, as a strategy keeps them

@@ -2,7 +2,7 @@ use Rattle.std.specs.Prelude.{◌≡◌, ℕ, ◌+◌, ◌≤◌, List, [], ◌+
 use Rattle.std.specs.Io.KnownBytes.{prepend_known}
 use Rattle.strategy_text.specs.Text.{nodes_of, side_of, text_of}
 use Rattle.strategy_text.specs.declared.node.Strategy.{Strategy}
-use Rattle.checker.specs.AnyNode.{IsLegal}
+use Rattle.strategies.specs.AnyNode.{IsLegal}
 use Rattle.checker.specs.Head.{Head}
 use Rattle.checker.specs.FirstFault.{IsWanted, HasHead, FirstFault, HasNoWholeFault}
 use Rattle.checker.specs.declared.fault.Accepted.{Accepted}

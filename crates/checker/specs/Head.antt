@@ -8,7 +8,7 @@ use Rattle.strategy_text.specs.Text.{AnyNode}
 use Rattle.strategy_text.specs.declared.node.Format.{Format}
 use Rattle.strategy_text.specs.declared.node.Side.{Side}
 use Rattle.strategy_text.specs.declared.rule.Rule.{Rule}
-use Rattle.checker.specs.AnyNode.{position_of, side_of_node, MeetsRules, Breaks, EachMeetsRules}
+use Rattle.strategies.specs.AnyNode.{position_of, side_of_node, MeetsRules, Breaks, EachMeetsRules}
 
 -- what the head lines tell: the format, the game, the sizes that items may have, the side, how many nodes there are,
 -- and the number of the line of the first node

@@ -1,4 +1,3 @@
-pub mod AnyNode
 pub mod Head
 pub mod FirstFault
 pub mod Accepted

@@ -17,7 +17,7 @@ use Rattle.checker.specs.declared.head.Head as declared
 use Rattle.checker.specs.declared.keeper.Nothing.{Nothing}
 use Rattle.checker.specs.declared.node.Node.{Node}
 use Rattle.checker.specs.declared.node.Node.TheVariants as read
-use Rattle.checker.specs.AnyNode.{position_of}
+use Rattle.strategies.specs.AnyNode.{position_of}
 use Rattle.checker.specs.Head.{Head, SpellsUnder, MeetsUnder}
 use Rattle.checker.specs.Head.{BreaksUnder, EachMeetsUnder, IsNodeLine, IsBrokenNodeLine}
 use Rattle.checker.specs.Accepted.{IsGone, IsReadWhole}

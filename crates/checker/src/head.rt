@@ -16,17 +16,10 @@ ghost use Rattle.checker.specs.declared.fault.Why.TheVariants.{Syntax};
 ghost use Rattle.checker.specs.declared.fault.Why.TheVariants as why;
 
 use crate::fault::{CheckFault, Wanted, Why};
-use items::{Game, Sizes};
+use items::Game;
+use node_pool::Terms;
 use port_io::{Line, LineReader, Source};
 use strategy_text::{Format, Rule, Side, parse_first, parse_game, parse_nodes, parse_side};
-
-// What a node is judged by: the format, the game, and the sizes that items may have.
-#[derive(Drop)]
-pub(crate) struct Terms {
-    pub(crate) format: Format,
-    pub(crate) game: Game,
-    pub(crate) sizes: Sizes,
-}
 
 // What the head lines tell: what a node is judged by, the side, how many nodes there are, and the number of the line
 // of the first node.
@@ -209,13 +202,8 @@ pub(crate) fn read_head<S: Source>(
     let game = read_game(lines, source)?;
     let side = read_side(lines, source, wanted)?;
     let count = read_count(lines, source)?;
-    let sizes = Sizes::of_game(&game);
     Ok(Head {
-        terms: Terms {
-            format,
-            game,
-            sizes,
-        },
+        terms: Terms::of_game(format, &game),
         side,
         count,
         start: 5,

@@ -3,7 +3,7 @@
 ghost use Rattle.std.specs.Prelude.{◌≡◌, ◌++◌, ◌∷◌, [], List, OnOk};
 ghost use Rattle.strategy_text.specs.Text.{AnyNode, nodes_of, side_of};
 ghost use Rattle.strategy_text.specs.declared.node.Side.{Side};
-ghost use Rattle.checker.specs.AnyNode.{side_of_node};
+ghost use Rattle.strategies.specs.AnyNode.{side_of_node};
 ghost use Rattle.checker.specs.Progress.{any_node, AreKept, NoneIsKept};
 
 use crate::node::Node;

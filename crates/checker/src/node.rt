@@ -1,14 +1,13 @@
 //! Reading and judging a node of either side.
 
-ghost use Rattle.std.specs.Prelude.{◌≡◌, ◌==◌, ◌<◌, ◌≤◌, ◌+◌, None, Err, IfOk, IfErr, All};
+ghost use Rattle.std.specs.Prelude.{◌≡◌, ◌==◌, ◌<◌, ◌≤◌, ◌+◌, None, Err, IfOk, IfErr};
 ghost use Rattle.std.specs.Prelude.{MatchOption, OnOk, length, map};
 ghost use Rattle.std.specs.Bool.{OnTrue, OnFalse};
 ghost use Rattle.port_io.specs.Faults.{Rose};
 ghost use Rattle.port_io.specs.Lines.{HasNoLf};
-ghost use Rattle.items.specs.Multiset.{IsSize};
 ghost use Rattle.strategy_text.specs.Spelling.{IsSpellableNode, most_nodes};
 ghost use Rattle.strategy_text.specs.Text.{AnyNode, end_line, items_of, loads_of};
-ghost use Rattle.checker.specs.AnyNode.{position_of, side_of_node};
+ghost use Rattle.strategies.specs.AnyNode.{position_of, side_of_node};
 ghost use Rattle.checker.specs.Head.{SpellsUnder, MeetsUnder, BreaksUnder};
 ghost use Rattle.checker.specs.Head.{IsNodeLine, IsBrokenNodeLine};
 ghost use Rattle.checker.specs.Progress.{ReadsNode, TakesNode, IsRefusedLine, IsBrokenBy};
@@ -16,10 +15,9 @@ ghost use Rattle.checker.specs.Progress.{RefusesNext, NoRule, told_by, any_node}
 ghost use Rattle.checker.specs.declared.fault.CheckFault.TheVariants.{Read};
 
 use crate::fault::CheckFault;
-use crate::head::{Head, Terms, broken, next_text, syntax};
+use crate::head::{Head, broken, next_text, syntax};
 use adversary_graph as adversary;
 use algorithm_graph as algorithm;
-use items::laws::game_is_legal;
 use loads::PackedPositions;
 use port_io::{LineReader, Source};
 use std::alloc::{AllocError, Global};
@@ -59,8 +57,8 @@ fn read_spelled(
         (told_by head.now) number line.now other → ⊥)) }
 {
     match node {
-        Node::Adversary(node) => read_adversary(alloc, head.terms.format, line, number, node),
-        Node::Algorithm(node) => read_algorithm(alloc, head.terms.format, line, number, node),
+        Node::Adversary(node) => read_adversary(alloc, head.terms.format(), line, number, node),
+        Node::Algorithm(node) => read_algorithm(alloc, head.terms.format(), line, number, node),
     }
 }
 
@@ -84,25 +82,13 @@ fn judge_node(
     node: &Node,
 ) -> Result<Option<Rule>, AllocError>
     requires spellable { IsSpellableNode head.now.terms.format (any_node node.now) }
-    requires sizes { All (IsSize head.now.terms.game.capacity) head.now.terms.sizes }
     ensures exact { IfOk result (λ judged. MatchOption judged
         (MeetsUnder (told_by head.now) earlier.now last (any_node node.now))
         (BreaksUnder (told_by head.now) earlier.now last (any_node node.now))) }
 {
-    let Terms {
-        format,
-        game,
-        sizes,
-    } = &head.terms;
     match node {
-        Node::Adversary(node) => {
-            let judged = adversary::judge(*format, game, sizes, earlier, last, node);
-            Ok(judged.err())
-        }
-        Node::Algorithm(node) => {
-            let judged = algorithm::judge(alloc, game, sizes, earlier, last, node)?;
-            Ok(judged.err())
-        }
+        Node::Adversary(node) => Ok(adversary::judge(&head.terms, earlier, last, node)),
+        Node::Algorithm(node) => algorithm::judge(alloc, &head.terms, earlier, last, node),
     }
 }
 
@@ -136,7 +122,6 @@ fn see_follows(
     requires number { number ≡ length earlier.now }
     requires most { number < most_nodes }
     requires spellable { IsSpellableNode head.now.terms.format (any_node node.now) }
-    requires sizes { All (IsSize head.now.terms.game.capacity) head.now.terms.sizes }
     ensures ok { OnOk result (MeetsUnder (told_by head.now) earlier.now (length earlier.now + 1 == head.now.count)
         (any_node node.now)) }
     ensures err { IfErr result (IsBrokenBy (told_by head.now) earlier.now (head.now.start + number)
@@ -158,7 +143,6 @@ fn take_node(
 ) -> Result<(), CheckFault>
     requires side { side_of_node (any_node node.old) ≡ head.now.side }
     requires few { length earlier.old < head.now.count }
-    requires sizes { All (IsSize head.now.terms.game.capacity) head.now.terms.sizes }
     requires most { head.now.count ≤ most_nodes }
     ensures ok { OnOk result (TakesNode (told_by head.now) earlier.old earlier.new (any_node node.new) text.now) }
     ensures err { IfErr result (λ fault. IsRefusedLine (head.now.start + length earlier.old)
@@ -168,7 +152,7 @@ fn take_node(
     let number = earlier.len() as u32;
     next_node(alloc, head, text, number, node)?;
     see_follows(alloc, head, earlier, number, node)?;
-    game_is_legal(&head.terms.game);
+    let _game = head.terms.game();
     let (loads, items) = lists_of(node);
     earlier.push_lists(loads, items)?;
     Ok(())
@@ -186,7 +170,6 @@ pub(crate) fn read_node<S: Source>(
     requires open_still { lines.old.ending ≡ None }
     requires side { side_of_node (any_node node.old) ≡ head.now.side }
     requires few { length earlier.old < head.now.count }
-    requires sizes { All (IsSize head.now.terms.game.capacity) head.now.terms.sizes }
     requires most { head.now.count ≤ most_nodes }
     ensures count { S.faults source.old ≤ S.faults source.new }
     ensures ok { OnOk result (ReadsNode (told_by head.now) earlier.old earlier.new

@@ -1,11 +1,10 @@
 //! Reading with judgement.
 
 ghost use Rattle.std.specs.Prelude.{◌≡◌, ◌↔◌, ◌∷◌, [], ◌++◌, ◌≤◌, IsTrue, None, Err, IfOk, IfErr, OnOk, IsOk, IfSome};
-ghost use Rattle.std.specs.Prelude.{List, All};
+ghost use Rattle.std.specs.Prelude.{List};
 ghost use Rattle.port_io.specs.Faults.{Rose};
 ghost use Rattle.port_io.specs.Lines.{HasNoLf};
 ghost use Rattle.port_io.specs.declared.lines.Line.TheVariants.{End};
-ghost use Rattle.items.specs.Multiset.{IsSize};
 ghost use Rattle.online_play.specs.Algorithm.{ForcesEvery};
 ghost use Rattle.strategy_text.specs.declared.node.Side.TheVariants.{Adversary};
 ghost use Rattle.strategy_text.specs.Spelling.{most_nodes};
@@ -36,7 +35,6 @@ fn read_nodes<S: Source, K: Keeper>(
 ) -> Result<(), CheckFault>
     requires open_still { lines.old.ending ≡ None }
     requires most { head.now.count ≤ most_nodes }
-    requires sizes { All (IsSize head.now.terms.game.capacity) head.now.terms.sizes }
     ensures count { S.faults source.old ≤ S.faults source.new }
     ensures ok { OnOk result ((nodes : List AnyNode) × ReadsNodes (told_by head.now) nodes lines.old lines.new
         (S.left source.old) (S.left source.new) × K.holds kept.new head.now.side nodes) }
@@ -146,8 +144,8 @@ fn strategy_of(read: Result<Head, CheckFault>, nodes: Nodes) -> Result<Strategy,
 {
     match read {
         Ok(head) => Ok(Strategy {
-            format: head.terms.format,
-            game: head.terms.game,
+            format: head.terms.format(),
+            game: head.terms.game(),
             nodes,
         }),
         Err(fault) => Err(fault),
@@ -227,7 +225,7 @@ pub fn check<S: Source>(alloc: Global, source: &mut S) -> Result<Accepted, Check
 {
     let head = read_whole(alloc, source, Wanted::Either, &mut Nothing {})?;
     Ok(Accepted {
-        game: head.terms.game,
+        game: head.terms.game(),
         side: head.side,
         nodes: head.count,
     })

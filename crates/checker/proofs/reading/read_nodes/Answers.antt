@@ -2,7 +2,7 @@ use Rattle.std.proofs.Common.{◌≡◌, ◌++◌, ◌∷◌, [], ◌<◌, List,
 use Rattle.std.proofs.lemmas.List.{length_push, length-map}
 use Rattle.strategy_text.specs.Text.{AnyNode}
 use Rattle.strategy_text.specs.declared.node.Side.{Side}
-use Rattle.checker.specs.AnyNode.{position_of, side_of_node}
+use Rattle.strategies.specs.AnyNode.{position_of, side_of_node}
 use Rattle.checker.specs.Progress.{RefusesNode, told_by, any_node}
 use Rattle.checker.specs.declared.fault.CheckFault.{CheckFault}
 use Rattle.checker.specs.declared.fault.CheckFault.TheVariants.{Memory}

@@ -1,6 +1,6 @@
 use Rattle.std.proofs.Common.{◌≡◌, ◌≤◌, List, length, map}
 use Rattle.strategy_text.specs.Text.{AnyNode, node_lines}
-use Rattle.checker.specs.AnyNode.{position_of, side_of_node}
+use Rattle.strategies.specs.AnyNode.{position_of, side_of_node}
 use Rattle.checker.specs.Progress.{ReadsLines, AreJudged, any_node, told_by}
 use Rattle.checker.proofs.reading.read_nodes.Given as goal
 

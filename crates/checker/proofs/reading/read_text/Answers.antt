@@ -4,12 +4,8 @@ use Rattle.checker.specs.Accepted.{IsTextFaultOf}
 use Rattle.checker.specs.Progress.{IsWrongNext, NoRule, RefusesAfter, lines_of_head, told_by}
 use Rattle.checker.specs.declared.fault.CheckFault.{CheckFault}
 use Rattle.checker.proofs.FaultLemmas.{exit_node, exit_end}
-use Rattle.checker.proofs.NodeLemmas.{sizes_of_head}
 use Rattle.checker.proofs.ProgressLemmas.{passed_on, ReadsLines-then, RefusesAfter-then, RefusesNext-after}
 use Rattle.checker.proofs.reading.read_text.Goals as goal
-
-pub read_nodes-requires-clause-sizes : goal.read_nodes-requires-clause-sizes
-read_nodes-requires-clause-sizes g c = sizes_of_head (told_by c.in_ok-head.head) c.in_ok-head.ensures.legal.whole_game
 
 pub returns-in_err-read_nodes-clause-refused : goal.returns-in_err-read_nodes-clause-refused
 returns-in_err-read_nodes-clause-refused g c =

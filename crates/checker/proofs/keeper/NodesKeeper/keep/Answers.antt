@@ -1,6 +1,6 @@
 use Rattle.std.proofs.Common.{◌≡◌, ◌++◌, ◌∷◌, [], OnOk, subst}
 use Rattle.strategy_text.specs.Text.{AnyNode, nodes_of}
-use Rattle.checker.specs.AnyNode.{side_of_node}
+use Rattle.strategies.specs.AnyNode.{side_of_node}
 use Rattle.checker.specs.Progress.{any_node}
 use Rattle.checker.proofs.NodeLemmas.{AreKept-push}
 use Rattle.checker.proofs.keeper.NodesKeeper.keep.Goals as goal
