@@ -7,18 +7,23 @@ use Rattle.std.proofs.lemmas.Option.{none-some, slice_get_past}
 use Rattle.items.specs.Game.{GameNumbers}
 use Rattle.items.specs.Multiset.{sizes_of}
 use Rattle.loads.specs.declared.position.Position.{Position}
+use Rattle.node_pool.specs.Pools as pools
 use Rattle.node_pool.specs.Pools.{nodes_up_to, terms_in}
 use Rattle.node_pool.specs.Terms.{Terms}
 use Rattle.node_pool.proofs.PoolLemmas.{AreLegal-from_pool}
 use Rattle.strategy_text.specs.Spelling.{most_nodes}
 use Rattle.strategy_text.specs.declared.node.AlgNode.{AlgNode}
+use Rattle.strategy_text.specs.declared.node.Format.{Format}
+use Rattle.strategy_text.specs.declared.node.Nodes.{Nodes}
+use Rattle.strategy_text.specs.declared.node.Nodes.TheVariants as sides
+use Rattle.strategy_text.specs.declared.node.Strategy.{Strategy}
 use Rattle.strategy_text.specs.declared.node.Act.{Act}
 use Rattle.strategy_text.specs.declared.node.Act.TheVariants.{Finish, Big, Reply}
 use Rattle.strategy_text.specs.declared.rule.Rule.{Rule}
 use Rattle.algorithm_graph.specs.Legal.{IsLegal, IsNodeOfFormat, MeetsRulesUnder}
 use Rattle.algorithm_graph.specs.Nodes.{position_of}
 use Rattle.algorithm_graph.specs.NodesAreJudged.{root_is_asked_last}
-use Rattle.algorithm_graph.specs.Pools.{Pool, IsPool, IsRoot, MayComeNext}
+use Rattle.algorithm_graph.specs.Pools.{AreLegal, IsLegalOfAlgorithm, IsPool, IsRoot, MayComeNext, Pool}
 use Rattle.algorithm_graph.specs.Rules.{BigFinishesIfSaid, Breaks, MeetsRules}
 use Rattle.algorithm_graph.specs.Replaying.{LeavesABin}
 
@@ -64,3 +69,16 @@ may_come_next pool node terms earlier None t e none m room formed = record {
       (subst (λ (t : Terms). MeetsRules t.game t.sizes earlier false node) t m);
 }
 may_come_next pool node terms earlier (Some rule) t e none m room formed = absurd (none-some rule (sym none))
+
+-- the strategy of a pool of the whole game is legal
+legal_nodes : (format : Format) (game : GameNumbers) (list : Nodes) (nodes : List AlgNode) → list ≡ sides.Algorithm nodes → IsLegal format game (sizes_of game) nodes
+    → AreLegal format game list
+legal_nodes format game list nodes e legal = subst (AreLegal format game) (sym e) legal
+
+pub IsLegal-of_pool : (strategy : Strategy) (pool : Pool) (nodes : List AlgNode) → pool.sizes ≡ sizes_of pool.game → strategy.format ≡ pool.format → strategy.game ≡ pool.game
+    → strategy.nodes ≡ sides.Algorithm nodes → pools.AreLegal position_of IsNodeOfFormat MeetsRulesUnder (terms_in pool) nodes → IsLegalOfAlgorithm strategy
+IsLegal-of_pool strategy pool nodes whole format game is legal =
+    legal_nodes strategy.format strategy.game strategy.nodes nodes is
+    (subst (λ (f : Format). IsLegal f strategy.game (sizes_of strategy.game) nodes) (sym format)
+    (subst (λ (g : GameNumbers). IsLegal pool.format g (sizes_of g) nodes) (sym game)
+    (subst (λ (sizes : List ℕ). IsLegal pool.format pool.game sizes nodes) whole legal)))

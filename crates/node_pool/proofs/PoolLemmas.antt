@@ -151,3 +151,10 @@ positions_past position nodes number node e =
     ∙ ap (λ x. map position (take number nodes ++ x ∷ [])) (sym same)
     ∙ ap (map position) (sym (take-suc nodes number node within))
     ∙ ap (λ n. map position (take n nodes)) next
+
+-- a root by its position
+pub root_from_position : {N : Type 0} (position : N → Position) (nodes : List N) (i : ℕ) (p : Position) → slice_get (map position nodes) i ≡ Some p → IsEmptyPosition p
+    → IsRoot position nodes i
+root_from_position position nodes i p e empty =
+    let node = mapped position (slice_get nodes i) p (sym (slice_get-map position nodes i) ∙ e) in
+    (node.0, node.1, subst IsEmptyPosition (sym node.2) empty)
