@@ -7,7 +7,7 @@ use Rattle.std.proofs.lemmas.List.{length_push, map-append, take_more}
 use Rattle.std.proofs.lemmas.List.Elements.{All-push, All-weaker, All-contains}
 use Rattle.items.specs.Game.{GameNumbers}
 use Rattle.loads.specs.After.{after}
-use Rattle.loads.specs.Packed.{are_equal}
+use Rattle.loads.specs.Position.{are_equal}
 use Rattle.loads.specs.Position.{StandsAt}
 use Rattle.loads.specs.declared.position.Position.{Position}
 use Rattle.strategy_text.specs.declared.node.Entry.{Entry}

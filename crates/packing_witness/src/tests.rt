@@ -48,7 +48,7 @@ fn holds(alloc: Global, bins: &[u8]) -> Option<bool> {
     Some(packing(alloc, bins).ok()?.holds(&game, &items))
 }
 
-// The same of 2 and two items of size 1.
+// Whether these bins of 3 are a packing of 2 and two items of size 1.
 fn holds_list(alloc: Global, bins: &[u8]) -> Option<bool> {
     let game = Game::new(2, 3, 4).ok()?;
     Some(packing(alloc, bins).ok()?.holds_list(&game, &[2], 1, 2))

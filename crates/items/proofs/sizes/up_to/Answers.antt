@@ -1,5 +1,3 @@
-use Rattle.std.proofs.Common.{ℕ, ◌≡◌, ◌+◌, ◌-◌, ◌∙◌, ◌^◌, ◌<◌, sym, ap, subst, arith}
-use Rattle.std.specs.Int.{bit_at}
 use Rattle.items.proofs.SizeBitsLemmas.{run_in, run_clear}
 use Rattle.items.proofs.sizes.up_to.Goals as goal
 

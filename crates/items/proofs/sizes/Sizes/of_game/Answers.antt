@@ -1,4 +1,4 @@
-use Rattle.std.proofs.Common.{sym, arith}
+use Rattle.std.proofs.Common.{arith}
 use Rattle.items.proofs.SizeBitsLemmas.{AreSizes-sizes_in, some_sizes}
 use Rattle.items.proofs.sizes.Sizes.of_game.Goals as goal
 
