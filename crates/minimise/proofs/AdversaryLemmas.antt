@@ -1,6 +1,6 @@
 -- Legal nodes of the adversary: positions of the game, references back, and the rules after a renaming.
-use Rattle.std.proofs.Common.{◌≡◌, ◌↔◌, ◌⊎◌, ℕ, ◌-◌, ◌<◌, ◌≤◌, Bool, IsTrue, Option, List, [], ◌∷◌, length, map, take, get_or, refl, sym, ap, ◌∙◌}
-use Rattle.std.proofs.Common.{subst, arith, inl, inr}
+use Rattle.std.proofs.Common.{◌≡◌, ◌↔◌, ℕ, ◌-◌, ◌<◌, ◌≤◌, Bool, IsTrue, Option, List, [], ◌∷◌, length, map, take, get_or, refl, sym, ap, ◌∙◌}
+use Rattle.std.proofs.Common.{subst, arith}
 use Rattle.std.specs.Prelude.{All, Contains, IfSome, slice_get}
 use Rattle.std.specs.List.{cons_option, filter_map}
 use Rattle.std.proofs.lemmas.List.{get_or-map, length-map, length-take-le}
@@ -14,8 +14,6 @@ use Rattle.loads.specs.Position.{IsEmptyPosition, StandsAt, position}
 use Rattle.loads.specs.declared.position.Position.{Position}
 use Rattle.strategy_text.specs.declared.node.AdvNode.{AdvNode}
 use Rattle.strategy_text.specs.declared.node.Format.{Format}
-use Rattle.strategy_text.specs.declared.node.Nodes.{Nodes}
-use Rattle.strategy_text.specs.declared.node.Nodes.TheVariants.{Adversary, Algorithm}
 use Rattle.strategy_text.specs.declared.node.Placement.{Placement}
 use Rattle.strategy_text.specs.declared.node.Format.TheVariants.{One, Two}
 use Rattle.strategy_text.specs.declared.node.Step.{Step}
@@ -26,12 +24,10 @@ use Rattle.adversary_graph.specs.Judging.{HasPosition, node_at}
 use Rattle.adversary_graph.specs.Legal.{EachMeetsRules, IsLegal}
 use Rattle.adversary_graph.specs.Nodes.{IsOfFormat, placements_of, position_of}
 use Rattle.adversary_graph.specs.Play.{child_of}
-use Rattle.adversary_graph.specs.Pools as adversary
 use Rattle.adversary_graph.specs.Rules.{IsOver, IsOverAtTarget, IsPackingAsked, IsPacked, LeadsTo, MeetsRules}
 use Rattle.adversary_graph.proofs.PoolLemmas.{IsPool-from_legal, each_has_position, root_of_legal}
 use Rattle.adversary_graph.proofs.WonLemmas.{met}
 use Rattle.items.proofs.ListLemmas.{mapped}
-use Rattle.algorithm_graph.specs.Pools as algorithm
 use Rattle.minimise.specs.Nodes.{IsPositionOf, LeadBack}
 use Rattle.minimise.specs.References.{adversary_references, renamed_adversary, renamed_placement, renamed_step, renamed_then}
 use Rattle.minimise.specs.Canonical.{canonical}
@@ -41,16 +37,6 @@ use Rattle.minimise.proofs.KeptLemmas.{IsGraph, graph_of, position_of_last}
 use Rattle.minimise.specs.Agree.{Agree}
 use Rattle.minimise.proofs.RepresentativeLemmas.{no_position}
 use Rattle.minimise.proofs.NodeLemmas.{All-filter_map, Contains-filter_map, filter_map_at, map_at}
-
--- the nodes of a legal strategy that are the adversary's are legal
-pub legal_adversary : (format : Format) (game : GameNumbers) (all : Nodes) (nodes : List AdvNode)
-    → adversary.AreLegal format game all ⊎ algorithm.AreLegal format game all → all ≡ Adversary nodes → IsLegal format game (sizes_of game) nodes
-legal_adversary format game all nodes legal is = by (Adversary nodes) refl (subst (λ some. adversary.AreLegal format game some ⊎ algorithm.AreLegal format game some) is legal)
-  where
-    by : (some : Nodes) → some ≡ Adversary nodes → adversary.AreLegal format game some ⊎ algorithm.AreLegal format game some → IsLegal format game (sizes_of game) nodes
-    by (Adversary list) e (inl h) = (let same : list ≡ nodes = cc in subst (IsLegal format game (sizes_of game)) same h)
-    by (Adversary list) e (inr h) = absurd h
-    by (Algorithm list) e h = cc
 
 pub adversary_positions : (format : Format) (game : GameNumbers) (nodes : List AdvNode) → IsLegal format game (sizes_of game) nodes
     → All (λ node. IsPositionOf game (position_of node)) nodes

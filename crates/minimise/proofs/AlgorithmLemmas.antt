@@ -1,6 +1,6 @@
 -- Legal nodes of the algorithm: positions of the game, references back, and the rules after a renaming.
-use Rattle.std.proofs.Common.{◌≡◌, ◌↔◌, ◌⊎◌, ℕ, ◌-◌, ◌++◌, ◌<◌, ◌≤◌, Bool, IsTrue, List, [], ◌∷◌, length, map, take, get_or, refl, sym, ap, ◌∙◌}
-use Rattle.std.proofs.Common.{subst, arith, inl, inr}
+use Rattle.std.proofs.Common.{◌≡◌, ◌↔◌, ℕ, ◌-◌, ◌++◌, ◌<◌, ◌≤◌, Bool, IsTrue, List, [], ◌∷◌, length, map, take, get_or, refl, sym, ap, ◌∙◌}
+use Rattle.std.proofs.Common.{subst, arith}
 use Rattle.std.specs.Prelude.{All, Contains, slice_get}
 use Rattle.std.proofs.lemmas.List.{get_or-map, length-map, length-take-le}
 use Rattle.std.proofs.lemmas.List.Elements.{All-map, All-nil, All-weaker, Contains-get_or}
@@ -18,14 +18,10 @@ use Rattle.strategy_text.specs.declared.node.AlgNode.{AlgNode}
 use Rattle.strategy_text.specs.declared.node.Format.TheVariants.{One, Two}
 use Rattle.strategy_text.specs.declared.node.Entry.{Entry}
 use Rattle.strategy_text.specs.declared.node.Format.{Format}
-use Rattle.strategy_text.specs.declared.node.Nodes.{Nodes}
-use Rattle.strategy_text.specs.declared.node.Nodes.TheVariants.{Adversary, Algorithm}
-use Rattle.adversary_graph.specs.Pools as adversary
 use Rattle.algorithm_graph.specs.Judging.{HasPosition, node_at}
 use Rattle.algorithm_graph.specs.Legal.{EachMeetsRules, IsLegal}
 use Rattle.algorithm_graph.specs.Nodes.{IsOfFormat, entries_of, position_of}
 use Rattle.algorithm_graph.specs.Rules.{IsStrictlyAscending, MeetsRules, NamesLoad, ReplyToEach}
-use Rattle.algorithm_graph.specs.Pools as algorithm
 use Rattle.items.proofs.ListLemmas.{mapped}
 use Rattle.algorithm_graph.proofs.PoolLemmas.{IsPool-from_legal, each_has_position, root_of_legal}
 use Rattle.minimise.specs.Nodes.{IsPositionOf, LeadBack}
@@ -38,16 +34,6 @@ use Rattle.minimise.specs.Agree.{Agree}
 use Rattle.minimise.proofs.NodeLemmas.{map_at}
 use Rattle.minimise.proofs.FirstsLemmas.{Contains-map}
 use Rattle.minimise.proofs.RepresentativeLemmas.{no_position}
-
--- the nodes of a legal strategy that are the algorithm's are legal
-pub legal_algorithm : (format : Format) (game : GameNumbers) (all : Nodes) (nodes : List AlgNode)
-    → adversary.AreLegal format game all ⊎ algorithm.AreLegal format game all → all ≡ Algorithm nodes → IsLegal format game (sizes_of game) nodes
-legal_algorithm format game all nodes legal is = by (Algorithm nodes) refl (subst (λ some. adversary.AreLegal format game some ⊎ algorithm.AreLegal format game some) is legal)
-  where
-    by : (some : Nodes) → some ≡ Algorithm nodes → adversary.AreLegal format game some ⊎ algorithm.AreLegal format game some → IsLegal format game (sizes_of game) nodes
-    by (Algorithm list) e (inr h) = (let same : list ≡ nodes = cc in subst (IsLegal format game (sizes_of game)) same h)
-    by (Algorithm list) e (inl h) = absurd h
-    by (Adversary list) e h = cc
 
 pub algorithm_positions : (format : Format) (game : GameNumbers) (nodes : List AlgNode) → IsLegal format game (sizes_of game) nodes
     → All (λ node. IsPositionOf game (position_of node)) nodes

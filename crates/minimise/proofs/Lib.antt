@@ -9,6 +9,7 @@ pub mod AgreeLemmas
 pub mod AdversaryLemmas
 pub mod AlgorithmLemmas
 pub mod KeptLemmas
+pub mod LegalLemmas
 pub mod StrategyLemmas
 pub mod PackLemmas
 pub mod UpgradeLemmas

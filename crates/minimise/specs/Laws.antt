@@ -7,7 +7,28 @@ use Rattle.adversary_graph.specs.Nodes as adversary
 use Rattle.algorithm_graph.specs.Nodes as algorithm
 use Rattle.minimise.specs.Agree.{Agree}
 use Rattle.minimise.specs.References.{adversary_references, renamed_adversary, algorithm_references, renamed_algorithm}
-use Rattle.minimise.specs.Strategies.{IsLegal, canonical_form}
+use Rattle.minimise.specs.Legal.{IsLegal}
+use Rattle.minimise.specs.Reached.{AreDistinct, AreReached}
+use Rattle.minimise.specs.Strategies.{canonical_form, positions_in, references_in}
+use Rattle.minimise.specs.Upgrade.{IsUpgradeOf}
+
+-- the canonical form of a legal strategy is legal
+abbrev pub CanonicalFormsAreLegal : Type 0
+CanonicalFormsAreLegal = (strategy : Strategy) → IsLegal strategy → IsLegal (canonical_form strategy)
+
+-- no position stands at two of its nodes
+abbrev pub CanonicalFormsHaveDistinctPositions : Type 0
+CanonicalFormsHaveDistinctPositions =
+    (strategy : Strategy) → IsLegal strategy → AreDistinct (positions_in (canonical_form strategy).nodes)
+
+-- each of its nodes is reached from the root
+abbrev pub CanonicalFormsAreReached : Type 0
+CanonicalFormsAreReached =
+    (strategy : Strategy) → IsLegal strategy → AreReached (references_in (canonical_form strategy).nodes)
+
+-- an upgrade of a legal strategy is legal
+abbrev pub UpgradesAreLegal : Type 0
+UpgradesAreLegal = (strategy upgraded : Strategy) → IsLegal strategy → IsUpgradeOf strategy upgraded → IsLegal upgraded
 
 -- the canonical form of a canonical form is itself
 abbrev pub CanonicalFormsStay : Type 0

@@ -89,6 +89,7 @@ fn an_algorithm_s_nodes_are_distinct_and_in_post_order(rt: HostRuntime) -> Resul
 }
 
 // Whether the canonical form of the strategy of these nodes for the game 2 3 4 has the nodes that are due.
+#[tactic(auto, using(crate::proofs::LegalLemmas::legal_of_adversary))]
 fn of_adversary(
     rt: &(impl AllocGlobal + std::process::Abort),
     format: Format,
@@ -124,6 +125,7 @@ fn put_adversary(alloc: Global, pool: &mut AdvPool, line: &str) -> Result<bool, 
 }
 
 // Whether the canonical form of the strategy of these nodes for the game 2 2 3 has the nodes that are due.
+#[tactic(auto, using(crate::proofs::LegalLemmas::legal_of_algorithm))]
 fn of_algorithm(
     rt: &(impl AllocGlobal + std::process::Abort),
     lines: &[&str],

@@ -1,11 +1,15 @@
 //! Strategies in format 2 that say the same as another in fewer words.
 
-ghost use Rattle.std.specs.Prelude.{◌≡◌, ◌++◌, ◌-◌, ◌/◌, ◌<◌, ◌≤◌, IfOk, All, MatchOption, replicate};
+ghost use Rattle.std.specs.Prelude.{◌≡◌, ◌++◌, ◌-◌, ◌/◌, ◌<◌, ◌≤◌, IfOk, All, MatchOption, length, replicate};
 ghost use Rattle.std.specs.List.{AllZip};
 ghost use Rattle.items.specs.Multiset.{IsMultiset, IsSize};
 ghost use Rattle.items.specs.Packable.{IsPacking, Packable};
 ghost use Rattle.loads.specs.Loads.{IsLoads};
-ghost use Rattle.minimise.specs.Strategies.{IsLegal};
+ghost use Rattle.strategy_text.specs.Text.{nodes_of, side_of};
+ghost use Rattle.strategy_text.specs.declared.node.Format.TheVariants.{Two};
+ghost use Rattle.minimise.specs.Legal.{IsLegal};
+ghost use Rattle.minimise.specs.Reached.{AreDistinct, AreReached};
+ghost use Rattle.minimise.specs.Strategies.{positions_in, references_in};
 ghost use Rattle.minimise.specs.Upgrade.{IsCanonicalUpgrade};
 ghost use Rattle.minimise.specs.Upgrade.{IsUpgradeOf, UpgradesAct, UpgradesAdversary, UpgradesAlgorithm, UpgradesNodes};
 ghost use Rattle.minimise.specs.Upgrade.{UpgradesReply, UpgradesSend, UpgradesStep, least_burst};
@@ -33,7 +37,13 @@ use strategy_text::{
 pub fn upgrade(alloc: Global, strategy: &Strategy) -> Result<Strategy, AllocError>
     requires legal { IsLegal strategy.now }
     ensures upgrade { IfOk result (IsCanonicalUpgrade strategy.now) }
+    ensures format { IfOk result (λ made. made.format ≡ Two) }
+    ensures game { IfOk result (λ made. made.game ≡ strategy.now.game) }
+    ensures side { IfOk result (λ made. side_of made.nodes ≡ side_of strategy.now.nodes) }
     ensures legal { IfOk result IsLegal }
+    ensures distinct { IfOk result (λ made. AreDistinct (positions_in made.nodes)) }
+    ensures reached { IfOk result (λ made. AreReached (references_in made.nodes)) }
+    ensures number { IfOk result (λ made. length (nodes_of made.nodes) ≤ length (nodes_of strategy.now.nodes)) }
 {
     let made = upgraded(alloc, strategy)?;
     minimise(alloc, &made)
@@ -51,6 +61,9 @@ fn upgraded(alloc: Global, strategy: &Strategy) -> Result<Strategy, AllocError>
     requires legal { IsLegal strategy.now }
     ensures upgrade { IfOk result (λ upgraded. IsUpgradeOf strategy.now upgraded) }
     ensures legal { IfOk result (λ upgraded. IsLegal upgraded) }
+    ensures side { IfOk result (λ upgraded. side_of upgraded.nodes ≡ side_of strategy.now.nodes) }
+    ensures number { IfOk result (λ upgraded.
+        length (nodes_of upgraded.nodes) ≡ length (nodes_of strategy.now.nodes)) }
 {
     Ok(Strategy {
         format: Format::Two,

@@ -1,9 +1,11 @@
 use Rattle.std.proofs.Common.{◌≤◌, ◌∙◌, ap, length, sym, subst}
+use Rattle.items.specs.Multiset.{sizes_of}
 use Rattle.strategy_text.specs.Text.{nodes_of, side_of}
 use Rattle.strategy_text.specs.declared.node.Nodes.{Nodes}
+use Rattle.minimise.specs.Legal.{AreLegalNodes}
 use Rattle.minimise.specs.Reached.{AreDistinct, AreReached}
 use Rattle.minimise.specs.Strategies.{positions_in, references_in}
-use Rattle.minimise.proofs.StrategyLemmas.{AreLegal, canonical-distinct, canonical-few, canonical-legal, canonical-reached, canonical-side}
+use Rattle.minimise.proofs.StrategyLemmas.{canonical-distinct, canonical-few, canonical-legal, canonical-reached, canonical-side}
 use Rattle.minimise.proofs.canonical.minimise.Goals as goal
 
 pub returns-clause-side : goal.returns-clause-side
@@ -12,7 +14,7 @@ returns-clause-side c = ap side_of c.in_ok-canonical_nodes.ensures ∙ canonical
 pub returns-clause-legal : goal.returns-clause-legal
 returns-clause-legal c =
     let s = c.args.strategy.now in
-    subst (AreLegal s.format s.game) (sym c.in_ok-canonical_nodes.ensures) (canonical-legal s.format s.game s.nodes c.requires.legal)
+    subst (AreLegalNodes s.format s.game (sizes_of s.game)) (sym c.in_ok-canonical_nodes.ensures) (canonical-legal s.format s.game s.nodes c.requires.legal)
 
 pub returns-clause-distinct : goal.returns-clause-distinct
 returns-clause-distinct c =
