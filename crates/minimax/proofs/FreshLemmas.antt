@@ -15,7 +15,7 @@ use Rattle.items.specs.Multiset.{sizes_of}
 use Rattle.items.specs.Packable.{Packable}
 use Rattle.items.proofs.MultisetLemmas.{sum-put_ascending}
 use Rattle.loads.specs.After.{after}
-use Rattle.loads.specs.Packed.{are_equal}
+use Rattle.loads.specs.Position.{are_equal}
 use Rattle.loads.specs.Position.{position as position_with}
 use Rattle.loads.specs.Wins.{empty_position}
 use Rattle.loads.specs.declared.position.Position.{Position}

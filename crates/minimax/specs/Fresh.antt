@@ -3,7 +3,7 @@ use Rattle.std.specs.Prelude.{◌≡◌, ℕ, ◌+◌, ◌-◌, ◌<◌, ◌≤�
 use Rattle.std.specs.Prelude.{None, IsSome, count_by, sum}
 use Rattle.std.specs.Prelude.{MatchResult, Result}
 use Rattle.items.specs.Game.{GameNumbers}
-use Rattle.loads.specs.Packed.{are_equal}
+use Rattle.loads.specs.Position.{are_equal}
 use Rattle.loads.specs.Wins.{empty_position}
 use Rattle.loads.specs.declared.position.Position.{Position}
 use Rattle.monotone.specs.Positions.{AreReachable, IsReachable}

@@ -3,7 +3,7 @@
 ghost use Rattle.std.specs.Prelude.{◌≡◌, ◌≤◌, All, IfOk, OnOk, None, Some, if◌then◌else◌, length, map, unwrap_or};
 ghost use Rattle.std.specs.Option.{option_or};
 ghost use Rattle.indexmap.specs.IndexMap.{get};
-ghost use Rattle.loads.specs.Packed.{are_equal};
+ghost use Rattle.loads.specs.Position.{are_equal};
 ghost use Rattle.loads.specs.declared.position.Position.{Position};
 ghost use Rattle.strategy_text.specs.Spelling.{most_nodes};
 ghost use Rattle.minimise.specs.Canonical.{representatives};

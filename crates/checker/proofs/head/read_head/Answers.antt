@@ -1,6 +1,6 @@
 use Rattle.std.proofs.Common.{◌∷◌, []}
 use Rattle.strategy_text.specs.Text.{first_line, game_line, side_line, count_line}
-use Rattle.checker.specs.Accepted.{IsFaultOf}
+use Rattle.checker.specs.Accepted.{IsTextFaultOf}
 use Rattle.checker.specs.FirstFault.{IsGameLine, IsSideLine, IsCountLine}
 use Rattle.checker.specs.Progress.{IsWrongNext, NoRule, BreaksGame, BreaksSide}
 use Rattle.checker.specs.declared.fault.CheckFault.{CheckFault}
@@ -13,7 +13,7 @@ returns-in_err-format-clause-refused g c =
     let old = c.args.lines.now in
     let left = g.S.Source.left c.args.source.now in
     let new_left = g.S.Source.left c.read_first.new.source in
-    passed_on (λ (fault : CheckFault). IsFaultOf c.args.wanted old.held fault left new_left) c.in_err-format.field-0.0 c.from_residual.result c.from_residual.ensures.1
+    passed_on (λ (fault : CheckFault). IsTextFaultOf c.args.wanted old.held fault left new_left) c.in_err-format.field-0.0 c.from_residual.result c.from_residual.ensures.1
     (exit_first c.args.wanted c.in_err-format.field-0.0 old left new_left c.in_err-format.ensures.refused)
 
 pub returns-in_err-game-clause-refused : goal.returns-in_err-game-clause-refused
@@ -22,7 +22,7 @@ returns-in_err-game-clause-refused g c =
     let left = g.S.Source.left c.args.source.now in
     let new_left = g.S.Source.left c.read_game.new.source in
     let first = c.in_ok-format.ensures.ok in
-    passed_on (λ (fault : CheckFault). IsFaultOf c.args.wanted old.held fault left new_left) c.in_err-game.field-0.0 c.from_residual-in_err-game.result
+    passed_on (λ (fault : CheckFault). IsTextFaultOf c.args.wanted old.held fault left new_left) c.in_err-game.field-0.0 c.from_residual-in_err-game.result
     c.from_residual-in_err-game.ensures.1
     (exit_game c.args.wanted c.in_ok-format.format c.in_err-game.field-0.0 old left new_left
     (RefusesAfter-then (first_line c.in_ok-format.format ∷ []) [] (IsWrongNext 2 IsGameLine BreaksGame) c.in_err-game.field-0.0 old c.read_first.new.lines left
@@ -37,7 +37,7 @@ returns-in_err-side-clause-refused g c =
     let game = c.in_ok-game.ensures.ok in
     let reads = ReadsLines-then (first_line c.in_ok-format.format ∷ []) (game_line c.in_ok-game.game ∷ []) old c.read_first.new.lines c.read_game.new.lines left
     (g.S.Source.left c.read_first.new.source) (g.S.Source.left c.read_game.new.source) first game in
-    passed_on (λ (fault : CheckFault). IsFaultOf c.args.wanted old.held fault left new_left) c.in_err-side.field-0.0 c.from_residual-in_err-side.result
+    passed_on (λ (fault : CheckFault). IsTextFaultOf c.args.wanted old.held fault left new_left) c.in_err-side.field-0.0 c.from_residual-in_err-side.result
     c.from_residual-in_err-side.ensures.1
     (exit_side c.args.wanted c.in_ok-format.format c.in_ok-game.game c.in_err-side.field-0.0 old left new_left c.in_ok-game.ensures.legal
     (RefusesAfter-then (first_line c.in_ok-format.format ∷ game_line c.in_ok-game.game ∷ []) []
@@ -56,7 +56,7 @@ returns-in_err-count-clause-refused g c =
     (side_line c.in_ok-side.side ∷ []) old c.read_game.new.lines c.read_side.new.lines left (g.S.Source.left c.read_game.new.source) (g.S.Source.left c.read_side.new.source)
     (ReadsLines-then (first_line c.in_ok-format.format ∷ []) (game_line c.in_ok-game.game ∷ []) old c.read_first.new.lines c.read_game.new.lines left
     (g.S.Source.left c.read_first.new.source) (g.S.Source.left c.read_game.new.source) first game) side in
-    passed_on (λ (fault : CheckFault). IsFaultOf c.args.wanted old.held fault left new_left) c.in_err-count.field-0.0 c.from_residual-in_err-count.result
+    passed_on (λ (fault : CheckFault). IsTextFaultOf c.args.wanted old.held fault left new_left) c.in_err-count.field-0.0 c.from_residual-in_err-count.result
     c.from_residual-in_err-count.ensures.1
     (exit_count c.args.wanted c.in_ok-format.format c.in_ok-game.game c.in_ok-side.side c.in_err-count.field-0.0 old left new_left c.in_ok-game.ensures.legal
     c.in_ok-side.ensures.wanted
