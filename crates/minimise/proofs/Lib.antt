@@ -6,10 +6,10 @@ pub mod OrderLemmas
 pub mod NodeLemmas
 pub mod FormLemmas
 pub mod AgreeLemmas
+pub mod SideLemmas
 pub mod AdversaryLemmas
 pub mod AlgorithmLemmas
 pub mod KeptLemmas
-pub mod LegalLemmas
 pub mod StrategyLemmas
 pub mod PackLemmas
 pub mod UpgradeLemmas

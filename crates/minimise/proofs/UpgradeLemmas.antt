@@ -41,8 +41,8 @@ use Rattle.algorithm_graph.specs.Judging as algorithm_judging
 use Rattle.algorithm_graph.specs.Legal as algorithm_legal
 use Rattle.algorithm_graph.specs.Nodes as algorithm
 use Rattle.algorithm_graph.specs.Rules as algorithm_rules
+use Rattle.strategies.specs.AnyNode.{AreLegalNodes}
 use Rattle.minimise.specs.Laws.{UpgradesAreLegal}
-use Rattle.minimise.specs.Legal.{AreLegalNodes}
 use Rattle.minimise.specs.Strategies.{canonical_form}
 use Rattle.minimise.specs.Upgrade.{IsCanonicalUpgrade, IsUpgradeOf}
 use Rattle.minimise.specs.Upgrade.{UpgradesAct, UpgradesAdversary, UpgradesAlgorithm, UpgradesNodes, UpgradesStep, least_burst}
@@ -177,7 +177,6 @@ adversary_meets format game earlier last loads items (Burst times size pack) new
 
 adversary_upgrade : (format : Format) (game : GameNumbers) (nodes news : List AdvNode) → adversary_legal.IsLegal format game (sizes_of game) nodes
     → AllZip (UpgradesAdversary game) nodes news → adversary_legal.IsLegal Two game (sizes_of game) news
-unfolding adversary_legal.EachMeetsRules
 adversary_upgrade format game nodes news legal zip =
     let sizes = sizes_of game in
     let R = UpgradesAdversary game in
@@ -239,7 +238,6 @@ algorithm_meets game earlier last loads items (Reply entries) new m (inl big) =
 
 algorithm_upgrade : (format : Format) (game : GameNumbers) (nodes news : List AlgNode) → algorithm_legal.IsLegal format game (sizes_of game) nodes
     → AllZip (UpgradesAlgorithm game) nodes news → algorithm_legal.IsLegal Two game (sizes_of game) news
-unfolding algorithm_legal.EachMeetsRules
 algorithm_upgrade format game nodes news legal zip =
     let sizes = sizes_of game in
     let R = UpgradesAlgorithm game in
@@ -294,7 +292,6 @@ upgrade_number game (Algorithm nodes) (Algorithm news) zip =
 -- ---- what is asked of the nodes
 
 adversary_can : (format : Format) (game : GameNumbers) (nodes : List AdvNode) → adversary_legal.IsLegal format game (sizes_of game) nodes → All (CanUpgradeAdversary game) nodes
-unfolding adversary_legal.EachMeetsRules
 adversary_can format game nodes legal k d l =
     let sizes = sizes_of game in
     let node = get_or nodes k d in
@@ -306,7 +303,6 @@ adversary_can format game nodes legal k d l =
     }
 
 algorithm_can : (format : Format) (game : GameNumbers) (nodes : List AlgNode) → algorithm_legal.IsLegal format game (sizes_of game) nodes → All (CanUpgradeAlgorithm game) nodes
-unfolding algorithm_legal.EachMeetsRules
 algorithm_can format game nodes legal k d l =
     let sizes = sizes_of game in
     let node = get_or nodes k d in

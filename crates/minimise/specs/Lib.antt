@@ -1,7 +1,6 @@
 pub mod References
 pub mod Canonical
 pub mod Reached
-pub mod Legal
 pub mod Strategies
 pub mod Nodes
 pub mod Ordering

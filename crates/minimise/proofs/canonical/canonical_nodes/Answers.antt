@@ -1,8 +1,7 @@
 use Rattle.std.proofs.Common.{subst}
 use Rattle.items.specs.Multiset.{sizes_of}
-use Rattle.minimise.specs.Legal.{AreLegalNodes}
-use Rattle.minimise.proofs.AdversaryLemmas.{adversary_leads_back, adversary_positions}
-use Rattle.minimise.proofs.AlgorithmLemmas.{algorithm_leads_back, algorithm_positions}
+use Rattle.strategies.specs.AnyNode.{AreLegalNodes}
+use Rattle.minimise.proofs.StrategyLemmas.{adversary_leads_back, adversary_positions, algorithm_leads_back, algorithm_positions}
 use Rattle.minimise.proofs.canonical.canonical_nodes.Goals as goal
 
 pub canonical-requires-clause-of_game : goal.canonical-requires-clause-of_game
