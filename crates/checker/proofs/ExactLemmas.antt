@@ -1,12 +1,10 @@
 -- Where the bytes begin with the text of a legal strategy, no line of that text has a fault.
-use Rattle.std.proofs.Common.{◌≡◌, ◌↔◌, ℕ, ◌+◌, ◌≤◌, List, [], ◌∷◌, ◌++◌, Option, Some, None, IfSome, sym, ap, ◌∙◌, subst, refl, arith, append_assoc}
+use Rattle.std.proofs.Common.{◌≡◌, ◌↔◌, ℕ, ◌+◌, List, [], ◌∷◌, ◌++◌, Option, Some, None, IfSome, sym, ap, ◌∙◌, refl, arith, append_assoc}
 use Rattle.std.specs.Prelude.{Result, Ok, Err, IsOk, IfOk, IfErr}
-use Rattle.std.specs.Io.KnownBytes.{prepend_known}
 use Rattle.std.proofs.lemmas.Bool.{false≢true}
 use Rattle.port_io.specs.Faults.{Rose}
-use Rattle.strategy_text.specs.Text.{node_lines, nodes_of, side_of, end_line, text_of}
+use Rattle.strategy_text.specs.Text.{node_lines, nodes_of, end_line, text_of}
 use Rattle.strategy_text.specs.declared.node.Strategy.{Strategy}
-use Rattle.strategies.specs.AnyNode.{IsLegal}
 use Rattle.checker.specs.Accepted.{BeginsWithLegalText, Spells, IsTextFaultOf, IsTextLine}
 use Rattle.checker.specs.FirstFault.{FirstFault, HasHead}
 use Rattle.checker.specs.Progress.{StandFirst, IsHead}
@@ -15,9 +13,9 @@ use Rattle.checker.specs.declared.fault.CheckFault.TheVariants.{Rejected, Read, 
 use Rattle.checker.specs.declared.fault.Wanted.{Wanted}
 use Rattle.checker.specs.declared.fault.Why.{Why}
 use Rattle.checker.proofs.HeadLemmas.{head_from}
-use Rattle.checker.proofs.FaultLemmas.{Faultless, Faultless-text, none_below, lines_of_text}
+use Rattle.checker.proofs.FaultLemmas.{Faultless-text, none_below, lines_of_text}
 use Rattle.checker.proofs.LegalText.{head_of, legal_is_head, legal_judged, legal_lines_are_lines}
-use Rattle.checker.proofs.ProgressLemmas.{told_at, told_split}
+use Rattle.checker.proofs.ProgressLemmas.{told_split}
 
 -- a first fault in a line of the text, where the bytes begin with a legal text
 no_fault_in_text : (wanted : Wanted) (bytes : List ℕ) (line : ℕ) (cause : Why) → BeginsWithLegalText wanted bytes → FirstFault wanted bytes line cause

@@ -260,7 +260,8 @@ exit_game wanted format fault old left new_left r =
     r
 
 pub exit_side : (wanted : Wanted) (format : Format) (game : GameNumbers) (fault : CheckFault) (old : ReaderState) (left new_left : Option (List ℕ)) → IsGame game
-    → RefusesAfter (first_line format ∷ game_line game ∷ []) (IsWrongNext 3 IsSideLine (BreaksSide wanted)) fault old left new_left → IsTextFaultOf wanted old.held fault left new_left
+    → RefusesAfter (first_line format ∷ game_line game ∷ []) (IsWrongNext 3 IsSideLine (BreaksSide wanted)) fault old left new_left
+    → IsTextFaultOf wanted old.held fault left new_left
 exit_side wanted format game fault old left new_left of_game r =
     conclude_text wanted (first_line format ∷ game_line game ∷ []) (IsWrongNext 3 IsSideLine (BreaksSide wanted)) fault old left new_left
     (λ bytes rest stood.

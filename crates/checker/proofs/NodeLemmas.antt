@@ -55,13 +55,14 @@ first_broken_same IsMet (x ∷ xs) r s (inr h) (inl k) = absurd (k.1 h.0)
 first_broken_same IsMet (x ∷ xs) r s (inr h) (inr k) = first_broken_same IsMet xs r s h.1 k.1
 
 -- a node that meets every rule breaks none
-pub meets_excludes : (head : Head) (earlier : List Position) (last : Bool) (node : AnyNode) (rule : Rule) → MeetsUnder head earlier last node → BreaksUnder head earlier last node rule
-    → ⊥
+pub meets_excludes : (head : Head) (earlier : List Position) (last : Bool) (node : AnyNode) (rule : Rule) → MeetsUnder head earlier last node
+    → BreaksUnder head earlier last node rule → ⊥
 meets_excludes head earlier last (of_adversary node) rule m b = exclusive (adversary.Meets head.format head.game head.sizes earlier last node) adversary.node_rules b.0 m b.2
 meets_excludes head earlier last (of_algorithm node) rule m b = exclusive (algorithm.Meets head.game head.sizes earlier last node) algorithm.node_rules b.0 m b.2
 
 -- a node breaks one rule first
-pub broken_same : (head : Head) (earlier : List Position) (last : Bool) (node : AnyNode) (r s : Rule) → BreaksUnder head earlier last node r → BreaksUnder head earlier last node s → r ≡ s
+pub broken_same : (head : Head) (earlier : List Position) (last : Bool) (node : AnyNode) (r s : Rule) → BreaksUnder head earlier last node r
+    → BreaksUnder head earlier last node s → r ≡ s
 broken_same head earlier last (of_adversary node) r s a b =
     a.1 ∙ ap adversary_rules.rule_of (first_broken_same (adversary.Meets head.format head.game head.sizes earlier last node) adversary.node_rules a.0 b.0 a.2 b.2) ∙ sym b.1
 broken_same head earlier last (of_algorithm node) r s a b =
@@ -235,7 +236,8 @@ lines_push nodes node number text old mid new left mid_left new_left count spell
 -- the node after these was refused
 pub RefusesNode-from : (head : Head) (nodes : List AnyNode) (earlier : List Position) (fault : CheckFault) (old mid : ReaderState) (left mid_left new_left : Option (List ℕ))
     → earlier ≡ map position_of nodes → length nodes < head.count → AreJudged head nodes → ReadsLines (node_lines 0 nodes) old mid left mid_left
-    → RefusesNext (head.start + length earlier) (IsNodeLine head (length earlier)) (IsBrokenNodeLine head earlier) fault mid mid_left new_left → RefusesNode head fault old left new_left
+    → RefusesNext (head.start + length earlier) (IsNodeLine head (length earlier)) (IsBrokenNodeLine head earlier) fault mid mid_left new_left
+    → RefusesNode head fault old left new_left
 RefusesNode-from head nodes earlier fault old mid left mid_left new_left e few judged reads refused =
     let count : length earlier ≡ length nodes = ap length e ∙ length-map nodes position_of in
     record {
@@ -247,7 +249,8 @@ RefusesNode-from head nodes earlier fault old mid left mid_left new_left e few j
           (RefusesAfter-then (node_lines 0 nodes) [] (IsWrongNext (head.start + length nodes) (IsNodeLine head (length nodes))
           (IsBrokenNodeLine head (map position_of nodes))) fault old mid left mid_left new_left reads
           (subst (λ (i : ℕ). RefusesNext (head.start + i) (IsNodeLine head i) (IsBrokenNodeLine head (map position_of nodes)) fault mid mid_left new_left) count
-          (subst (λ (ps : List Position). RefusesNext (head.start + length earlier) (IsNodeLine head (length earlier)) (IsBrokenNodeLine head ps) fault mid mid_left new_left) e refused)));
+          (subst (λ (ps : List Position). RefusesNext (head.start + length earlier) (IsNodeLine head (length earlier)) (IsBrokenNodeLine head ps) fault mid mid_left new_left) e
+          refused)));
     }
 
 -- a node was read, and memory was refused
@@ -256,4 +259,5 @@ pub RefusesNode-memory : (head : Head) (nodes : List AnyNode) (earlier : List Po
     → ReadsLines (text ∷ []) mid new mid_left new_left → RefusesNode head Memory old left new_left
 RefusesNode-memory head nodes earlier text old mid new left mid_left new_left e few judged reads more =
     RefusesNode-from head nodes earlier Memory old mid left mid_left new_left e few judged reads
-    (refuses_memory (IsWrongNext (head.start + length earlier) (IsNodeLine head (length earlier)) (IsBrokenNodeLine head earlier)) (text ∷ []) mid new mid_left new_left more (λ bytes. tt))
+    (refuses_memory (IsWrongNext (head.start + length earlier) (IsNodeLine head (length earlier)) (IsBrokenNodeLine head earlier)) (text ∷ []) mid new mid_left new_left more
+    (λ bytes. tt))

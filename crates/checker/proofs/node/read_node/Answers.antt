@@ -28,7 +28,8 @@ returns-clause-refused g c =
     let earlier = c.args.earlier.now in
     let text = c.next_text.new.lines.text in
     err_so (λ (fault : CheckFault). IsRefusedLine (head.start + length earlier) (IsNodeLine head (length earlier)) (IsBrokenNodeLine head earlier) fault c.text.result.now)
-    (λ (fault : CheckFault). RefusesNext (head.start + length earlier) (IsNodeLine head (length earlier)) (IsBrokenNodeLine head earlier) fault old left new_left) c.take_node.result
+    (λ (fault : CheckFault). RefusesNext (head.start + length earlier) (IsNodeLine head (length earlier)) (IsBrokenNodeLine head earlier) fault old left new_left)
+    c.take_node.result
     (λ fault h. refuses_line (head.start + length earlier) (IsNodeLine head (length earlier))
     (IsBrokenNodeLine head earlier) fault text old c.next_text.new.lines left new_left c.in_ok-next_text.ensures.ok
     (subst (λ (t : List ℕ). IsRefusedLine (head.start + length earlier) (IsNodeLine head (length earlier)) (IsBrokenNodeLine head earlier) fault t) c.text.ensures h))

@@ -23,6 +23,7 @@ pub returns-clause-exact : goal.returns-clause-exact
 returns-clause-exact g c =
     exact_from c.args.wanted c.strategy_of.result c.args.lines.now.held c.read_text-read.new.lines.held (g.S.Source.left c.args.source.now)
     (g.S.Source.left c.read_text-read.new.source) (g.S.Source.faults c.args.source.now) (g.S.Source.faults c.read_text-read.new.source) (returns-clause-loaded g c)
-    (refused_from c.read_text-read.result c.strategy_of.result c.read_text-read.new.kept (λ fault. IsTextFaultOf c.args.wanted c.args.lines.now.held fault (g.S.Source.left c.args.source.now)
+    (refused_from c.read_text-read.result c.strategy_of.result c.read_text-read.new.kept
+    (λ fault. IsTextFaultOf c.args.wanted c.args.lines.now.held fault (g.S.Source.left c.args.source.now)
     (g.S.Source.left c.read_text-read.new.source)) c.strategy_of.ensures c.read_text-read.ensures.refused)
     (failed_from c.read_text-read.result c.strategy_of.result c.read_text-read.new.kept _ c.strategy_of.ensures c.read_text-read.ensures.read)

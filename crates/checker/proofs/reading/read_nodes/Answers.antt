@@ -1,6 +1,5 @@
-use Rattle.std.proofs.Common.{◌≡◌, ◌++◌, ◌∷◌, [], ◌<◌, List, length, refl, arith, ap, ◌∙◌, sym, subst}
+use Rattle.std.proofs.Common.{◌≡◌, ◌++◌, ◌∷◌, [], ◌<◌, length, refl, arith, ap, ◌∙◌, sym, subst}
 use Rattle.std.proofs.lemmas.List.{length_push, length-map}
-use Rattle.strategy_text.specs.Text.{AnyNode}
 use Rattle.strategy_text.specs.declared.node.Side.{Side}
 use Rattle.strategies.specs.AnyNode.{position_of, side_of_node}
 use Rattle.checker.specs.Progress.{RefusesNode, told_by, any_node}
