@@ -1,11 +1,9 @@
 -- Nodes of the adversary as nodes of a side: references to earlier nodes, and the rules after a renaming.
-use Rattle.std.proofs.Common.{◌≡◌, ◌↔◌, ℕ, ◌-◌, ◌<◌, ◌≤◌, Bool, IsTrue, Option, List, [], ◌∷◌, length, map, take, get_or, refl, sym, ap, ◌∙◌}
-use Rattle.std.proofs.Common.{subst, arith}
-use Rattle.std.specs.Prelude.{All, Contains, IfSome, slice_get}
+use Rattle.std.proofs.Common.{◌≡◌, ◌↔◌, ℕ, ◌<◌, Bool, IsTrue, Option, List, [], ◌∷◌, length, map, get_or, refl, ap, ◌∙◌}
+use Rattle.std.specs.Prelude.{All, Contains, IfSome}
 use Rattle.std.specs.List.{cons_option, filter_map}
-use Rattle.std.proofs.lemmas.List.{get_or-map, length-map, length-take-le}
 use Rattle.std.proofs.lemmas.List.Elements.{All-map, All-nil, All-weaker}
-use Rattle.std.proofs.lemmas.Option.{slice_get-map, slice_get_within}
+use Rattle.std.proofs.lemmas.Option.{slice_get_within}
 use Rattle.std.proofs.lemmas.Simd.{map-map}
 use Rattle.items.specs.Game.{GameNumbers}
 use Rattle.loads.specs.After.{after}
