@@ -7,7 +7,7 @@ ghost use Rattle.loads.specs.Position.{are_equal};
 ghost use Rattle.loads.specs.declared.position.Position.{Position};
 ghost use Rattle.strategy_text.specs.Spelling.{most_nodes};
 ghost use Rattle.minimise.specs.Canonical.{representatives};
-ghost use Rattle.minimise.specs.Nodes.{IsPositionOf};
+ghost use Rattle.node_pool.specs.Pools.{IsPositionOf};
 
 use crate::node::Node;
 use indexmap::IndexMap;

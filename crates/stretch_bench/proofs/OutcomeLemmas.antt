@@ -22,8 +22,9 @@ use Rattle.algorithm_graph.specs.Replies.{replies}
 use Rattle.checker.specs.Head.{AreLegalNodes}
 use Rattle.checker.proofs.LegalText.{legal_is_spellable, legal_text_has_no_fault}
 use Rattle.checker.specs.FirstFault.{IsLegalText}
-use Rattle.minimise.specs.Strategies.{IsLegal, canonical_form, canonical_nodes}
-use Rattle.minimise.proofs.StrategyLemmas.{canonical-legal, canonical_forms_stay, canonical_forms_have_no_more_nodes}
+use Rattle.minimise.specs.Legal.{IsLegal}
+use Rattle.minimise.specs.Strategies.{canonical_form}
+use Rattle.minimise.proofs.StrategyLemmas.{canonical_forms_are_legal, canonical_forms_stay, canonical_forms_have_no_more_nodes}
 use Rattle.minimax.specs.Answers.{IsAnswer, IsDecided, IsFor}
 use Rattle.minimax.specs.Budgets.{AreNumbersOfReachable, HasRoom, IsOfAdversary, reachable_before}
 use Rattle.minimax.specs.declared.answer.Answer.{Answer as SearchAnswer}
@@ -171,21 +172,9 @@ module _ {E : Type 0} (names : List (List ℕ)) (answers : List (GameNumbers →
 
 -- ---- legal strategies of a side
 
-pub legal_of_either : (format : Format) (game : GameNumbers) (nodes : Nodes) → AreLegalNodes format game (sizes_of game) nodes
-    → adversary.AreLegal format game nodes ⊎ algorithm.AreLegal format game nodes
-legal_of_either format game (nodes_of_side.Adversary list) legal = inl legal
-legal_of_either format game (nodes_of_side.Algorithm list) legal = inr legal
-
-pub legal_nodes : (format : Format) (game : GameNumbers) (nodes : Nodes) → adversary.AreLegal format game nodes ⊎ algorithm.AreLegal format game nodes
-    → AreLegalNodes format game (sizes_of game) nodes
-legal_nodes format game (nodes_of_side.Adversary list) (inl legal) = legal
-legal_nodes format game (nodes_of_side.Adversary list) (inr legal) = absurd legal
-legal_nodes format game (nodes_of_side.Algorithm list) (inl legal) = absurd legal
-legal_nodes format game (nodes_of_side.Algorithm list) (inr legal) = legal
-
 -- a legal strategy has a text
 pub spellable : (strategy : Strategy) → IsLegal strategy → IsSpellable strategy
-spellable strategy legal = legal_is_spellable strategy (legal_nodes strategy.format strategy.game strategy.nodes legal)
+spellable strategy legal = legal_is_spellable strategy legal
 
 pub legal_adversary : (format : Format) (game : GameNumbers) (nodes : Nodes) → AreLegalNodes format game (sizes_of game) nodes → Adversary ≡ side_of nodes
     → adversary.AreLegal format game nodes
@@ -281,10 +270,9 @@ pub found_canonical : {E : Type 0} (game : GameNumbers) (budget table : ℕ) (st
     → IsFor game budget strategy → IfOk r (λ due. (due.status ≡ Done) × IsCanonicalText due.text strategy) → IfOk r (IsSearched game budget table)
 found_canonical game budget table strategy (Err e) legal for made = tt
 found_canonical game budget table strategy (Ok due) legal for made =
-    let nodes = canonical-legal strategy.format strategy.game strategy.nodes legal in
     let found : IsFound game budget due.text = record {
       strategy = canonical_form strategy;
-      legal = legal_nodes strategy.format strategy.game (canonical_nodes strategy.nodes) nodes;
+      legal = canonical_forms_are_legal strategy legal;
       of_game = for.of_game;
       of_format = for.of_format;
       canonical = canonical_forms_stay strategy legal;

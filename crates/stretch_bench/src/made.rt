@@ -3,7 +3,8 @@
 ghost use Rattle.std.specs.Prelude.{◌≡◌, ◌≢◌, Err, IfOk};
 ghost use Rattle.adversary_graph.specs.Pools.{IsLegalOfAdversary};
 ghost use Rattle.algorithm_graph.specs.Pools.{IsLegalOfAlgorithm};
-ghost use Rattle.minimise.specs.Strategies.{IsLegal, canonical_form};
+ghost use Rattle.minimise.specs.Legal.{IsLegal};
+ghost use Rattle.minimise.specs.Strategies.{canonical_form};
 ghost use Rattle.strategy_text.specs.Text.{text_of};
 ghost use Rattle.stretch_bench.specs.Due.{IsPlayOf, IsSummaryOf, IsUpgradeText};
 ghost use Rattle.stretch_bench.specs.Outcomes.{IsAnswered};

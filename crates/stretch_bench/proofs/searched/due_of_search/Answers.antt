@@ -1,17 +1,19 @@
-use Rattle.std.proofs.Common.{inl, inr, ap, subst}
+use Rattle.std.proofs.Common.{ap, subst}
 use Rattle.minimax.specs.Answers.{IsAnswer}
+use Rattle.minimise.proofs.LegalLemmas.{legal_of_adversary, legal_of_algorithm}
 use Rattle.stretch_bench.proofs.OutcomeLemmas.{found_canonical, found_undecided}
 use Rattle.stretch_bench.proofs.searched.due_of_search.Goals as goal
 
 pub returns-in-Adversary-clause-found : goal.returns-in-Adversary-clause-found
 returns-in-Adversary-clause-found c =
     let answer = subst (IsAnswer c.args.game.now c.args.budget) c.in-Adversary.is c.in_ok-strategy.ensures.answer in
-    found_canonical c.args.game.now c.args.budget c.args.table c.in-Adversary.strategy c.due_of_canonical.result (inl answer.0) answer.1 c.due_of_canonical.ensures.text
+    found_canonical c.args.game.now c.args.budget c.args.table c.in-Adversary.strategy c.due_of_canonical.result (legal_of_adversary c.in-Adversary.strategy answer.0) answer.1 c.due_of_canonical.ensures.text
 
 pub returns-in-Algorithm-clause-found : goal.returns-in-Algorithm-clause-found
 returns-in-Algorithm-clause-found c =
     let answer = subst (IsAnswer c.args.game.now c.args.budget) c.in-Algorithm.is c.in_ok-strategy.ensures.answer in
-    found_canonical c.args.game.now c.args.budget c.args.table c.in-Algorithm.strategy c.due_of_canonical-in-Algorithm.result (inr answer.0) answer.1
+    found_canonical c.args.game.now c.args.budget c.args.table c.in-Algorithm.strategy c.due_of_canonical-in-Algorithm.result
+    (legal_of_algorithm c.in-Algorithm.strategy answer.0) answer.1
     c.due_of_canonical-in-Algorithm.ensures.text
 
 pub returns-clause-found : goal.returns-clause-found
