@@ -1,19 +1,18 @@
 -- Targets of one number of bins and one capacity: what holds at a lower or a higher one.
-use Rattle.std.proofs.Common.{◌≡◌, ◌≢◌, ℕ, zero, suc, ◌+◌, ◌-◌, ◌*◌, ◌<◌, ◌≤◌, Bool, List, [], ◌∷◌, length, get_or, replicate, take, max, refl, sym, ap, ◌∙◌, subst, arith}
-use Rattle.std.specs.Prelude.{All, Contains, sum_by}
+use Rattle.std.proofs.Common.{ℕ, ◌-◌, ◌≤◌, Bool, List, [], ◌∷◌, get_or, arith}
+use Rattle.std.specs.Prelude.{All}
 use Rattle.std.proofs.lemmas.List.Elements.{Contains-get_or}
-use Rattle.items.specs.Game.{GameNumbers, HasBins, HasCapacity, numbers}
+use Rattle.items.specs.Game.{numbers}
 use Rattle.items.specs.Multiset.{sizes_of}
 use Rattle.loads.specs.After.{after}
 use Rattle.loads.specs.Wins.{empty_position}
 use Rattle.loads.specs.declared.position.Position.{Position}
 use Rattle.monotone.specs.Passes.{allowed_in}
 use Rattle.monotone.specs.Paths.{IsLegalFrom}
-use Rattle.monotone.specs.Positions.{CountsAllEnds, CountsEnds, CountsEndsOfPass, IsEnd}
+use Rattle.monotone.specs.Positions.{CountsEnds, IsEnd}
 use Rattle.monotone.specs.declared.path.PathMove.{PathMove}
 use Rattle.monotone.proofs.EndsLemmas.{ends_are_no_more}
 use Rattle.online_play.proofs.WonLemmas.{lower_target_forces}
-use Rattle.bound_value.specs.Values.{IsForced}
 use Rattle.bound_value.specs.Laws.{AllEndsGrowWithTheTarget, EndsGrowWithTheTarget, LowerTargetsAreForced}
 
 pub lower_targets_are_forced : LowerTargetsAreForced

@@ -1,6 +1,6 @@
 -- What strategies of both sides, one target apart, say of the value.
-use Rattle.std.proofs.Common.{◌≡◌, ℕ, zero, suc, ◌+◌, ◌-◌, ◌*◌, ◌<◌, ◌≤◌, ◌==◌, true, List, [], ◌∷◌, length, get_or, map, replicate, take, max, Option, Some, None, refl, sym, ap, ◌∙◌, subst, ⊎_elim, inl, inr, arith}
-use Rattle.std.specs.Prelude.{All, Contains, sum_by}
+use Rattle.std.proofs.Common.{◌≡◌, ℕ, ◌+◌, ◌-◌, ◌*◌, ◌<◌, ◌≤◌, List, [], ◌∷◌, replicate, take, max, Option, Some, None, refl, ap, ◌∙◌, subst, ⊎_elim, arith}
+use Rattle.std.specs.Prelude.{sum_by}
 use Rattle.std.proofs.Common.{◌^◌}
 use Rattle.std.proofs.Math.Nat.{mul-le-mul_left}
 use Rattle.std.proofs.lemmas.Bool.{cases_lt}
@@ -14,7 +14,6 @@ use Rattle.items.specs.GameFaults.{IsFaultOf}
 use Rattle.items.specs.declared.game.GameFault.{GameFault}
 use Rattle.items.specs.Game.{GameNumbers, HasBins, HasCapacity, HasTarget, IsGame, numbers}
 use Rattle.items.specs.Multiset.{sizes_of}
-use Rattle.loads.specs.Descending.{IsDescending}
 use Rattle.loads.specs.Loads.{IsLoads}
 use Rattle.loads.specs.Position.{AreItemsOf, StandsAt}
 use Rattle.loads.specs.After.{after}
@@ -55,7 +54,7 @@ use Rattle.minimax.specs.declared.answer.Answer.TheVariants.{Adversary, Algorith
 use Rattle.bound_value.specs.Answers.{FallsShort, IsOpenAt, IsShownAt, IsShownNowhere, ShowsForced, ShowsKept}
 use Rattle.bound_value.specs.Laws.{OneValue, TwiceTheCapacityIsKept, ValuesAreBelowTwice, ValuesSplitTargets}
 use Rattle.bound_value.specs.Targets.{FallsShortIfUndecided, IsFoundBelow}
-use Rattle.bound_value.specs.Values.{IsForced, IsGreatestForced, IsValueOf}
+use Rattle.bound_value.specs.Values.{IsForced}
 use Rattle.bound_value.proofs.TargetLemmas.{all_ends_grow_with_the_target, lower_targets_are_forced}
 
 -- a legal strategy of the adversary forces every algorithm
@@ -235,6 +234,13 @@ module _ (bins capacity budget target : ℕ) where
   pub open_at : (below : Option Strategy) (visits pass : ℕ) (path : List PathMove) → HasTarget capacity target → IsFoundBelow bins capacity budget target below
       → IsAnswer (numbers bins capacity target) budget (Undecided visits pass path) → IsOpenAt bins capacity budget target visits pass path
   open_at below visits pass path of_game found answer = record { of_game = of_game; spent = answer.0; due = answer.1; forced_below = forced_below below found }
+
+-- a strategy of the adversary for a target, at the next one
+pub found_next : (bins capacity budget target : ℕ) (strategy : Strategy) → HasTarget capacity target → ShowsForced (numbers bins capacity target) budget strategy
+    → IsFoundBelow bins capacity budget (target + 1) (Some strategy)
+found_next bins capacity budget target strategy of_game shows =
+    let here : target ≡ target + 1 - 1 = omega arith in
+    (omega (arith, of_game.low), subst (λ t. ShowsForced (numbers bins capacity t) budget strategy) here shows)
 
 -- the game that was made of numbers
 pub made_game : (made : GameNumbers) (result : Result GameNumbers GameFault) (game : GameNumbers)

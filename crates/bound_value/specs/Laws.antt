@@ -1,5 +1,5 @@
 use Rattle.std.specs.Prelude.{◌≡◌, ℕ, ◌*◌, ◌<◌, ◌≤◌, Option, Some, List}
-use Rattle.items.specs.Game.{GameNumbers, HasBins, HasCapacity, numbers}
+use Rattle.items.specs.Game.{HasBins, HasCapacity, numbers}
 use Rattle.monotone.specs.Positions.{CountsAllEnds, CountsEndsOfPass}
 use Rattle.online_play.specs.Algorithm.{IsAlgorithm, KeepsBelow}
 use Rattle.bound_value.specs.Values.{IsForced, IsValueOf}
