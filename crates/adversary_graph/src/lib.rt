@@ -7,7 +7,7 @@ mod pool;
 mod rules;
 mod step;
 
-pub use plays::refute;
+pub use plays::{packing_for, refute};
 pub use pool::AdvPool;
 pub use rules::{judge, node_fault};
 

@@ -40,7 +40,7 @@ pub fn refute<O: Online>(
     pool_is_legal(pool);
     let mut course = Course::new(alloc, &pool.game());
     let end = play_on(pool, root, player, &mut course)?;
-    let packing = packing_for(pool, end, &course.items)?;
+    let packing = packing_for(pool, end, course.items.as_slice())?;
     let loads = Nums::from_slice(alloc, course.actual.as_slice())?;
     Ok(Transcript {
         items: course.items,
@@ -186,8 +186,9 @@ fn child_of(next: Then) -> Option<u32>
     }
 }
 
-// A packing of a play's items: the end packing of the node of this number without what that has beyond the items.
-fn packing_for(pool: &AdvPool, number: u32, items: &Nums) -> Result<Packing, AllocError>
+/// The packing of a play that ends at the node of this number, whose items are these in any order: the end packing of
+/// the node without what that has beyond the items. It costs a copy of the packing for each item taken out.
+pub fn packing_for(pool: &AdvPool, number: u32, items: &[u16]) -> Result<Packing, AllocError>
     requires end { IsEnd pool.now number items.now }
     ensures made { IfOk result (λ packing.
         (bins : List (List ℕ)) × (end_packing pool.now.nodes (number + 1) number ≡ Some bins)
@@ -196,7 +197,7 @@ fn packing_for(pool: &AdvPool, number: u32, items: &Nums) -> Result<Packing, All
 {
     pool_is_legal(pool);
     let game = pool.game();
-    let packing = without_beyond(&game, end_packing(pool, number), items.as_slice())?;
+    let packing = without_beyond(&game, end_packing(pool, number), items)?;
     Ok(packing)
 }
 
