@@ -82,3 +82,7 @@ abbrev pub packing_at : GameNumbers → List AdvNode → List ℕ → Stand → 
 packing_at game nodes items (Waits number done) = None
 packing_at game nodes items (Ended number) =
     option_map (λ (bins : List (List ℕ)). without_all (beyond game (concat bins) items) bins) (end_packing nodes (number + 1) number)
+
+-- the algorithm that answers the bins of a list, one after the other, and bin 0 after the last
+abbrev pub answers_from : List ℕ → List ℕ → ℕ
+answers_from bins items = slice_index bins (length items - 1)

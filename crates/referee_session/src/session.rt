@@ -8,6 +8,7 @@ ghost use Rattle.referee_session.specs.Talk.{loads_of};
 
 use crate::stand::{Stand, sent_size, stand_after};
 use crate::told::Told;
+use adversary_graph::laws::pool_is_legal;
 use adversary_graph::{AdvPool, packing_for};
 use online_play::Actual;
 use packing_witness::Packing;
@@ -67,6 +68,7 @@ impl Session {
         ensures exact { IsNone result ↔ HasEnded self.now }
         ensures few { IsSome result → length self.now.answers < 960 }
     {
+        pool_is_legal(&self.pool);
         match self.stand {
             Stand::Waits { number, .. } => Some(sent_size(&self.pool.node(number).step)),
             Stand::Ended { .. } => None,
@@ -79,6 +81,7 @@ impl Session {
         requires due { IsSome (due_of self.old) }
         ensures answered { self.new ≡ session self.old.pool self.old.root (self.old.answers ++ bin ∷ []) }
     {
+        pool_is_legal(&self.pool);
         let Stand::Waits { number, done } = self.stand else {
             unreachable!()
         };
@@ -116,6 +119,7 @@ impl Session {
         ensures holds { IfOk result (λ made. IfSome made (λ packing.
             IsPacking self.now.pool.game packing (talk_of self.now).items)) }
     {
+        pool_is_legal(&self.pool);
         match self.stand {
             Stand::Waits { .. } => Ok(None),
             Stand::Ended { number } => {

@@ -40,7 +40,7 @@ pub(crate) fn stand_after(number: u32, done: u16, load: u16, step: &Step) -> Sta
     ensures { result ≡ stand_after number done load step.now }
 {
     match step {
-        Step::Send { placements, .. } => stand_at(number, load, placements.as_slice()),
+        Step::Send { placements, .. } => stand_at(number, next_at(load, placements.as_slice())),
         Step::Burst { count, .. } => {
             if done + 1 < *count {
                 return Stand::Waits {
@@ -53,20 +53,28 @@ pub(crate) fn stand_after(number: u32, done: u16, load: u16, step: &Step) -> Sta
     }
 }
 
-// Where a play stands after an item that a node sends once went to a bin of this load.
-fn stand_at(number: u32, load: u16, placements: &[Placement]) -> Stand
-    ensures { result ≡ stand_at number (next_at load placements.now) }
+// What follows at a load: what the first placement of this load says.
+fn next_at(load: u16, placements: &[Placement]) -> Option<Then>
+    ensures { result ≡ next_at load placements.now }
 {
     for placement in placements {
         if placement.load == load {
-            return match placement.next {
-                Then::Over => Stand::Ended { number },
-                Then::To(child) => Stand::Waits {
-                    number: child,
-                    done: 0,
-                },
-            };
+            return Some(placement.next);
         }
     }
-    Stand::Ended { number }
+    None
+}
+
+// Where a play stands after the item of the node of this number went to a bin at which this follows.
+fn stand_at(number: u32, next: Option<Then>) -> Stand
+    ensures { result ≡ stand_at number next }
+{
+    match next {
+        Some(Then::To(child)) => Stand::Waits {
+            number: child,
+            done: 0,
+        },
+        Some(Then::Over) => Stand::Ended { number },
+        None => Stand::Ended { number },
+    }
 }
