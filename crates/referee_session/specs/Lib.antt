@@ -1,3 +1,9 @@
 pub mod Talk
 pub mod Told
 pub mod Session
+pub mod Lines
+pub mod Halt
+pub mod Due
+pub mod Answering
+pub mod Refereed
+pub mod Turns

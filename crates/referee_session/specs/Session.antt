@@ -9,8 +9,8 @@ pub record SessionState : Type 0 where
   pub root : ℕ
   pub answers : List ℕ
 
-abbrev pub session : Pool → ℕ → List ℕ → SessionState
-session pool root answers = record { pool = pool; root = root; answers = answers }
+abbrev pub state_of : Pool → ℕ → List ℕ → SessionState
+state_of pool root answers = record { pool = pool; root = root; answers = answers }
 
 -- the talk over the nodes of a pool
 abbrev pub talk_in : Pool → ℕ → List ℕ → Talk

@@ -3,13 +3,15 @@
 ghost use Rattle.std.specs.Prelude.{◌≡◌, ◌↔◌, ◌<◌, ◌≤◌, ◌+◌, ◌++◌, ◌∷◌, [], IfOk, IfSome, IsNone, IsSome, Some, None, length};
 ghost use Rattle.items.specs.Packable.{IsPacking};
 ghost use Rattle.adversary_graph.specs.Pools.{IsRoot};
-ghost use Rattle.referee_session.specs.Session.{HasEnded, due_of, packing_of, session, talk_of};
+ghost use Rattle.referee_session.specs.Session.{HasEnded, due_of, packing_of, state_of, talk_of};
 ghost use Rattle.referee_session.specs.Talk.{loads_of};
+ghost use Rattle.referee_session.specs.Turns.{IsLegal};
 
 use crate::stand::{Stand, sent_size, stand_after};
 use crate::told::Told;
 use adversary_graph::laws::pool_is_legal;
 use adversary_graph::{AdvPool, packing_for};
+use items::Game;
 use online_play::Actual;
 use packing_witness::Packing;
 use std::alloc::AllocError;
@@ -31,12 +33,12 @@ impl Model for Session {
     ghost use Rattle.std.specs.Prelude.{◌≡◌, ◌<◌, All};
     ghost use Rattle.online_play.specs.Algorithm.{loads_by_bin};
     ghost use Rattle.adversary_graph.specs.Pools.{IsRoot};
-    ghost use Rattle.referee_session.specs.Session.{SessionState, session, talk_in};
+    ghost use Rattle.referee_session.specs.Session.{SessionState, state_of, talk_in};
     ghost use Rattle.referee_session.specs.Talk.{talk_to};
 
     ghost Value = { SessionState };
 
-    ghost view = { λ s. session s.pool s.root s.told.bins };
+    ghost view = { λ s. state_of s.pool s.root s.told.bins };
 
     ghost invariant = { λ s. IsRoot s.pool.nodes s.root × All (λ bin. bin < s.pool.game.bins) s.told.bins
         × (talk_in s.pool s.root s.told.bins ≡ talk_to s.told.items s.told.bins s.stand)
@@ -47,7 +49,7 @@ impl Session {
     /// A session that plays a pool's nodes from the one of this number on, before the first answer. Takes no memory.
     pub fn begin(pool: AdvPool, root: u32) -> Session
         requires root { IsRoot pool.nodes root }
-        ensures begun { result ≡ session pool root [] }
+        ensures begun { result ≡ state_of pool root [] }
     {
         let loads = Actual::zero(&pool.game());
         Session {
@@ -79,7 +81,7 @@ impl Session {
     pub fn answer(&mut self, bin: u8)
         requires within { bin < self.old.pool.game.bins }
         requires due { IsSome (due_of self.old) }
-        ensures answered { self.new ≡ session self.old.pool self.old.root (self.old.answers ++ bin ∷ []) }
+        ensures answered { self.new ≡ state_of self.old.pool self.old.root (self.old.answers ++ bin ∷ []) }
     {
         pool_is_legal(&self.pool);
         let Stand::Waits { number, done } = self.stand else {
@@ -96,6 +98,7 @@ impl Session {
     /// The bins that were answered, in the order of their items. Takes no memory.
     pub fn answers(&self) -> &[u8]
         ensures value { result.now ≡ self.now.answers }
+        ensures few { length result.now ≤ 960 }
     {
         self.told.bins()
     }
@@ -103,6 +106,7 @@ impl Session {
     /// The loads by bin number. Takes no memory.
     pub fn loads(&self) -> &[u16]
         ensures value { result.now ≡ loads_of self.now.pool.game (talk_of self.now) }
+        ensures of_bins { length result.now ≡ self.now.pool.game.bins }
     {
         self.loads.as_slice()
     }
@@ -127,6 +131,21 @@ impl Session {
                 Ok(Some(packing))
             }
         }
+    }
+
+    /// The game. Takes no memory.
+    pub fn game(&self) -> Game
+        ensures value { result ≡ self.now.pool.game }
+    {
+        self.pool.game()
+    }
+
+    // Sees that the session is legal.
+    pub(crate) fn see_legal(&self)
+        ensures { IsLegal self.now }
+    {
+        pool_is_legal(&self.pool);
+        let _bins = self.told.bins();
     }
 
     /// The pool, for another session. Takes no memory.

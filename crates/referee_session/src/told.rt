@@ -48,7 +48,8 @@ impl Told {
 
     /// The bins of the items.
     pub(crate) fn bins(&self) -> &[u8]
-        ensures { result.now ≡ self.now.bins }
+        ensures value { result.now ≡ self.now.bins }
+        ensures few { length self.now.bins ≤ 960 }
     {
         &self.bins[..self.count]
     }
