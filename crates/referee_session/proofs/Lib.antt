@@ -1,2 +1,4 @@
 pub mod TalkLemmas
 pub mod LineLemmas
+pub mod AnswerLemmas
+pub mod TurnLemmas

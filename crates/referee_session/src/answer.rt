@@ -1,6 +1,6 @@
 //! The lines of answers.
 
-ghost use Rattle.std.specs.Prelude.{◌≡◌, ◌<◌, ◌≤◌, ℕ, IfOk, MatchOption, OnErr};
+ghost use Rattle.std.specs.Prelude.{◌≡◌, ◌↔◌, ◌<◌, ◌≤◌, ℕ, IfOk, IsTrue, MatchOption, OnErr, length, slice_index};
 ghost use Rattle.port_io.specs.Faults.{Rose};
 ghost use Rattle.strategy_text.specs.Words.{digits_after, number_of};
 ghost use Rattle.referee_session.specs.Answering.{IsNext, StopsAsking};
@@ -13,7 +13,7 @@ use port_io::{Failed, Line, LineReader, Source};
 pub fn parse_bin(line: &[u8]) -> Option<u16>
     ensures exact { MatchOption result
         ((bin : ℕ) → bin ≤ 65535 → line.now ≡ bin_line bin → ⊥)
-        (λ bin. line.now ≡ bin_line bin) }
+        (λ bin. (bin ≤ 65535) × (line.now ≡ bin_line bin)) }
 {
     let Some(word) = line.strip_prefix(b"bin ".as_slice()) else {
         return None;
@@ -25,11 +25,20 @@ pub fn parse_bin(line: &[u8]) -> Option<u16>
 fn number(word: &[u8]) -> Option<u16>
     ensures { result ≡ number_of 65535 word.now }
 {
-    match word {
-        [] => None,
-        [b'0', _, ..] => None,
-        _ => digits(word),
+    if word.is_empty() {
+        return None;
     }
+    if is_led_by_zero(word) {
+        return None;
+    }
+    digits(word)
+}
+
+// Whether a word has a zero before other bytes.
+fn is_led_by_zero(word: &[u8]) -> bool
+    ensures { IsTrue result ↔ (1 < length word.now) × (slice_index word.now 0 ≡ 48) }
+{
+    word.len() > 1 && word[0] == b'0'
 }
 
 // The value of decimal digits.

@@ -84,6 +84,7 @@ pub fn referee<S: Source, K: Sink>(
         match next {
             Next::Bin(bin) => {
                 session.answer(bin);
+                session_is_legal(session);
                 if tell(session, sink).is_err() {
                     return Err(SessionFault::Write);
                 }
@@ -113,8 +114,10 @@ fn open<K: Sink>(session: &Session, sink: &mut K) -> Result<(), Failed>
     ensures err { OnErr result (AppendsSome (K.written sink.old) (K.written sink.new)
         (said_in session.now.pool session.now.root [])) }
 {
-    put_all(sink, session_line(&session.game()).as_slice())?;
-    tell(session, sink)
+    match put_all(sink, session_line(&session.game()).as_slice()) {
+        Ok(()) => tell(session, sink),
+        Err(failed) => Err(failed),
+    }
 }
 
 // Writes the item that is due, or the loads where none is.
@@ -133,6 +136,7 @@ fn tell<K: Sink>(session: &Session, sink: &mut K) -> Result<(), Failed>
 fn line_of(session: &Session) -> ShortLine
     ensures { result ≡ line_at session.now.pool.game session.now.pool.nodes (talk_of session.now) }
 {
+    session_is_legal(session);
     match session.due() {
         Some(size) => item_line(size),
         None => lost_line(session.loads()),
