@@ -1,7 +1,7 @@
 -- The turns of a referee.
-use Rattle.std.proofs.Common.{◌≡◌, ℕ, ◌+◌, ◌<◌, ◌≤◌, List, [], ◌∷◌, ◌++◌, Option, Some, None, IfSome, length, take, refl, ap, sym, ◌∙◌, subst, arith, append_assoc, inl, inr}
-use Rattle.std.specs.Prelude.{◌⊎◌}
-use Rattle.std.specs.Prelude.{All}
+use Rattle.std.proofs.Common.{◌≡◌, ℕ, ◌+◌, ◌<◌, ◌≤◌, List, [], ◌∷◌, ◌++◌, Option, Some, None, IfSome, length, take, refl, ap, sym, ◌∙◌, subst, arith, append_assoc, inl, inr, ◌⊎◌}
+use Rattle.std.specs.Prelude.{All, Bool, MatchResult, OnErr, OnOk, Result, Ok, Err, true, false}
+use Rattle.std.specs.Result.{is_err}
 use Rattle.std.specs.Io.KnownBytes.{append_known, prepend_known}
 use Rattle.std.proofs.lemmas.List.{append-nil, length-append}
 use Rattle.std.proofs.lemmas.List.Elements.{All-nil}
@@ -19,13 +19,14 @@ use Rattle.referee_session.specs.Answering.{Asking, Gives, GivesOther, Meets, St
 use Rattle.referee_session.specs.Due.{AreAnswers, Comes, ComesNext, HaltsAt, IsNoAnswer, IsOver, closing, due_text, met_by, said_in}
 use Rattle.referee_session.specs.Halt.{Halt, ending_of, taken_for}
 use Rattle.referee_session.specs.Halt as why
-use Rattle.referee_session.specs.Lines.{answer_lines, bin_line, line_at}
-use Rattle.referee_session.specs.Refereed.{ComesTo, HasAnswers, HasEnding, Sitting, StopsClosing, StopsReading, StopsSaying, Takes, WritesFrom, said_before_last}
-use Rattle.referee_session.specs.Session.{talk_in}
-use Rattle.referee_session.specs.Talk.{talk}
-use Rattle.referee_session.specs.Turns.{GoesOn}
-use Rattle.referee_session.specs.declared.refereeing.Ending.TheVariants as endings
-use Rattle.referee_session.proofs.LineLemmas.{answer_lines-push, said-push}
+use Rattle.referee_session.specs.Lines.{answer_lines, bin_line, line_at, session_line}
+use Rattle.referee_session.specs.Refereed.{ComesTo, HasAnswers, HasEnding, IsOutcome, Sitting, StopsClosing, StopsReading, StopsSaying, Takes, WritesFrom, said_before_last}
+use Rattle.referee_session.specs.Session.{HasEnded, SessionState, state_of, talk_in, talk_of}
+use Rattle.referee_session.specs.Turns.{GoesOn, IsLegal}
+use Rattle.referee_session.specs.declared.refereeing.Ending.{Ending}
+use Rattle.referee_session.specs.declared.refereeing.SessionFault.{SessionFault}
+use Rattle.referee_session.specs.declared.refereeing.SessionFault.TheVariants as faults
+use Rattle.referee_session.proofs.LineLemmas.{answer_lines-push, said-nil, said-push}
 use Rattle.referee_session.proofs.TalkLemmas.{talk-nil}
 use Rattle.referee_session.specs.Talk as talks
 
@@ -58,6 +59,36 @@ before_last-push pool root [] bin = refl
 before_last-push pool root (first ∷ bins) bin =
     let short : length (bins ++ bin ∷ []) ≡ length (first ∷ bins) = omega (arith, length-append bins (bin ∷ [])) in
     ap (λ (n : ℕ). said_in pool root (take n ((first ∷ bins) ++ bin ∷ []))) short ∙ ap (said_in pool root) (take-append_seam (first ∷ bins) (bin ∷ []))
+
+-- what was said before the first answer
+pub opening : (s : SessionState) (first : List ℕ) → s.answers ≡ [] → first ≡ session_line s.pool.game
+    → first ++ line_at s.pool.game s.pool.nodes (talk_of s) ≡ said_in s.pool s.root []
+opening s first none is =
+    ap (λ (xs : List ℕ). xs ++ line_at s.pool.game s.pool.nodes (talk_of s)) is
+    ∙ ap (λ (answers : List ℕ). session_line s.pool.game ++ line_at s.pool.game s.pool.nodes (talk_in s.pool s.root answers)) none
+    ∙ sym (said-nil s.pool.game s.pool.nodes s.root)
+
+-- what a result tells, once it is known which one it is
+pub at_err : {T E P : Type 0} (r : Result T E) → is_err r ≡ true → OnErr r P → P
+at_err (Ok x) e h = absurd cc
+at_err (Err x) e h = h
+
+pub at_ok : {T E P : Type 0} (r : Result T E) → is_err r ≡ false → OnOk r P → P
+at_ok (Ok x) e h = h
+at_ok (Err x) e h = absurd cc
+
+-- a session of the same pool and root
+over_same : (p q : Pool) (r s : ℕ) (bins : List ℕ) → p ≡ q → r ≡ s → IsOver q s bins → IsOver p r bins
+over_same p q r s bins pe re over =
+    subst (λ (p : Pool). IsOver p r bins) (sym pe) (subst (λ (r : ℕ). IsOver q r bins) (sym re) over)
+
+answers_same : (p q : Pool) (r s : ℕ) (bins : List ℕ) → p ≡ q → r ≡ s → AreAnswers p r bins → AreAnswers q s bins
+answers_same p q r s bins pe re are = subst (λ (p : Pool). AreAnswers p s bins) pe (subst (λ (r : ℕ). AreAnswers p r bins) re are)
+
+line_same : (p q : Pool) (r s : ℕ) (bins : List ℕ) → p ≡ q → r ≡ s
+    → line_at p.game p.nodes (talk_in p r bins) ≡ line_at q.game q.nodes (talk_in q s bins)
+line_same p q r s bins pe re =
+    ap (λ (p : Pool). line_at p.game p.nodes (talk_in p r bins)) pe ∙ ap (λ (r : ℕ). line_at q.game q.nodes (talk_in q r bins)) re
 
 module _ (pool : Pool) (root : ℕ) (reader : ReaderState) (left written : Option (List ℕ)) where
   -- the sitting so far
@@ -205,7 +236,8 @@ module _ (pool : Pool) (root : ℕ) (reader : ReaderState) (left written : Optio
     comes_other bins line next new more of_game not_over other =
         let unmet : met_by reader.ending ≡ None = sym on.met ∙ other.gives.unmet in
         let none : IsNoAnswer pool line = λ bin below e. other.no_answer bin (omega (arith, of_game, below)) e in
-        let halts = λ (bytes : List ℕ). (not_over, record { not_met = unmet; is_line = other.is_line; no_answer = none; rest = bytes; first = refl }) in
+        let halts : (bytes : List ℕ) → HaltsAt pool root (met_by reader.ending) answers (with_lf line ++ bytes) (why.other line) =
+        λ bytes. (not_over, record { not_met = unmet; is_line = other.is_line; no_answer = none; rest = bytes; first = refl }) in
         comes_by (why.other line) next new more other.gives.reads (halts next.held)
         (if_prepended (λ bytes. Unit {0}) (λ bytes. HaltsAt pool root (met_by reader.ending) answers bytes (why.other line)) (with_lf line) (prepend_known next.held new)
         (to_come now mid) (to_come_after now.held next.held (with_lf line) mid new other.gives.reads) (λ bytes _. halts bytes)
@@ -233,3 +265,39 @@ module _ (pool : Pool) (root : ℕ) (reader : ReaderState) (left written : Optio
         some = subst (λ (w : Option (List ℕ)). AppendsSome w more (closing (length answers) halt)) on.written some;
       };
     }
+
+  -- the play of a session of this pool and root has not ended
+  pub not_ended : (s : SessionState) → s.pool ≡ pool → s.root ≡ root → (HasEnded s → ⊥) → ¬ (IsOver pool root s.answers)
+  not_ended s of_pool of_root not = λ over. not (over_same s.pool pool s.root root s.answers of_pool of_root over)
+
+  module _ (s a : SessionState) (bin : ℕ) (of_pool : s.pool ≡ pool) (of_root : s.root ≡ root) (answered : a ≡ state_of s.pool s.root (s.answers ++ bin ∷ [])) (legal : IsLegal a) (now next : ReaderState) (mid told new more : Option (List ℕ)) (on : GoesOn (sitting s.answers now mid told)) (bins : ℕ) (gives : Gives (asking bins now next mid new) (bin_line bin)) where
+    still_answers : AreAnswers pool root (s.answers ++ bin ∷ [])
+    still_answers =
+        answers_same s.pool pool s.root root (s.answers ++ bin ∷ []) of_pool of_root
+        (subst (λ (state : SessionState). AreAnswers state.pool state.root state.answers) answered legal.answers)
+
+    still_line : line_at a.pool.game a.pool.nodes (talk_of a) ≡ line_at pool.game pool.nodes (talk_in pool root (s.answers ++ bin ∷ []))
+    still_line =
+        ap (λ (state : SessionState). line_at state.pool.game state.pool.nodes (talk_of state)) answered
+        ∙ line_same s.pool pool s.root root (s.answers ++ bin ∷ []) of_pool of_root
+
+    pub goes_on_by : more ≡ append_known told (line_at a.pool.game a.pool.nodes (talk_of a)) → GoesOn (sitting a.answers next new more)
+    goes_on_by e =
+        subst (λ (answers : List ℕ). GoesOn (sitting answers next new more)) (sym (ap (λ (state : SessionState). state.answers) answered))
+        (goes_on s.answers now mid told on bins bin next new more still_answers gives (e ∙ ap (append_known told) still_line))
+
+    pub stops_saying_by : AppendsSome told more (line_at a.pool.game a.pool.nodes (talk_of a)) → StopsSaying (sitting a.answers next new more)
+    stops_saying_by some =
+        subst (λ (answers : List ℕ). StopsSaying (sitting answers next new more)) (sym (ap (λ (state : SessionState). state.answers) answered))
+        (stops_saying s.answers now mid told on bins bin next new more still_answers gives (subst (AppendsSome told more) still_line some))
+
+  -- what the writing of the last line comes to
+  pub closed : (answers : List ℕ) (now next : ReaderState) (mid told new more : Option (List ℕ)) (ending : Ending) (line : List ℕ) (halt : Halt) (r : Result Ending SessionFault)
+      (Q : Type 0) → GoesOn (sitting answers now mid told) → ComesTo (sitting answers next new told) halt → ending ≡ ending_of halt → line ≡ closing (length answers) halt
+      → MatchResult r (λ given. (given ≡ ending) × (more ≡ append_known told line)) (λ fault. (fault ≡ faults.Write) × AppendsSome told more line × Q)
+      → IsOutcome (sitting answers next new more) r
+  closed answers now next mid told new more ending line halt (Ok value) Q on comes is line_is h =
+      subst (HasEnding (sitting answers next new more)) (sym (h.0 ∙ is)) (closes answers now mid told on halt next new more comes (h.1 ∙ ap (append_known told) line_is))
+  closed answers now next mid told new more ending line halt (Err faults.Read) Q on comes is line_is h = absurd (let e : faults.Read ≡ faults.Write = h.0 in cc)
+  closed answers now next mid told new more ending line halt (Err faults.Write) Q on comes is line_is h =
+      inr (stops_closing answers now mid told on halt next new more comes (subst (AppendsSome told more) line_is h.1))
