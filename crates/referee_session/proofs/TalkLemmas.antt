@@ -38,7 +38,7 @@ use Rattle.referee_session.specs.declared.stand.Stand.TheVariants.{Waits, Ended}
 
 -- ---- the algorithm that answers the bins of a list
 
-bins_from_take : (bins items : List ℕ) (n : ℕ) → n ≤ length items → n ≤ length bins → bins_of (answers_from bins) (take n items) ≡ take n bins
+pub bins_from_take : (bins items : List ℕ) (n : ℕ) → n ≤ length items → n ≤ length bins → bins_of (answers_from bins) (take n items) ≡ take n bins
 bins_from_take bins items zero l m = refl
 bins_from_take bins items (suc n) l m =
     let answer = answers_from bins in
@@ -244,7 +244,7 @@ pub record IsWaiting (pool : Pool) (items bins : List ℕ) (number done : ℕ) :
   pub loads : (bin : ℕ) (sent : AdvNode) → slice_get pool.nodes number ≡ Some sent → bin < pool.game.bins
       → get_or (loads_by_bin pool.game items bins) bin 0 + sent_size sent.step < 65536
 
-length-le-sum : (most : ℕ) (items : List ℕ) → All (IsSize most) items → length items ≤ sum items
+pub length-le-sum : (most : ℕ) (items : List ℕ) → All (IsSize most) items → length items ≤ sum items
 length-le-sum most [] h = omega arith
 length-le-sum most (x ∷ items) h =
     let s = All-head (IsSize most) x items h in

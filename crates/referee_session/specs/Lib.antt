@@ -7,3 +7,4 @@ pub mod Due
 pub mod Answering
 pub mod Refereed
 pub mod Turns
+pub mod Laws

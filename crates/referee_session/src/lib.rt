@@ -12,3 +12,6 @@ mod told;
 pub use answer::parse_bin;
 pub use refereeing::{Ending, SessionFault, referee};
 pub use session::Session;
+
+#[cfg(test)]
+mod tests;
