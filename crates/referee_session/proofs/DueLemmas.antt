@@ -1,13 +1,13 @@
 -- What is due of a referee is one text alone.
-use Rattle.std.proofs.Common.{◌≡◌, ℕ, ◌+◌, ◌<◌, ◌≤◌, List, [], ◌∷◌, ◌++◌, Option, Some, None, length, refl, ap, sym, ◌∙◌, subst, arith, append_assoc, inl, inr, ⊎_elim, ◌⊎◌, decimal, codes}
+use Rattle.std.proofs.Common.{◌≡◌, ℕ, ◌+◌, ◌<◌, ◌≤◌, List, [], ◌∷◌, ◌++◌, Option, Some, None, length, refl, ap, sym, ◌∙◌, subst, arith, append_assoc, inl, inr, ⊎_elim, ◌⊎◌, decimal}
 use Rattle.std.specs.Prelude.{All, fold, option_map}
 use Rattle.std.specs.List.{slice_get}
 use Rattle.std.specs.Option.{unwrap_or}
 use Rattle.std.proofs.lemmas.Fmt.{decimal_digit, decimal_injective}
 use Rattle.std.proofs.lemmas.List.{append-nil, length-append}
-use Rattle.std.proofs.lemmas.List.Elements.{All-nil, All-cons, All-append, All-head, All-tail}
+use Rattle.std.proofs.lemmas.List.Elements.{All-nil, All-cons, All-head, All-tail}
 use Rattle.std.proofs.lemmas.Option.{none-some}
-use Rattle.port_io.specs.Lines.{HasNoLf, IsLine, StandsNext, lf, with_lf}
+use Rattle.port_io.specs.Lines.{HasNoLf, IsLine, lf, with_lf}
 use Rattle.port_io.specs.declared.lines.Line.{Line}
 use Rattle.port_io.specs.declared.lines.Line.TheVariants as lines
 use Rattle.port_io.proofs.NextLemmas.{StandsNext-only, with_lf-only}

@@ -1,16 +1,13 @@
 -- The lines of a session.
-use Rattle.std.proofs.Common.{◌≡◌, ℕ, ◌+◌, ◌<◌, ◌≤◌, List, [], ◌∷◌, ◌++◌, codes, decimal, length, get_or, map, take, refl, ap, sym, ◌∙◌, arith, append_assoc}
+use Rattle.std.proofs.Common.{◌≡◌, ℕ, ◌+◌, ◌<◌, List, [], ◌∷◌, ◌++◌, codes, decimal, length, get_or, map, take, ap, sym, ◌∙◌, arith, append_assoc}
 use Rattle.std.specs.List.{flat_map}
-use Rattle.std.proofs.lemmas.List.{append-nil, map-append, take_more, length-append}
+use Rattle.std.proofs.lemmas.List.{append-nil, map-append, take_more}
 use Rattle.std.proofs.lemmas.Grind.{flat_map-append}
-use Rattle.std.proofs.Math.Seq.{take-length}
 use Rattle.port_io.specs.Lines.{with_lf}
-use Rattle.strategy_text.specs.Text.{list_words}
 use Rattle.strategy_text.specs.Writing.{spaced}
 use Rattle.strategy_text.proofs.Spaced.{line_spaced, spaced-append}
 use Rattle.online_play.specs.Algorithm.{prefixes}
 use Rattle.online_play.proofs.RunLemmas.{prefixes-push}
-use Rattle.adversary_graph.specs.Pools.{Pool}
 use Rattle.strategy_text.specs.declared.node.AdvNode.{AdvNode}
 use Rattle.items.specs.Game.{GameNumbers}
 use Rattle.referee_session.specs.Lines.{answer_lines, bin_line, line_at, lost_line, said, session_line}

@@ -1,19 +1,19 @@
 -- Talks and plays.
-use Rattle.std.proofs.Common.{◌≡◌, ℕ, zero, suc, ◌+◌, ◌-◌, ◌*◌, ◌<◌, ◌≤◌, Bool, List, [], ◌∷◌, ◌++◌, Option, Some, None, length, get_or, take, drop, replicate, sum, refl, ap, sym, ◌∙◌, subst, arith, ⊎_elim, ltb}
-use Rattle.std.specs.Prelude.{All, Any, fold, option_map, slice_index}
+use Rattle.std.proofs.Common.{◌≡◌, ℕ, zero, suc, ◌+◌, ◌-◌, ◌*◌, ◌<◌, ◌≤◌, List, [], ◌∷◌, ◌++◌, Option, Some, None, length, take, drop, replicate, refl, ap, sym, ◌∙◌, subst, arith, ⊎_elim, ltb}
+use Rattle.std.specs.Prelude.{All, Any, fold, option_map}
 use Rattle.std.specs.List.{slice_get, concat}
 use Rattle.std.specs.Option.{option_and_then, unwrap_or}
 use Rattle.std.proofs.Math.Seq.{take-length}
 use Rattle.std.proofs.lemmas.Bool.{cases_lt, cond-true, cond-false, lt-ltb, le-ltb}
-use Rattle.std.proofs.lemmas.List.{append-nil, length-append, length-replicate, length-take-le, take-append-drop, append_assoc}
+use Rattle.std.proofs.lemmas.List.{append-nil, length-replicate, take-append-drop, append_assoc}
 use Rattle.std.proofs.lemmas.List.Elements.{All-take}
 use Rattle.std.proofs.lemmas.List.Sums.{fold-append}
 use Rattle.std.proofs.lemmas.Option.{none-some, same_Some}
 use Rattle.items.specs.Game.{GameNumbers}
 use Rattle.items.specs.Packable.{Packable}
 use Rattle.packing_witness.proofs.PackableLemmas.{sum-Packable-le}
-use Rattle.online_play.specs.Algorithm.{IsAlgorithm, bins_of, loads_by_bin, run}
-use Rattle.online_play.proofs.RunLemmas.{bins_of-push, length-bins_of}
+use Rattle.online_play.specs.Algorithm.{bins_of, loads_by_bin}
+use Rattle.online_play.proofs.RunLemmas.{bins_of-push}
 use Rattle.strategy_text.specs.declared.node.AdvNode.{AdvNode}
 use Rattle.strategy_text.specs.declared.node.Placement.{Placement}
 use Rattle.strategy_text.specs.declared.node.Step.{Step}
@@ -21,7 +21,7 @@ use Rattle.strategy_text.specs.declared.node.Step.TheVariants.{Send, Burst}
 use Rattle.strategy_text.specs.declared.node.Then.{Then}
 use Rattle.strategy_text.specs.declared.node.Then.TheVariants.{Over, To}
 use Rattle.adversary_graph.specs.Nodes.{sent_items, sent_size}
-use Rattle.adversary_graph.specs.Play.{End, Play, beyond, end_at, end_by_step, end_of, end_packing, goes_on, load_hit, next_at, play, play_to, play_with, without_all}
+use Rattle.adversary_graph.specs.Play.{End, Play, beyond, end_at, end_by_step, end_of, goes_on, load_hit, next_at, play_to, play_with, without_all}
 use Rattle.adversary_graph.specs.Pools.{Pool, IsPool, IsRoot}
 use Rattle.adversary_graph.proofs.EndLemmas.{ends_lost, has_end, has_end_packing}
 use Rattle.adversary_graph.proofs.PlayLemmas.{root_ready, times_more}
@@ -31,7 +31,7 @@ use Rattle.referee_session.specs.Session.{talk_in}
 use Rattle.referee_session.specs.Talk.{IsEnd, Talk, answered, answers_from, loads_of, packing_at, stand_after, stand_at, talk, talk_begins, talk_to, told_next}
 use Rattle.referee_session.specs.declared.stand.Stand.{Stand}
 use Rattle.referee_session.specs.declared.stand.Stand.TheVariants.{Waits, Ended}
-use Rattle.referee_session.proofs.TalkLemmas.{bins_from, bins_from_take, from_is_algorithm, length-le-sum, sends_some, talk-nil}
+use Rattle.referee_session.proofs.TalkLemmas.{bins_from, bins_from_take, from_is_algorithm, length-le-sum, sends_some}
 
 -- ---- along a play
 

@@ -1,6 +1,6 @@
 -- Talks: what holds after each answer.
-use Rattle.std.proofs.Common.{◌≡◌, ℕ, zero, suc, ◌+◌, ◌-◌, ◌<◌, ◌≤◌, Bool, true, false, cond, List, [], ◌∷◌, ◌++◌, Option, Some, None, length, get_or, take, replicate, sum}
-use Rattle.std.proofs.Common.{refl, ap, sym, ◌∙◌, subst, arith, ⊎_elim, inl, inr, ltb}
+use Rattle.std.proofs.Common.{◌≡◌, ℕ, zero, suc, ◌+◌, ◌-◌, ◌<◌, ◌≤◌, List, [], ◌∷◌, ◌++◌, Option, Some, length, get_or, take, replicate, sum}
+use Rattle.std.proofs.Common.{refl, ap, sym, ◌∙◌, subst, arith, ⊎_elim, ltb}
 use Rattle.std.specs.Prelude.{All, fold, option_map, slice_index}
 use Rattle.std.specs.List.{slice_get}
 use Rattle.std.specs.Option.{unwrap_or}
@@ -27,12 +27,11 @@ use Rattle.strategy_text.specs.declared.node.Then.{Then}
 use Rattle.strategy_text.specs.declared.node.Then.TheVariants.{Over, To}
 use Rattle.adversary_graph.specs.Nodes.{position_of, sent_items, sent_size}
 use Rattle.adversary_graph.specs.Play.{load_hit, next_at}
-use Rattle.adversary_graph.specs.Playing.{StandsReady}
 use Rattle.adversary_graph.specs.Pools.{Pool, IsPool, IsRoot}
 use Rattle.adversary_graph.specs.Rules.{IsLongEnough}
 use Rattle.adversary_graph.proofs.PlayLemmas.{Hits, hits_at, ready_packable, root_ready, times_more, times_packable}
 use Rattle.adversary_graph.proofs.PoolLemmas.{rules_of}
-use Rattle.referee_session.specs.Talk.{Talk, answered, answered_at, answers_from, due_at, loads_of, stand_after, stand_at, talk, talk_begins, talk_to, told_next}
+use Rattle.referee_session.specs.Talk.{Talk, answered, answered_at, answers_from, due_at, stand_after, stand_at, talk, talk_begins, talk_to, told_next}
 use Rattle.referee_session.specs.declared.stand.Stand.{Stand}
 use Rattle.referee_session.specs.declared.stand.Stand.TheVariants.{Waits, Ended}
 

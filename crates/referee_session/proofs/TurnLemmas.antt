@@ -1,6 +1,6 @@
 -- The turns of a referee.
-use Rattle.std.proofs.Common.{◌≡◌, ℕ, ◌+◌, ◌<◌, ◌≤◌, List, [], ◌∷◌, ◌++◌, Option, Some, None, IfSome, length, take, refl, ap, sym, ◌∙◌, subst, arith, append_assoc, inl, inr, ◌⊎◌}
-use Rattle.std.specs.Prelude.{All, Bool, MatchResult, OnErr, OnOk, Result, Ok, Err, true, false}
+use Rattle.std.proofs.Common.{◌≡◌, ℕ, ◌<◌, List, [], ◌∷◌, ◌++◌, Option, Some, None, IfSome, length, take, refl, ap, sym, ◌∙◌, subst, arith, append_assoc, inl, inr, ◌⊎◌}
+use Rattle.std.specs.Prelude.{MatchResult, OnErr, OnOk, Result, Ok, Err, true, false}
 use Rattle.std.specs.Result.{is_err}
 use Rattle.std.specs.Io.KnownBytes.{append_known, prepend_known}
 use Rattle.std.proofs.lemmas.List.{append-nil, length-append}
@@ -16,11 +16,11 @@ use Rattle.port_io.proofs.ReadingLemmas.{ReadsOn-none, prepend_known-read}
 use Rattle.port_io.proofs.ToldLemmas.{append_known-nil, append_known-append, prepend_known-prepend}
 use Rattle.adversary_graph.specs.Pools.{Pool}
 use Rattle.referee_session.specs.Answering.{Asking, Gives, GivesOther, Meets, StopsAsking}
-use Rattle.referee_session.specs.Due.{AreAnswers, Comes, ComesNext, HaltsAt, IsNoAnswer, IsOver, closing, due_text, met_by, said_in}
+use Rattle.referee_session.specs.Due.{AreAnswers, Comes, ComesNext, HaltsAt, IsNoAnswer, IsOver, closing, met_by, said_in}
 use Rattle.referee_session.specs.Halt.{Halt, ending_of, taken_for}
 use Rattle.referee_session.specs.Halt as why
 use Rattle.referee_session.specs.Lines.{answer_lines, bin_line, line_at, session_line}
-use Rattle.referee_session.specs.Refereed.{ComesTo, HasAnswers, HasEnding, IsOutcome, Sitting, StopsClosing, StopsReading, StopsSaying, Takes, WritesFrom, said_before_last}
+use Rattle.referee_session.specs.Refereed.{ComesTo, HasAnswers, HasEnding, IsOutcome, Sitting, StopsClosing, StopsReading, StopsSaying, said_before_last}
 use Rattle.referee_session.specs.Session.{HasEnded, SessionState, state_of, talk_in, talk_of}
 use Rattle.referee_session.specs.Turns.{GoesOn, IsLegal}
 use Rattle.referee_session.specs.declared.refereeing.Ending.{Ending}

@@ -1,11 +1,11 @@
 -- The laws of talks, and of what is due of a referee.
-use Rattle.std.specs.Prelude.{◌≡◌, ℕ, ◌+◌, ◌*◌, ◌<◌, ◌≤◌, List, [], ◌++◌, Option, Some, All, Any, length, take}
+use Rattle.std.specs.Prelude.{◌≡◌, ℕ, ◌+◌, ◌*◌, ◌<◌, ◌≤◌, List, [], Option, Some, All, Any, length, take}
 use Rattle.port_io.specs.declared.lines.Line.{Line}
 use Rattle.items.specs.Packable.{Packable}
-use Rattle.online_play.specs.Algorithm.{IsAlgorithm, bins_of}
+use Rattle.online_play.specs.Algorithm.{bins_of}
 use Rattle.adversary_graph.specs.Play.{End, Play, end_of, play}
 use Rattle.adversary_graph.specs.Pools.{IsPool, IsRoot, Pool}
-use Rattle.referee_session.specs.Due.{AreAnswers, Comes, IsOver, due_text, said_in}
+use Rattle.referee_session.specs.Due.{AreAnswers, Comes, IsOver}
 use Rattle.referee_session.specs.Halt.{Halt}
 use Rattle.referee_session.specs.Session.{talk_in}
 use Rattle.referee_session.specs.Talk.{answers_from, loads_of, packing_at, talk_to}

@@ -1,7 +1,7 @@
 -- A session: a talk over the nodes of a pool.
-use Rattle.std.specs.Prelude.{◌≡◌, ℕ, ◌<◌, List, [], ◌∷◌, ◌++◌, Option, All}
+use Rattle.std.specs.Prelude.{ℕ, List, Option}
 use Rattle.adversary_graph.specs.Pools.{Pool}
-use Rattle.referee_session.specs.Talk.{IsEnd, Talk, due_at, loads_of, packing_at, talk}
+use Rattle.referee_session.specs.Talk.{IsEnd, Talk, due_at, packing_at, talk}
 
 -- the pool, the number of the node at which the play begins, and the answers so far
 pub record SessionState : Type 0 where

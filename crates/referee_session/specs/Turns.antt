@@ -1,5 +1,5 @@
 -- What the private contracts of the turns of a referee cite; `IsLegal` alone has to be believed.
-use Rattle.std.specs.Prelude.{◌≡◌, ◌⊎◌, ℕ, ◌≤◌, List, [], Option, None, length}
+use Rattle.std.specs.Prelude.{◌≡◌, ◌⊎◌, ◌≤◌, [], None, length}
 use Rattle.std.specs.Io.KnownBytes.{append_known}
 use Rattle.adversary_graph.specs.Pools.{IsPool, IsRoot}
 use Rattle.referee_session.specs.Due.{AreAnswers, met_by, said_in}

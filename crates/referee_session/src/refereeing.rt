@@ -144,11 +144,7 @@ fn line_of(session: &Session) -> ShortLine
 }
 
 // Writes the last line, and gives the ending.
-fn close<K: Sink>(
-    line: &ShortLine,
-    ending: Ending,
-    sink: &mut K,
-) -> Result<Ending, SessionFault>
+fn close<K: Sink>(line: &ShortLine, ending: Ending, sink: &mut K) -> Result<Ending, SessionFault>
     ensures count { K.faults sink.old ≤ K.faults sink.new }
     ensures closed { MatchResult result
         (λ given. (given ≡ ending) × (K.written sink.new ≡ append_known (K.written sink.old) line.now))

@@ -1,13 +1,14 @@
 //! Worked cases, at inputs that are cut anyhow, and what no clause says: that memory is found.
 
+ghost use Rattle.std.specs.Prelude.{◌≡◌, ◌≤◌, [], IfOk, IfSome};
+ghost use Rattle.adversary_graph.specs.Nodes.{IsOfFormat};
+
 use crate::{Ending, Session, SessionFault, parse_bin, referee};
 use adversary_graph::{AdvPool, node_fault};
 use items::{Game, Nums};
 use port_io::{LineReader, MemSink, MemSource, Source};
 use std::alloc::{AllocError, Global};
 use strategy_text::{AdvNode, Format, parse_adversary};
-
-ghost use Rattle.adversary_graph.specs.Nodes.{IsOfFormat};
 
 // Nodes of a legal strategy of the game of two bins of capacity 3 at target 4.
 const NODES: [&str; 5] = [
@@ -46,11 +47,9 @@ fn put_line(alloc: Global, pool: &mut AdvPool, line: &str) -> Result<(), AllocEr
 }
 
 // A session of the nodes of these lines, from the last one on.
-fn session_of(
-    alloc: Global,
-    format: Format,
-    lines: &[&str],
-) -> Result<Option<Session>, AllocError> {
+fn session_of(alloc: Global, format: Format, lines: &[&str]) -> Result<Option<Session>, AllocError>
+    ensures { IfOk result (λ made. IfSome made (λ session. session.answers ≡ [])) }
+{
     let game = Game::new(2, 3, 4).unwrap();
     let mut pool = AdvPool::new(alloc, &game, format);
     for line in lines {
@@ -60,7 +59,9 @@ fn session_of(
 }
 
 // A session from the last node on.
-fn begun(pool: AdvPool) -> Option<Session> {
+fn begun(pool: AdvPool) -> Option<Session>
+    ensures { IfSome result (λ session. session.answers ≡ []) }
+{
     let root = pool.len().saturating_sub(1);
     if pool.is_root(root) {
         Some(Session::begin(pool, root))
@@ -171,7 +172,15 @@ fn comes_to(alloc: Global, row: &Row, step: usize) -> Result<bool, AllocError>
 {
     match session_of(alloc, row.0, row.1)? {
         Some(mut session) => {
-            is_refereed(&mut session, alloc, row.2, step, (&[], &[]), Ok(row.3), row.4)
+            is_refereed(
+                &mut session,
+                alloc,
+                row.2,
+                step,
+                (&[], &[]),
+                Ok(row.3),
+                row.4,
+            )
         }
         None => Ok(false),
     }
@@ -181,7 +190,11 @@ fn comes_to(alloc: Global, row: &Row, step: usize) -> Result<bool, AllocError>
 fn each_input_comes_to_its_ending_however_it_is_cut(rt: HostRuntime) {
     for row in &ROWS {
         for step in [1, 7, 4096] {
-            assert!(rt; comes_to(rt.alloc(), row, step).unwrap_or(false), "{}", row.2);
+            assert!(rt;
+                comes_to(rt.alloc(), row, step).unwrap_or(false),
+                "{}",
+                row.2
+            );
         }
     }
 }

@@ -1,4 +1,4 @@
-use Rattle.std.proofs.Common.{ℕ, List, ◌≡◌, ◌∷◌, ◌++◌, [], ◌∙◌, ap, arith, codes, decimal, length, map, take}
+use Rattle.std.proofs.Common.{ℕ, List, ◌≡◌, ◌∷◌, ◌++◌, [], ◌∙◌, ap, codes, decimal, map, take}
 use Rattle.std.proofs.lemmas.List.{take_all}
 use Rattle.strategy_text.specs.Writing.{spaced}
 use Rattle.referee_session.proofs.LineLemmas.{lost_line_is}

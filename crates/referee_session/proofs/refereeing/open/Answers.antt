@@ -1,7 +1,6 @@
-use Rattle.std.proofs.Common.{◌≡◌, ◌∙◌, ℕ, List, ◌++◌, Option, ap, subst}
+use Rattle.std.proofs.Common.{◌∙◌, ℕ, List, Option, ap, subst}
 use Rattle.std.proofs.lemmas.Result.{on_err_weaker, on_ok_weaker}
 use Rattle.std.specs.Io.KnownBytes.{append_known}
-use Rattle.items.specs.Game.{GameNumbers}
 use Rattle.port_io.specs.Told.{AppendsSome}
 use Rattle.port_io.proofs.ToldLemmas.{append_known-append, AppendsSome-longer, AppendsSome-then}
 use Rattle.referee_session.specs.Lines.{line_at, session_line}

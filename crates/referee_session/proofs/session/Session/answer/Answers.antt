@@ -1,4 +1,4 @@
-use Rattle.std.proofs.Common.{◌≡◌, ◌<◌, ◌∙◌, ◌∷◌, [], ap, sym, subst, length, arith}
+use Rattle.std.proofs.Common.{◌<◌, ◌∙◌, ap, sym, subst, length, arith}
 use Rattle.std.proofs.lemmas.List.Elements.{All-push}
 use Rattle.online_play.proofs.RunLemmas.{length-loads_by_bin, loads_by_bin-push}
 use Rattle.adversary_graph.specs.Nodes.{sent_size}

@@ -1,4 +1,4 @@
-use Rattle.std.proofs.Common.{◌<◌, ◌∙◌, sym, []}
+use Rattle.std.proofs.Common.{◌<◌, ◌∙◌, []}
 use Rattle.std.proofs.lemmas.List.Elements.{All-nil}
 use Rattle.online_play.proofs.WonLemmas.{run-nil}
 use Rattle.referee_session.specs.Talk.{answers_from}
