@@ -9,7 +9,6 @@ ghost use Rattle.referee_session.specs.Turns.{IsLegal};
 
 use crate::stand::{Stand, sent_size, stand_after};
 use crate::told::Told;
-use adversary_graph::laws::pool_is_legal;
 use adversary_graph::{AdvPool, packing_for};
 use items::Game;
 use online_play::Actual;
@@ -70,7 +69,7 @@ impl Session {
         ensures exact { IsNone result ↔ HasEnded self.now }
         ensures few { IsSome result → length self.now.answers < 960 }
     {
-        pool_is_legal(&self.pool);
+        let _count = self.pool.len();
         match self.stand {
             Stand::Waits { number, .. } => Some(sent_size(&self.pool.node(number).step)),
             Stand::Ended { .. } => None,
@@ -83,7 +82,7 @@ impl Session {
         requires due { IsSome (due_of self.old) }
         ensures answered { self.new ≡ state_of self.old.pool self.old.root (self.old.answers ++ bin ∷ []) }
     {
-        pool_is_legal(&self.pool);
+        let _count = self.pool.len();
         let Stand::Waits { number, done } = self.stand else {
             unreachable!()
         };
@@ -123,11 +122,11 @@ impl Session {
         ensures holds { IfOk result (λ made. IfSome made (λ packing.
             IsPacking self.now.pool.game packing (talk_of self.now).items)) }
     {
-        pool_is_legal(&self.pool);
+        let _count = self.pool.len();
         match self.stand {
             Stand::Waits { .. } => Ok(None),
             Stand::Ended { number } => {
-                let packing = packing_for(&self.pool, number, self.told.items())?;
+                let packing = packing_for(self.pool.nodes(), number, self.told.items())?;
                 Ok(Some(packing))
             }
         }
@@ -144,7 +143,7 @@ impl Session {
     pub(crate) fn see_legal(&self)
         ensures { IsLegal self.now }
     {
-        pool_is_legal(&self.pool);
+        let _count = self.pool.len();
         let _bins = self.told.bins();
     }
 

@@ -4,7 +4,7 @@ ghost use Rattle.std.specs.Prelude.{◌≡◌, ◌≤◌, [], IfOk, IfSome};
 ghost use Rattle.adversary_graph.specs.Nodes.{IsOfFormat};
 
 use crate::{Ending, Session, SessionFault, parse_bin, referee};
-use adversary_graph::{AdvPool, node_fault};
+use adversary_graph::{AdvPool, judge};
 use items::{Game, Nums};
 use port_io::{LineReader, MemSink, MemSource, Source};
 use std::alloc::{AllocError, Global};
@@ -31,7 +31,7 @@ const BURSTS: [&str; 4] = [
 fn put(pool: &mut AdvPool, node: AdvNode) -> Result<(), AllocError>
     requires { IsOfFormat pool.old.format node.step }
 {
-    let fault = node_fault(&pool.game(), pool.format(), pool.positions(), false, &node);
+    let fault = judge(pool.terms(), pool.positions(), false, &node);
     if fault.is_none() && pool.len() < 4_000_000_000 {
         let _number = pool.push(node)?;
     }

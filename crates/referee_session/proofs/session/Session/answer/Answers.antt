@@ -18,7 +18,7 @@ pub stand_after-self-inside-requires : goal.stand_after-self-inside-requires
 stand_after-self-inside-requires c =
     let s = c.self.inside in
     let i = c.self.invariant in
-    let w = waiting s.pool s.root s.told.items s.told.bins c.in-Waits.number c.in-Waits.done c.pool_is_legal.ensures i.0 i.1
+    let w = waiting s.pool s.root s.told.items s.told.bins c.in-Waits.number c.in-Waits.done c.len-count.ensures.legal i.0 i.1
     (i.2 ∙ ap (talk_to s.told.items s.told.bins) c.in-Waits.is) in
     w.times
 
@@ -34,7 +34,7 @@ put-requires-clause-fits c =
     let s = c.self.inside in
     let i = c.self.invariant in
     let within = subst (λ (state : SessionState). c.args.bin < state.pool.game.bins) (sym c.self.view_is) c.requires.within in
-    let w = waiting s.pool s.root s.told.items s.told.bins c.in-Waits.number c.in-Waits.done c.pool_is_legal.ensures i.0 i.1
+    let w = waiting s.pool s.root s.told.items s.told.bins c.in-Waits.number c.in-Waits.done c.len-count.ensures.legal i.0 i.1
     (i.2 ∙ ap (talk_to s.told.items s.told.bins) c.in-Waits.is) in
     rw (i.3, c.sent_size-size.ensures) (w.loads c.args.bin c.node.result.now c.node.ensures.value within)
 
@@ -42,7 +42,7 @@ pub push-requires : goal.push-requires
 push-requires c =
     let s = c.self.inside in
     let i = c.self.invariant in
-    let w = waiting s.pool s.root s.told.items s.told.bins c.in-Waits.number c.in-Waits.done c.pool_is_legal.ensures i.0 i.1
+    let w = waiting s.pool s.root s.told.items s.told.bins c.in-Waits.number c.in-Waits.done c.len-count.ensures.legal i.0 i.1
     (i.2 ∙ ap (talk_to s.told.items s.told.bins) c.in-Waits.is) in
     w.few
 
@@ -52,7 +52,7 @@ invariant_of-self c =
     let i = c.self.invariant in
     let e = i.2 ∙ ap (talk_to s.told.items s.told.bins) c.in-Waits.is in
     let within = subst (λ (state : SessionState). c.args.bin < state.pool.game.bins) (sym c.self.view_is) c.requires.within in
-    let w = waiting s.pool s.root s.told.items s.told.bins c.in-Waits.number c.in-Waits.done c.pool_is_legal.ensures i.0 i.1 e in
+    let w = waiting s.pool s.root s.told.items s.told.bins c.in-Waits.number c.in-Waits.done c.len-count.ensures.legal i.0 i.1 e in
     rw (
       c.push.ensures,
       c.put.ensures.added,
