@@ -10,3 +10,6 @@ mod weakened;
 pub use fault::TransferFault;
 pub use scaled::scale;
 pub use weakened::weaken;
+
+#[cfg(test)]
+mod tests;
