@@ -1,13 +1,12 @@
 -- The end packings of a legal strategy, and what its nodes lead to.
-use Rattle.std.proofs.Common.{◌≡◌, ℕ, ◌+◌, ◌<◌, ◌≤◌, Some, None, List, ◌++◌, arith}
+use Rattle.std.proofs.Common.{◌≡◌, ℕ, ◌+◌, Some, None, List, ◌++◌, arith}
 use Rattle.std.specs.Prelude.{slice_get}
 use Rattle.items.specs.Game.{GameNumbers}
 use Rattle.items.specs.Multiset.{sizes_of}
 use Rattle.strategy_text.specs.declared.node.AdvNode.{AdvNode}
 use Rattle.strategy_text.specs.declared.node.Format.{Format}
 use Rattle.adversary_graph.specs.Legal.{IsLegal}
-use Rattle.adversary_graph.specs.Nodes.{packing_of, placements_of, sent_items}
-use Rattle.adversary_graph.specs.Play.{first_child}
+use Rattle.adversary_graph.specs.Nodes.{packing_of, sent_items}
 use Rattle.adversary_graph.specs.Pools.{pool_of}
 use Rattle.adversary_graph.proofs.EndLemmas.{HasEndPacking, has_end_packing, no_packing}
 use Rattle.adversary_graph.proofs.PoolLemmas.{IsPool-from_legal}

@@ -1,5 +1,6 @@
 -- What nodes lead to, the numbers of the nodes whose packings are end packings, and new numbers.
-use Rattle.std.proofs.Common.{leb, ◌≡◌, ℕ, zero, suc, ◌+◌, ◌<◌, ◌≤◌, Option, Some, None, List, [], ◌∷◌, ◌++◌, length, map, take, get_or, cond, ⊎_elim, refl, sym, ap, ◌∙◌, subst, arith}
+use Rattle.std.proofs.Common.{leb, ◌≡◌, ℕ, zero, suc, ◌+◌, ◌<◌, ◌≤◌, Option, Some, None, List, [], ◌∷◌, ◌++◌, length, map, take, get_or, cond, ⊎_elim, refl, sym, ap, ◌∙◌, subst}
+use Rattle.std.proofs.Common.{arith}
 use Rattle.std.specs.Prelude.{All, IfSome, slice_get, slice_index}
 use Rattle.std.specs.Option.{option_and_then, option_or}
 use Rattle.std.specs.List.{concat, cons_option, filter_map, range_with_len}
@@ -29,7 +30,7 @@ use Rattle.adversary_graph.specs.Rules.{LeadsTo}
 use Rattle.adversary_graph.proofs.EndLemmas.{few_of_each, packed_here, packed_later}
 use Rattle.adversary_graph.proofs.WonLemmas.{met}
 use Rattle.strategy_transfer.specs.Weakened.{kept_at, kept_node, new_number, renumbered, sending, stays, weakened_adversary, weakened_placement, weakened_step}
-use Rattle.strategy_transfer.specs.Weakening.{AreLinked, HasFirstChild, IsNumbered, LeadsBelow, ShowEndPackings, packed_number}
+use Rattle.strategy_transfer.specs.Weakening.{AreLinked, IsNumbered, LeadsBelow, ShowEndPackings, packed_number}
 use Rattle.strategy_transfer.proofs.LegalEnds.{legal_ends, legal_first}
 use Rattle.strategy_transfer.proofs.WeakenLemmas.{filter_map_push}
 

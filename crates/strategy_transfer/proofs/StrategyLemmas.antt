@@ -1,5 +1,5 @@
 -- Strategies of either side at another target.
-use Rattle.std.proofs.Common.{◌≡◌, ℕ, ◌*◌, ◌<◌, ◌≤◌, ◌⊎◌, List, inl, inr, arith, sym, subst}
+use Rattle.std.proofs.Common.{ℕ, ◌⊎◌, inl, inr, arith}
 use Rattle.items.specs.Game.{GameNumbers, HasTarget, IsGame}
 use Rattle.strategy_text.specs.declared.node.Format.{Format}
 use Rattle.strategy_text.specs.declared.node.Nodes.{Nodes}

@@ -1,14 +1,14 @@
 -- A legal strategy of the adversary is legal at a lower target.
-use Rattle.std.proofs.Common.{◌≡◌, ◌↔◌, ℕ, zero, suc, ◌+◌, ◌-◌, ◌/◌, ◌<◌, ◌≤◌, Bool, IsTrue, true, false, Option, Some, None, List, [], ◌∷◌, ◌++◌, length, map, take}
-use Rattle.std.proofs.Common.{add-one, ⊎_elim, get_or, cond, eqb, leb, ltb, refl, sym, ap, ◌∙◌, subst, arith, inl, inr}
-use Rattle.std.specs.Prelude.{All, Contains, IfSome, slice_get, sum_by, count_by, option_map}
-use Rattle.std.specs.List.{concat, filter_map, cons_option, list_all, range_with_len}
+use Rattle.std.proofs.Common.{◌≡◌, ℕ, zero, suc, ◌+◌, ◌-◌, ◌/◌, ◌<◌, ◌≤◌, Bool, IsTrue, true, false, Option, Some, None, List, [], ◌∷◌, ◌++◌, length, map, take}
+use Rattle.std.proofs.Common.{add-one, ⊎_elim, get_or, cond, eqb, leb, ltb, refl, sym, ap, ◌∙◌, subst, arith}
+use Rattle.std.specs.Prelude.{All, slice_get, count_by, option_map}
+use Rattle.std.specs.List.{filter_map, cons_option, range_with_len}
 use Rattle.std.specs.Option.{option_and_then}
 use Rattle.std.proofs.Common.{div-mul-le_self, le_trans, le-div_iff_mul-le}
-use Rattle.std.proofs.lemmas.Bool.{cases_Bool, cases_lt, cond-true, cond-false, eqb-true, leb-true, leb-false, lt-ltb, ltb-true, le-leb, lt-leb, true≢false}
-use Rattle.std.proofs.lemmas.List.{length-append, length-map}
-use Rattle.std.proofs.lemmas.List.Elements.{All-head, All-tail, All-cons, All-map, All-weaker, filter_map-append}
-use Rattle.std.proofs.lemmas.List.Sums.{AllPass-from_list_all, list_all-from_AllPass, count_by-le-length, sum_by-cons, sum_by_more}
+use Rattle.std.proofs.lemmas.Bool.{cases_Bool, cases_lt, cond-true, cond-false, eqb-true, leb-true, leb-false, lt-ltb, ltb-true, true≢false}
+use Rattle.std.proofs.lemmas.List.{length-append}
+use Rattle.std.proofs.lemmas.List.Elements.{All-map, All-weaker, filter_map-append}
+use Rattle.std.proofs.lemmas.List.Sums.{AllPass-from_list_all, list_all-from_AllPass, sum_by-cons, sum_by_more}
 use Rattle.std.proofs.lemmas.Option.{none-some, same_Some, slice_get_within, slice_get-get_or, slice_get-map}
 use Rattle.std.proofs.lemmas.Simd.{map-map}
 use Rattle.items.specs.Game.{GameNumbers, IsGame}
@@ -17,7 +17,7 @@ use Rattle.items.specs.Packable.{IsPacking}
 use Rattle.items.proofs.ListLemmas.{slice_get-front, slice_get-push}
 use Rattle.items.proofs.SizesLemmas.{size_from_Contains}
 use Rattle.loads.specs.After.{after}
-use Rattle.loads.specs.Loads.{IsLoads, loads_after}
+use Rattle.loads.specs.Loads.{IsLoads}
 use Rattle.loads.specs.Position.{IsEmptyPosition, StandsAt, position}
 use Rattle.loads.specs.declared.position.Position.{Position}
 use Rattle.loads.proofs.DescendingLemmas.{All-put, All-take_out}
@@ -31,10 +31,10 @@ use Rattle.strategy_text.specs.declared.node.Then.{Then}
 use Rattle.strategy_text.specs.declared.node.Then.TheVariants.{Over, To}
 use Rattle.adversary_graph.specs.Judging.{node_at}
 use Rattle.adversary_graph.specs.Legal.{EachMeetsRules, IsLegal}
-use Rattle.adversary_graph.specs.Nodes.{IsOfFormat, packing_of, placements_of, position_of, sent_items, sent_size}
+use Rattle.adversary_graph.specs.Nodes.{IsOfFormat, position_of, sent_items}
 use Rattle.adversary_graph.specs.Play.{end_packing}
-use Rattle.adversary_graph.specs.Rules.{IsLongEnough, IsOver, IsOverAtTarget, IsPacked, IsPackingAsked, LeadsTo, MeetsRules, PlacesEachLoad, most_below_target}
-use Rattle.adversary_graph.proofs.EndLemmas.{HasEndPacking, end_packing_holds}
+use Rattle.adversary_graph.specs.Rules.{IsOver, IsOverAtTarget, IsPacked, LeadsTo, MeetsRules, most_below_target}
+use Rattle.adversary_graph.proofs.EndLemmas.{end_packing_holds}
 use Rattle.adversary_graph.proofs.PoolLemmas.{root_of_legal}
 use Rattle.adversary_graph.proofs.WonLemmas.{earlier_node}
 use Rattle.strategy_transfer.specs.Weakened.{all_over, is_over, kept_at, kept_node, new_number, packing_for, renumbered, stays, weakened_adversary, weakened_node}

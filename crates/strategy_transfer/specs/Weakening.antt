@@ -1,5 +1,6 @@
 -- What the private contracts of weakening cite; nothing here has to be believed.
-use Rattle.std.specs.Prelude.{◌≡◌, ℕ, ◌+◌, ◌<◌, ◌≤◌, List, Option, Some, None, IfSome, length, slice_get, slice_index, All}
+use Rattle.std.specs.Prelude.{◌≡◌, ℕ, ◌+◌, ◌<◌, ◌≤◌, List, Option, Some, None, IfSome, length, slice_get}
+use Rattle.std.specs.Prelude.{slice_index, All}
 use Rattle.std.specs.List.{concat}
 use Rattle.items.specs.Multiset.{count}
 use Rattle.strategy_text.specs.Spelling.{most_nodes}

@@ -11,7 +11,8 @@ ghost use Rattle.strategy_transfer.specs.Faults.{IsFaultOf};
 ghost use Rattle.strategy_transfer.specs.Targets.{CanWeakenStrategy, IsLegal, IsWeaker};
 ghost use Rattle.strategy_transfer.specs.Weakened.{all_over, is_over, kept_node, new_number, packing_for, renumbered};
 ghost use Rattle.strategy_transfer.specs.Weakened.{sending, stays, weakened_adversary, weakened_node, weakened_nodes};
-ghost use Rattle.strategy_transfer.specs.Weakened.{weakened_pack, weakened_placement, weakened_step, weakened_strategy};
+ghost use Rattle.strategy_transfer.specs.Weakened.{weakened_pack, weakened_placement, weakened_step};
+ghost use Rattle.strategy_transfer.specs.Weakened.{weakened_strategy};
 ghost use Rattle.strategy_transfer.specs.Weakened.{with_target};
 ghost use Rattle.strategy_transfer.specs.Weakening.{AreFew, AreLinked, CanWeakenNodes, IsNumbered, LeadsBelow};
 

@@ -1,4 +1,4 @@
-use Rattle.std.proofs.Common.{List, ℕ, ◌+◌, ◌++◌, ◌∷◌, [], ◌∙◌, cond, ap, arith, length, refl, sym}
+use Rattle.std.proofs.Common.{ℕ, ◌+◌, ◌++◌, ◌∷◌, [], ◌∙◌, cond, ap, arith, length, refl, sym}
 use Rattle.std.proofs.lemmas.Option.{slice_get_read}
 use Rattle.strategy_transfer.specs.Weakened.{stays}
 use Rattle.strategy_transfer.proofs.LinkLemmas.{numbered_more}

@@ -1,6 +1,5 @@
 use Rattle.std.proofs.Common.{arith, length, refl}
 use Rattle.std.proofs.lemmas.Option.{slice_get_read}
-use Rattle.strategy_transfer.specs.Weakened.{weakened_adversary}
 use Rattle.strategy_transfer.proofs.LinkLemmas.{below_numbers, kept_is, made_more, made_whole}
 use Rattle.strategy_transfer.proofs.weakened.of_adversary.Goals as goal
 
