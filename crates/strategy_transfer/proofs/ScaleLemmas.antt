@@ -1,10 +1,9 @@
 -- A legal strategy of the adversary is legal on another scale.
-use Rattle.std.proofs.Common.{◌≡◌, ◌↔◌, ℕ, zero, suc, ◌+◌, ◌-◌, ◌*◌, ◌/◌, ◌<◌, ◌≤◌, Bool, IsTrue, Option, Some, None, List, [], ◌∷◌, ◌++◌, length, map, take}
-use Rattle.std.proofs.Common.{replicate, sum, get_or, eqb, leb, refl, sym, ap, ◌∙◌, subst, arith, inl, inr}
-use Rattle.std.proofs.Common.{add-mul, mul_assoc, mul_comm, mul-le-mul, mul-le-mul_right, mul-lt-mul_of_pos_right, lt_of_mul-lt-mul_right, le_of_mul-le-mul_right}
-use Rattle.std.specs.Prelude.{All, Contains, IfSome, slice_get, sum_by, option_map}
+use Rattle.std.proofs.Common.{◌≡◌, ◌↔◌, ℕ, zero, suc, ◌+◌, ◌-◌, ◌*◌, ◌/◌, ◌<◌, ◌≤◌, Bool, Option, Some, None, List, [], ◌∷◌, ◌++◌, length, map, take}
+use Rattle.std.proofs.Common.{replicate, sum, get_or, eqb, refl, sym, ap, ◌∙◌, subst, arith, inl, inr}
+use Rattle.std.proofs.Common.{add-mul, mul_assoc, mul_comm, mul-le-mul, mul-le-mul_right, mul-lt-mul_of_pos_right, le_of_mul-le-mul_right}
+use Rattle.std.specs.Prelude.{All, Contains, IfSome, slice_get, option_map}
 use Rattle.std.specs.List.{take-map}
-use Rattle.std.specs.List.Sorted.{IsNonDecreasing}
 use Rattle.std.proofs.Math.Nat.{div-div-eq-div-mul}
 use Rattle.std.proofs.lemmas.Bool.{cases_eq, cases_lt, eq-eqb, ne_eqb, le-leb, lt-leb}
 use Rattle.std.proofs.lemmas.List.{get_or-map, length-map, map-append}
@@ -17,14 +16,14 @@ use Rattle.items.specs.Game.{GameNumbers, IsGame, numbers}
 use Rattle.items.specs.GameFaults.{IsFaultOf}
 use Rattle.items.specs.declared.game.GameFault.{GameFault}
 use Rattle.items.specs.declared.game.GameFault.TheVariants.{Bins, Capacity, Target}
-use Rattle.items.specs.Multiset.{IsSize, put_ascending, sizes_of}
+use Rattle.items.specs.Multiset.{put_ascending, sizes_of}
 use Rattle.items.specs.Packable.{IsPacking}
 use Rattle.items.proofs.ListLemmas.{mapped}
 use Rattle.items.proofs.SizesLemmas.{Contains_from_size, size_from_Contains}
 use Rattle.packing_witness.specs.Edits.{CanScale, scaled}
 use Rattle.packing_witness.proofs.PackingLemmas.{IsPacking-scaled}
 use Rattle.loads.specs.After.{after}
-use Rattle.loads.specs.Descending.{distinct, put_descending, take_out, IsDescending}
+use Rattle.loads.specs.Descending.{distinct, put_descending, take_out}
 use Rattle.loads.specs.Loads.{IsLoads}
 use Rattle.loads.specs.Position.{AreItemsOf, IsEmptyPosition, position}
 use Rattle.loads.specs.declared.position.Position.{Position}
