@@ -22,7 +22,7 @@ use Rattle.strategy_text.specs.declared.node.Step.TheVariants.{Send, Burst}
 use Rattle.strategy_text.specs.declared.node.Then.{Then}
 use Rattle.strategy_text.specs.declared.node.Then.TheVariants.{Over, To}
 use Rattle.adversary_graph.specs.Judging.{node_at}
-use Rattle.adversary_graph.specs.Legal.{EachMeetsRules, IsLegal}
+use Rattle.adversary_graph.specs.Legal.{IsLegal}
 use Rattle.adversary_graph.specs.Nodes.{packing_of, placements_of, position_of, sent_items}
 use Rattle.adversary_graph.specs.Play.{child_of, end_packing, first_child}
 use Rattle.adversary_graph.specs.Playing.{ShowsEndPacking}
@@ -42,7 +42,6 @@ child_before earlier Over at count few h = tt
 child_before earlier (To child) at count few h = omega (arith, slice_get_within earlier child at h, few)
 
 pub legal_linked : (format : Format) (game : GameNumbers) (nodes : List AdvNode) → IsLegal format game (sizes_of game) nodes → AreLinked nodes
-unfolding EachMeetsRules
 legal_linked format game nodes legal = record {
   few = legal.high;
   back = λ number node e.

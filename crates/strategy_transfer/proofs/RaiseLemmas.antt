@@ -16,7 +16,7 @@ use Rattle.strategy_text.specs.declared.node.AlgNode.{AlgNode}
 use Rattle.strategy_text.specs.declared.node.Entry.{Entry}
 use Rattle.strategy_text.specs.declared.node.Format.{Format}
 use Rattle.algorithm_graph.specs.Judging.{node_at}
-use Rattle.algorithm_graph.specs.Legal.{EachMeetsRules, IsLegal}
+use Rattle.algorithm_graph.specs.Legal.{IsLegal}
 use Rattle.algorithm_graph.specs.Nodes.{entries_of, position_of}
 use Rattle.algorithm_graph.specs.Rules.{BigFinishesIfSaid, FinishesIfSaid, MeetsRules, NamesLoad, RepliesIfSaid, ReplyToEach}
 use Rattle.strategy_transfer.specs.Weakened.{with_target}
@@ -104,7 +104,6 @@ module _ (game : GameNumbers) (target : ℕ) (higher : game.target ≤ target) w
       )
 
   pub raised_is_legal : (format : Format) (nodes : List AlgNode) → IsGame raised → IsLegal format game (sizes_of game) nodes → IsLegal format raised (sizes_of game) nodes
-  unfolding EachMeetsRules
   raised_is_legal format nodes g legal = record {
     of_game = g;
     low = legal.low;

@@ -38,7 +38,7 @@ use Rattle.strategy_text.specs.declared.node.Step.TheVariants.{Send, Burst}
 use Rattle.strategy_text.specs.declared.node.Then.{Then}
 use Rattle.strategy_text.specs.declared.node.Then.TheVariants.{Over, To}
 use Rattle.adversary_graph.specs.Judging.{node_at}
-use Rattle.adversary_graph.specs.Legal.{EachMeetsRules, IsLegal}
+use Rattle.adversary_graph.specs.Legal.{IsLegal}
 use Rattle.adversary_graph.specs.Nodes.{IsOfFormat, packing_of, placements_of, position_of, sent_items, sent_size}
 use Rattle.adversary_graph.specs.Pools.{AreLegal}
 use Rattle.adversary_graph.specs.Rules.{IsLongEnough, IsOver, IsOverAtTarget, IsPacked, IsPackingAsked, IsShown, LeadsTo, MeetsRules}
@@ -316,7 +316,6 @@ module _ (c : ℕ) (some : 1 ≤ c) where
 
   pub scaled_is_legal : (format : Format) (game : GameNumbers) (nodes : List AdvNode) → IsGame (scaled_game c game) → IsLegal format game (sizes_of game) nodes
       → IsLegal format (scaled_game c game) (sizes_of (scaled_game c game)) (map (scaled_node c) nodes)
-  unfolding EachMeetsRules
   scaled_is_legal format game nodes g legal =
       let long = length-map nodes (scaled_node c) in
       let great = scaled_game c game in
@@ -378,7 +377,6 @@ step_fits c format game loads items (Burst number size pack) l g below send pack
     )
 
 adversary_fits : (c : ℕ) (format : Format) (game : GameNumbers) (nodes : List AdvNode) → c ≤ 120 → IsLegal format game (sizes_of game) nodes → All (CanScaleNode c) nodes
-unfolding EachMeetsRules
 adversary_fits c format game nodes l legal k d within =
     let node = get_or nodes k d in
     let m = legal.each k node (slice_get-get_or nodes k d within) in

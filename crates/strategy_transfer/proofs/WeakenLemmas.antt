@@ -30,16 +30,15 @@ use Rattle.strategy_text.specs.declared.node.Step.TheVariants.{Send, Burst}
 use Rattle.strategy_text.specs.declared.node.Then.{Then}
 use Rattle.strategy_text.specs.declared.node.Then.TheVariants.{Over, To}
 use Rattle.adversary_graph.specs.Judging.{node_at}
-use Rattle.adversary_graph.specs.Legal.{EachMeetsRules, IsLegal}
+use Rattle.adversary_graph.specs.Legal.{IsLegal}
 use Rattle.adversary_graph.specs.Nodes.{IsOfFormat, position_of, sent_items}
 use Rattle.adversary_graph.specs.Play.{end_packing}
 use Rattle.adversary_graph.specs.Rules.{IsOver, IsOverAtTarget, IsPacked, LeadsTo, MeetsRules, most_below_target}
 use Rattle.adversary_graph.proofs.EndLemmas.{end_packing_holds}
-use Rattle.adversary_graph.proofs.PoolLemmas.{root_of_legal}
 use Rattle.adversary_graph.proofs.WonLemmas.{earlier_node}
 use Rattle.strategy_transfer.specs.Weakened.{all_over, is_over, kept_at, kept_node, new_number, packing_for, renumbered, stays, weakened_adversary, weakened_node}
 use Rattle.strategy_transfer.specs.Weakened.{weakened_pack, weakened_placement, weakened_step, with_target}
-use Rattle.strategy_transfer.proofs.LegalEnds.{legal_ends}
+use Rattle.strategy_transfer.proofs.LegalEnds.{legal_ends, legal_root}
 
 -- ---- lists
 
@@ -450,15 +449,15 @@ module _ (format : Format) (game : GameNumbers) (target : ℕ) (nodes : List Adv
   news = first_kept game target nodes (length nodes)
 
   root : AdvNode
-  root = (root_of_legal format game nodes legal).0
+  root = (legal_root format game nodes legal).0
 
   root_there : slice_get nodes (length nodes - 1) ≡ Some root
   unfolding root
-  root_there = (root_of_legal format game nodes legal).1
+  root_there = (legal_root format game nodes legal).1
 
   root_empty : IsEmptyPosition (position_of root)
   unfolding root
-  root_empty = (root_of_legal format game nodes legal).2
+  root_empty = (legal_root format game nodes legal).2
 
   root_stays : stays target root ≡ true
   root_stays =
@@ -491,7 +490,6 @@ module _ (format : Format) (game : GameNumbers) (target : ℕ) (nodes : List Adv
 
   kept_rules : (place : ℕ) (new : AdvNode) → slice_get news place ≡ Some new
       → MeetsRules format (with_target target game) (sizes_of game) (map position_of (take place news)) (eqb (place + 1) (length news)) new
-  unfolding EachMeetsRules
   kept_rules place new e =
       let kept = kept_from game target nodes (length nodes) place new (omega arith) e in
       let k = kept.number in
@@ -532,7 +530,7 @@ module _ (format : Format) (game : GameNumbers) (target : ℕ) (nodes : List Adv
           subst (λ (n : AdvNode). IsOfFormat format n.step) same (all k node l)
 
   pub weakened_is_legal : IsGame (with_target target game) → IsLegal format (with_target target game) (sizes_of game) (weakened_adversary game target nodes)
-  unfolding EachMeetsRules weakened_adversary
+  unfolding weakened_adversary
   weakened_is_legal g =
       let long = length_kept game target nodes (length nodes) (omega arith) in
       record {

@@ -1,7 +1,12 @@
 //! Worked strategies at other games.
 
 ghost use Rattle.std.specs.Prelude.{◌≡◌};
+ghost use Rattle.items.specs.Multiset.{sizes_of};
 ghost use Rattle.strategy_text.specs.declared.node.Format.TheVariants.{Two};
+ghost use Rattle.node_pool.specs.Pools.{terms_in};
+ghost use Rattle.adversary_graph.specs.Pools as adversary;
+ghost use Rattle.algorithm_graph.specs.Pools as algorithm;
+ghost use Rattle.strategies.specs.AnyNode.{IsLegal};
 
 use crate::{TransferFault, scale, weaken};
 use adversary_graph::{AdvPool, packing_of};
@@ -9,7 +14,6 @@ use algorithm_graph::AlgPool;
 use items::{Game, Nums};
 use packing_witness::Packing;
 use std::alloc::{AllocError, Global};
-use std::test::Fail;
 use strategy_text::{
     Act, AdvNode, AlgNode, Entry, Format, Nodes, Placement, Step, Strategy, parse_adversary,
     parse_algorithm,
@@ -103,7 +107,7 @@ fn asking(
 }
 
 #[test]
-fn a_scaled_strategy_is_multiplied(rt: HostRuntime) -> Result<(), Fail> {
+fn a_scaled_strategy_is_multiplied(rt: HostRuntime) {
     for row in [
         asking(Format::One, [2, 3, 4], X, 2, [2, 6, 8], X_TWICE),
         asking(Format::One, [2, 3, 4], X, 1, [2, 3, 4], X),
@@ -111,13 +115,12 @@ fn a_scaled_strategy_is_multiplied(rt: HostRuntime) -> Result<(), Fail> {
         asking(Format::Two, [3, 6, 8], BURSTS, 2, [3, 12, 16], BURSTS_TWICE),
         asking(Format::Two, [3, 6, 8], BURSTS, 21, [0, 0, 0], &[]),
     ] {
-        assert!(rt; of_adversary(&rt, true, &row)?);
+        assert!(rt; of_adversary(rt.alloc(), true, &row) == Ok(true));
     }
-    Ok(())
 }
 
 #[test]
-fn an_adversary_s_strategy_serves_lower_targets(rt: HostRuntime) -> Result<(), Fail> {
+fn an_adversary_s_strategy_serves_lower_targets(rt: HostRuntime) {
     for row in [
         asking(Format::One, [2, 6, 8], X_TWICE, 7, [2, 6, 7], X_TWICE),
         asking(Format::One, [2, 3, 4], X, 4, [2, 3, 4], X),
@@ -126,48 +129,51 @@ fn an_adversary_s_strategy_serves_lower_targets(rt: HostRuntime) -> Result<(), F
         asking(Format::Two, [3, 6, 8], BURSTS, 7, [3, 6, 7], BURSTS_AT_7),
         asking(Format::Two, [3, 6, 8], BURSTS, 8, [3, 6, 8], BURSTS),
     ] {
-        assert!(rt; of_adversary(&rt, false, &row)?);
+        assert!(rt; of_adversary(rt.alloc(), false, &row) == Ok(true));
     }
-    Ok(())
 }
 
 #[test]
-fn an_algorithm_s_strategy_serves_higher_targets(rt: HostRuntime) -> Result<(), Fail> {
+fn an_algorithm_s_strategy_serves_higher_targets(rt: HostRuntime) {
     for row in [
         asking(Format::Two, [2, 2, 3], Y, 4, [2, 2, 4], Y),
         asking(Format::Two, [2, 2, 3], Y, 3, [2, 2, 3], Y),
         asking(Format::Two, [2, 2, 3], Y, 2, [0, 0, 0], &[]),
         asking(Format::Two, [2, 2, 3], Y, 5, [0, 0, 0], &[]),
     ] {
-        assert!(rt; of_algorithm(&rt, &row)?);
+        assert!(rt; of_algorithm(rt.alloc(), &row) == Ok(true));
     }
-    Ok(())
 }
 
 // Whether a strategy of the adversary, scaled or weakened, is what is due.
-fn of_adversary(
-    rt: &(impl AllocGlobal + std::process::Abort),
-    scaled: bool,
-    row: &Row,
-) -> Result<bool, Fail> {
-    let game = Game::new(row.game[0], row.game[1], row.game[2])?;
-    let mut pool = AdvPool::new(rt.alloc(), &game, row.format);
-    for line in row.lines {
-        assert!(rt; put_adversary(rt.alloc(), &mut pool, line)?);
+fn of_adversary(alloc: Global, scaled: bool, row: &Row) -> Result<bool, AllocError> {
+    match Game::new(row.game[0], row.game[1], row.game[2]) {
+        Ok(game) => {
+            let mut pool = AdvPool::new(alloc, &game, row.format);
+            if !fill_adversary(alloc, &mut pool, row.lines)? {
+                return Ok(false);
+            }
+            moves_adversary(alloc, pool, scaled, row)
+        }
+        Err(_) => Ok(false),
     }
-    let root = pool.len().saturating_sub(1);
-    assert!(rt; pool.is_root(root));
-    let strategy = pool.into_strategy(root);
-    let made = if scaled {
-        scale(rt.alloc(), &strategy, row.asked.clamp(1, 120))
-    } else {
-        weaken(rt.alloc(), &strategy, row.asked)
-    };
-    Ok(is_due(rt.alloc(), &made, row)?)
 }
 
-// Puts the node of a line at the end of a pool; whether it meets its rules there.
-fn put_adversary(alloc: Global, pool: &mut AdvPool, line: &str) -> Result<bool, AllocError> {
+// Puts the nodes of these lines into a pool; whether each meets its rules there.
+fn fill_adversary(alloc: Global, pool: &mut AdvPool, lines: &[&str]) -> Result<bool, AllocError>
+    ensures { terms_in pool.new ≡ terms_in pool.old }
+{
+    for line in lines {
+        if !put_adversary(alloc, pool, line)? {
+            return Ok(false);
+        }
+    }
+    Ok(true)
+}
+
+fn put_adversary(alloc: Global, pool: &mut AdvPool, line: &str) -> Result<bool, AllocError>
+    ensures { terms_in pool.new ≡ terms_in pool.old }
+{
     let format = pool.format();
     let Some(node) = parse_adversary(alloc, format, line.as_bytes(), pool.len())? else {
         return Ok(false);
@@ -175,46 +181,127 @@ fn put_adversary(alloc: Global, pool: &mut AdvPool, line: &str) -> Result<bool, 
     if pool.len() >= 4_000_000_000 {
         return Ok(false);
     }
-    match adversary_graph::node_fault(&pool.game(), format, pool.positions(), false, &node) {
+    match adversary_graph::judge(pool.terms(), pool.positions(), false, &node) {
         Some(_) => Ok(false),
         None => {
             pool.push(node)?;
             Ok(true)
         }
     }
+}
+
+fn moves_adversary(
+    alloc: Global,
+    pool: AdvPool,
+    scaled: bool,
+    row: &Row,
+) -> Result<bool, AllocError>
+    requires whole { pool.sizes ≡ sizes_of pool.game }
+{
+    let root = pool.len().saturating_sub(1);
+    if !pool.is_root(root) {
+        return Ok(false);
+    }
+    let strategy = adversary_strategy(pool, root);
+    if scaled {
+        scales(alloc, &strategy, row)
+    } else {
+        weakens(alloc, &strategy, row)
+    }
+}
+
+// The strategy of a pool of the whole game.
+fn adversary_strategy(pool: AdvPool, root: u32) -> Strategy
+    requires root { adversary.IsRoot pool.nodes root }
+    requires whole { pool.sizes ≡ sizes_of pool.game }
+    ensures legal { IsLegal result }
+    ensures side { adversary.IsLegalOfAdversary result }
+{
+    pool.into_strategy(root)
+}
+
+fn scales(alloc: Global, strategy: &Strategy, row: &Row) -> Result<bool, AllocError>
+    requires legal { adversary.IsLegalOfAdversary strategy.now }
+{
+    is_due(alloc, &scale(alloc, strategy, row.asked.clamp(1, 120)), row)
+}
+
+fn weakens(alloc: Global, strategy: &Strategy, row: &Row) -> Result<bool, AllocError>
+    requires legal { IsLegal strategy.now }
+{
+    is_due(alloc, &weaken(alloc, strategy, row.asked), row)
 }
 
 // Whether a weakened strategy of the algorithm is what is due.
-fn of_algorithm(rt: &(impl AllocGlobal + std::process::Abort), row: &Row) -> Result<bool, Fail> {
-    let game = Game::new(row.game[0], row.game[1], row.game[2])?;
-    let mut pool = AlgPool::new(rt.alloc(), &game, Format::Two);
-    for line in row.lines {
-        let node = parse_algorithm(rt.alloc(), Format::Two, line.as_bytes(), pool.len())?;
-        assert!(rt; put_algorithm(rt.alloc(), &mut pool, node.expect(rt, "a node"))?);
+fn of_algorithm(alloc: Global, row: &Row) -> Result<bool, AllocError> {
+    match Game::new(row.game[0], row.game[1], row.game[2]) {
+        Ok(game) => {
+            let mut pool = AlgPool::new(alloc, &game, Format::Two);
+            if !fill_algorithm(alloc, &mut pool, row.lines)? {
+                return Ok(false);
+            }
+            moves_algorithm(alloc, pool, row)
+        }
+        Err(_) => Ok(false),
     }
-    let root = pool.len().saturating_sub(1);
-    assert!(rt; pool.is_root(root));
-    let made = weaken(rt.alloc(), &pool.into_strategy(root), row.asked);
-    Ok(is_due(rt.alloc(), &made, row)?)
 }
 
-// Puts a node at the end of a pool of format 2; whether it meets its rules there.
-fn put_algorithm(alloc: Global, pool: &mut AlgPool, node: AlgNode) -> Result<bool, AllocError>
+// Puts the nodes of these lines into a pool of format 2; whether each meets its rules there.
+fn fill_algorithm(alloc: Global, pool: &mut AlgPool, lines: &[&str]) -> Result<bool, AllocError>
     requires { pool.old.format ≡ Two }
-    ensures { pool.new.format ≡ Two }
+    ensures { terms_in pool.new ≡ terms_in pool.old }
 {
-    let game = pool.game();
+    for line in lines {
+        if !put_algorithm(alloc, pool, line)? {
+            return Ok(false);
+        }
+    }
+    Ok(true)
+}
+
+fn put_algorithm(alloc: Global, pool: &mut AlgPool, line: &str) -> Result<bool, AllocError>
+    requires { pool.old.format ≡ Two }
+    ensures { terms_in pool.new ≡ terms_in pool.old }
+{
+    match parse_algorithm(alloc, Format::Two, line.as_bytes(), pool.len())? {
+        Some(node) => push_algorithm(alloc, pool, node),
+        None => Ok(false),
+    }
+}
+
+fn push_algorithm(alloc: Global, pool: &mut AlgPool, node: AlgNode) -> Result<bool, AllocError>
+    requires { pool.old.format ≡ Two }
+    ensures { terms_in pool.new ≡ terms_in pool.old }
+{
     if pool.len() >= 4_000_000_000 {
         return Ok(false);
     }
-    let fault = algorithm_graph::node_fault(alloc, &game, pool.positions(), false, &node)?;
-    match fault {
-        Some(_) => Ok(false),
+    match algorithm_graph::judge(alloc, pool.terms(), pool.positions(), false, &node)? {
+        Some(_rule) => Ok(false),
         None => {
-            pool.push(node)?;
+            let _number = pool.push(node)?;
             Ok(true)
         }
     }
+}
+
+fn moves_algorithm(alloc: Global, pool: AlgPool, row: &Row) -> Result<bool, AllocError>
+    requires whole { pool.sizes ≡ sizes_of pool.game }
+{
+    let root = pool.len().saturating_sub(1);
+    if !pool.is_root(root) {
+        return Ok(false);
+    }
+    weakens(alloc, &algorithm_strategy(pool, root), row)
+}
+
+// The strategy of a pool of the whole game.
+fn algorithm_strategy(pool: AlgPool, root: u32) -> Strategy
+    requires root { algorithm.IsRoot pool.nodes root }
+    requires whole { pool.sizes ≡ sizes_of pool.game }
+    ensures { IsLegal result }
+{
+    pool.into_strategy(root)
 }
 
 // Whether the answer is what is due.

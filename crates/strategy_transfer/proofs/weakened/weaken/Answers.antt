@@ -1,6 +1,6 @@
-use Rattle.std.proofs.Common.{rules, ◌⊎◌, sym, subst}
-use Rattle.adversary_graph.specs.Pools as adversary
-use Rattle.algorithm_graph.specs.Pools as algorithm
+use Rattle.std.proofs.Common.{rules, sym, subst}
+use Rattle.items.specs.Multiset.{sizes_of}
+use Rattle.strategies.specs.AnyNode.{AreLegalNodes}
 use Rattle.strategy_transfer.specs.Targets.{IsWeaker}
 use Rattle.strategy_transfer.specs.Weakened.{with_target}
 use Rattle.strategy_transfer.proofs.StrategyLemmas.{can_weaken, weakened_nodes_are_legal}
@@ -17,6 +17,6 @@ returns-clause-legal c =
     let made = c.in_ok-weakened_nodes.field-0 in
     let moved = with_target c.args.t s.game in
     let is : IsWeaker s.game c.args.t s.nodes = search rules in
-    subst (λ game. adversary.AreLegal s.format game made ⊎ algorithm.AreLegal s.format game made) (sym c.with_target.ensures)
-    (subst (λ nodes. adversary.AreLegal s.format moved nodes ⊎ algorithm.AreLegal s.format moved nodes) (sym c.in_ok-weakened_nodes.ensures)
+    subst (λ game. AreLegalNodes s.format game (sizes_of game) made) (sym c.with_target.ensures)
+    (subst (λ nodes. AreLegalNodes s.format moved (sizes_of moved) nodes) (sym c.in_ok-weakened_nodes.ensures)
     (weakened_nodes_are_legal s.format s.game c.args.t s.nodes c.requires.legal is))
