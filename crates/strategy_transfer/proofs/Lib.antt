@@ -1,1 +1,6 @@
 pub mod ScaleLemmas
+pub mod LegalEnds
+pub mod WeakenLemmas
+pub mod RaiseLemmas
+pub mod LinkLemmas
+pub mod StrategyLemmas

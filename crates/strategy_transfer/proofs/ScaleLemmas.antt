@@ -1,10 +1,9 @@
 -- A legal strategy of the adversary is legal on another scale.
-use Rattle.std.proofs.Common.{◌≡◌, ◌↔◌, ℕ, zero, suc, ◌+◌, ◌-◌, ◌*◌, ◌/◌, ◌<◌, ◌≤◌, Bool, IsTrue, Option, Some, None, List, [], ◌∷◌, ◌++◌, length, map, take}
-use Rattle.std.proofs.Common.{replicate, sum, get_or, eqb, leb, refl, sym, ap, ◌∙◌, subst, arith, inl, inr}
-use Rattle.std.proofs.Common.{add-mul, mul_assoc, mul_comm, mul-le-mul, mul-le-mul_right, mul-lt-mul_of_pos_right, lt_of_mul-lt-mul_right, le_of_mul-le-mul_right}
-use Rattle.std.specs.Prelude.{All, Contains, IfSome, slice_get, sum_by, option_map}
+use Rattle.std.proofs.Common.{◌≡◌, ◌↔◌, ℕ, zero, suc, ◌+◌, ◌-◌, ◌*◌, ◌/◌, ◌<◌, ◌≤◌, Bool, Option, Some, None, List, [], ◌∷◌, ◌++◌, length, map, take}
+use Rattle.std.proofs.Common.{replicate, sum, get_or, eqb, refl, sym, ap, ◌∙◌, subst, arith, inl, inr}
+use Rattle.std.proofs.Common.{add-mul, mul_assoc, mul_comm, mul-le-mul, mul-le-mul_right, mul-lt-mul_of_pos_right, le_of_mul-le-mul_right}
+use Rattle.std.specs.Prelude.{All, Contains, IfSome, slice_get, option_map}
 use Rattle.std.specs.List.{take-map}
-use Rattle.std.specs.List.Sorted.{IsNonDecreasing}
 use Rattle.std.proofs.Math.Nat.{div-div-eq-div-mul}
 use Rattle.std.proofs.lemmas.Bool.{cases_eq, cases_lt, eq-eqb, ne_eqb, le-leb, lt-leb}
 use Rattle.std.proofs.lemmas.List.{get_or-map, length-map, map-append}
@@ -17,14 +16,14 @@ use Rattle.items.specs.Game.{GameNumbers, IsGame, numbers}
 use Rattle.items.specs.GameFaults.{IsFaultOf}
 use Rattle.items.specs.declared.game.GameFault.{GameFault}
 use Rattle.items.specs.declared.game.GameFault.TheVariants.{Bins, Capacity, Target}
-use Rattle.items.specs.Multiset.{IsSize, put_ascending, sizes_of}
+use Rattle.items.specs.Multiset.{put_ascending, sizes_of}
 use Rattle.items.specs.Packable.{IsPacking}
 use Rattle.items.proofs.ListLemmas.{mapped}
 use Rattle.items.proofs.SizesLemmas.{Contains_from_size, size_from_Contains}
 use Rattle.packing_witness.specs.Edits.{CanScale, scaled}
 use Rattle.packing_witness.proofs.PackingLemmas.{IsPacking-scaled}
 use Rattle.loads.specs.After.{after}
-use Rattle.loads.specs.Descending.{distinct, put_descending, take_out, IsDescending}
+use Rattle.loads.specs.Descending.{distinct, put_descending, take_out}
 use Rattle.loads.specs.Loads.{IsLoads}
 use Rattle.loads.specs.Position.{AreItemsOf, IsEmptyPosition, position}
 use Rattle.loads.specs.declared.position.Position.{Position}
@@ -39,7 +38,7 @@ use Rattle.strategy_text.specs.declared.node.Step.TheVariants.{Send, Burst}
 use Rattle.strategy_text.specs.declared.node.Then.{Then}
 use Rattle.strategy_text.specs.declared.node.Then.TheVariants.{Over, To}
 use Rattle.adversary_graph.specs.Judging.{node_at}
-use Rattle.adversary_graph.specs.Legal.{EachMeetsRules, IsLegal}
+use Rattle.adversary_graph.specs.Legal.{IsLegal}
 use Rattle.adversary_graph.specs.Nodes.{IsOfFormat, packing_of, placements_of, position_of, sent_items, sent_size}
 use Rattle.adversary_graph.specs.Pools.{AreLegal}
 use Rattle.adversary_graph.specs.Rules.{IsLongEnough, IsOver, IsOverAtTarget, IsPacked, IsPackingAsked, IsShown, LeadsTo, MeetsRules}
@@ -317,7 +316,6 @@ module _ (c : ℕ) (some : 1 ≤ c) where
 
   pub scaled_is_legal : (format : Format) (game : GameNumbers) (nodes : List AdvNode) → IsGame (scaled_game c game) → IsLegal format game (sizes_of game) nodes
       → IsLegal format (scaled_game c game) (sizes_of (scaled_game c game)) (map (scaled_node c) nodes)
-  unfolding EachMeetsRules
   scaled_is_legal format game nodes g legal =
       let long = length-map nodes (scaled_node c) in
       let great = scaled_game c game in
@@ -379,7 +377,6 @@ step_fits c format game loads items (Burst number size pack) l g below send pack
     )
 
 adversary_fits : (c : ℕ) (format : Format) (game : GameNumbers) (nodes : List AdvNode) → c ≤ 120 → IsLegal format game (sizes_of game) nodes → All (CanScaleNode c) nodes
-unfolding EachMeetsRules
 adversary_fits c format game nodes l legal k d within =
     let node = get_or nodes k d in
     let m = legal.each k node (slice_get-get_or nodes k d within) in

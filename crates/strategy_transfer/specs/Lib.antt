@@ -3,3 +3,4 @@ pub mod Weakened
 pub mod Targets
 pub mod Scaling
 pub mod Faults
+pub mod Weakening

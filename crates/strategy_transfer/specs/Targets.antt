@@ -1,16 +1,10 @@
--- To which games a strategy can be moved, and what is said of one.
-use Rattle.std.specs.Prelude.{ℕ, ◌*◌, ◌<◌, ◌≤◌, ◌⊎◌}
+-- To which games a strategy can be moved.
+use Rattle.std.specs.Prelude.{ℕ, ◌*◌, ◌<◌, ◌≤◌}
 use Rattle.items.specs.Game.{GameNumbers}
 use Rattle.items.specs.declared.limits.TheConstants.{MOST_SIZE}
 use Rattle.strategy_text.specs.declared.node.Nodes.{Nodes}
 use Rattle.strategy_text.specs.declared.node.Nodes.TheVariants.{Adversary, Algorithm}
 use Rattle.strategy_text.specs.declared.node.Strategy.{Strategy}
-use Rattle.adversary_graph.specs.Pools.{IsLegalOfAdversary}
-use Rattle.algorithm_graph.specs.Pools.{IsLegalOfAlgorithm}
-
--- a legal strategy of either side
-abbrev pub IsLegal : Strategy → Type 0
-IsLegal strategy = IsLegalOfAdversary strategy ⊎ IsLegalOfAlgorithm strategy
 
 -- the capacity of the greater game is one of a game
 abbrev pub CanScaleStrategy : ℕ → Strategy → Type 0

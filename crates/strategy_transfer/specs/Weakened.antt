@@ -53,43 +53,45 @@ all_over placements = list_all (λ placement. is_over placement.next) placements
 abbrev pub packing_for : GameNumbers → List ℕ → List (List ℕ) → List (List ℕ)
 packing_for game items bins = without_all (beyond game (concat bins) items) bins
 
--- the packing of the node of this number, with these items and the sent one, that leads on by these placements: its own;
--- where it has none and all placements are over, one that is made from its end packing
-abbrev pub weakened_pack : GameNumbers → List AdvNode → ℕ → List ℕ → List Placement → Option (List (List ℕ))
+-- the packing of a sending node with this end packing, these items with the sent one, and these placements: its own;
+-- where it has none and all placements are over, one that is made from the end packing
+abbrev pub weakened_pack : GameNumbers → Option (List (List ℕ)) → List ℕ → List Placement → Option (List (List ℕ))
     → Option (List (List ℕ))
-weakened_pack game nodes number items placements (Some pack) = Some pack
-weakened_pack game nodes number items placements None =
-    if all_over placements then option_map (packing_for game items) (end_packing nodes (number + 1) number) else None
+weakened_pack game end items placements (Some pack) = Some pack
+weakened_pack game end items placements None =
+    if all_over placements then option_map (packing_for game items) end else None
 
--- a step with these placements
-abbrev pub sending : GameNumbers → List AdvNode → ℕ → List ℕ → ℕ → Option (List (List ℕ)) → List Placement → Step
-sending game nodes number items size pack placements =
-    Send size (weakened_pack game nodes number (items ++ size ∷ []) placements pack) placements
+-- one item of this size, with these placements, after these items
+abbrev pub sending : GameNumbers → Option (List (List ℕ)) → List ℕ → ℕ → Option (List (List ℕ)) → List Placement → Step
+sending game end items size pack placements =
+    Send size (weakened_pack game end (items ++ size ∷ []) placements pack) placements
 
--- what the node of this number, with these items, sends
-abbrev pub weakened_step : GameNumbers → ℕ → List AdvNode → ℕ → List ℕ → Step → Step
-weakened_step game target nodes number items (Send size pack placements) =
-    sending game nodes number items size pack
-    (map (weakened_placement target (new_number target nodes) size) placements)
-weakened_step game target nodes number items (Burst count size pack) = Burst count size pack
+-- what is sent after these items, by a node with this end packing, where the nodes have new names
+abbrev pub weakened_step : GameNumbers → ℕ → (ℕ → ℕ) → Option (List (List ℕ)) → List ℕ → Step → Step
+weakened_step game target name end items (Send size pack placements) =
+    sending game end items size pack (map (weakened_placement target name size) placements)
+weakened_step game target name end items (Burst count size pack) = Burst count size pack
 
--- the node of this number, with the same position
-abbrev pub weakened_node : GameNumbers → ℕ → List AdvNode → ℕ → AdvNode → AdvNode
-weakened_node game target nodes number node =
-    record node { step = weakened_step game target nodes number node.items node.step }
+-- the node, with the same position
+abbrev pub weakened_node : GameNumbers → ℕ → (ℕ → ℕ) → Option (List (List ℕ)) → AdvNode → AdvNode
+weakened_node game target name end node = record node { step = weakened_step game target name end node.items node.step }
 
 -- ---- strategies
 
--- the node of this number as it is after the others that do not stay are left out, if it stays
-abbrev pub kept_node : GameNumbers → ℕ → List AdvNode → ℕ → AdvNode → Option AdvNode
-kept_node game target nodes number node =
-    if stays target node then Some (weakened_node game target nodes number node) else None
+-- what the node becomes, if it stays
+abbrev pub kept_node : GameNumbers → ℕ → (ℕ → ℕ) → Option (List (List ℕ)) → AdvNode → Option AdvNode
+kept_node game target name end node =
+    if stays target node then Some (weakened_node game target name end node) else None
+
+-- what the node of this number becomes, if it stays
+abbrev pub kept_at : GameNumbers → ℕ → List AdvNode → ℕ → Option AdvNode
+kept_at game target nodes number =
+    option_and_then (kept_node game target (new_number target nodes) (end_packing nodes (number + 1) number))
+    (slice_get nodes number)
 
 -- the nodes that stay, in their order
-abbrev pub weakened_adversary : GameNumbers → ℕ → List AdvNode → List AdvNode
-weakened_adversary game target nodes =
-    filter_map (λ number. option_and_then (kept_node game target nodes number) (slice_get nodes number))
-    (range_with_len 0 (length nodes))
+unfoldable pub weakened_adversary : GameNumbers → ℕ → List AdvNode → List AdvNode
+weakened_adversary game target nodes = filter_map (kept_at game target nodes) (range_with_len 0 (length nodes))
 
 -- the nodes of the algorithm stay as they are
 abbrev pub weakened_nodes : GameNumbers → ℕ → Nodes → Nodes
