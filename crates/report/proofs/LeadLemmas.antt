@@ -47,7 +47,7 @@ use Rattle.algorithm_graph.specs.Judging as algorithm_judging
 use Rattle.algorithm_graph.specs.Legal as algorithm_legal
 use Rattle.algorithm_graph.specs.Nodes as algorithm
 use Rattle.algorithm_graph.proofs.SizesLemmas.{entries_of_have_sizes}
-use Rattle.report.specs.Legal.{AreLegalNodes}
+use Rattle.strategies.specs.AnyNode.{AreLegalNodes}
 use Rattle.report.specs.Measuring.{Leads, LeadsOn, EachLeadsOn}
 use Rattle.report.specs.Ways.{ends_after, goes_to, way_of, ways_of_step, ways_of_act}
 
@@ -122,7 +122,7 @@ adversary_step format game nodes number loads items (Burst times size pack) g l 
 
 adversary_leads : (format : Format) (game : GameNumbers) (nodes : List AdvNode) → adversary_legal.IsLegal format game (sizes_of game) nodes
     → EachLeadsOn (map of_adversary nodes)
-unfolding EachLeadsOn adversary_legal.EachMeetsRules
+unfolding EachLeadsOn
 adversary_leads format game nodes legal number node e =
     let h = mapped of_adversary (slice_get nodes number) node (sym (slice_get-map of_adversary nodes number) ∙ e) in
     let rules = legal.each number h.0 h.1 in
@@ -153,7 +153,7 @@ algorithm_act game nodes number loads items (Reply (entry ∷ entries)) total si
 
 algorithm_leads : (format : Format) (game : GameNumbers) (nodes : List AlgNode) → algorithm_legal.IsLegal format game (sizes_of game) nodes
     → EachLeadsOn (map of_algorithm nodes)
-unfolding EachLeadsOn algorithm_legal.EachMeetsRules
+unfolding EachLeadsOn
 algorithm_leads format game nodes legal number node e =
     let h = mapped of_algorithm (slice_get nodes number) node (sym (slice_get-map of_algorithm nodes number) ∙ e) in
     let rules = legal.each number h.0 h.1 in

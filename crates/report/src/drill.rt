@@ -6,10 +6,10 @@ ghost use Rattle.std.specs.List.{range_with_len};
 ghost use Rattle.items.specs.Game.{numbers};
 ghost use Rattle.strategy_text.specs.Text.{nodes_of, side_of};
 ghost use Rattle.strategy_text.specs.declared.node.Side.TheVariants.{Adversary};
+ghost use Rattle.strategies.specs.AnyNode.{IsLegal};
 ghost use Rattle.report.specs.Drill.{choice, copy_of_1, copy_of_3, drill, drill_nodes};
 ghost use Rattle.report.specs.Drill.{node_0, node_1, node_2, node_3, node_4, over, sends, to};
 ghost use Rattle.report.specs.Drawing.{HasGiven};
-ghost use Rattle.report.specs.Legal.{IsLegal};
 
 use items::{Game, Nums};
 use packing_witness::Packing;
