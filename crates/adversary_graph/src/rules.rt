@@ -17,7 +17,7 @@ ghost use Rattle.adversary_graph.specs.Judging.{node_at, BreaksPastItems, LeadsO
 use crate::step::{is_packing_asked, packing_of, sent_number, sent_size};
 use items::laws::game_is_legal;
 use items::{Game, MOST_SIZE, MOST_VOLUME};
-use loads::{EarlierPositions, Loads, are_items_of};
+use loads::{EarlierPositions, Loads, are_items_of, most_on_load};
 use node_pool::Terms;
 use packing_witness::Packing;
 use strategy_text::{AdvNode, Format, Placement, Rule, Step, Then};
@@ -136,16 +136,6 @@ fn most_below_target(game: &Game, size: u16, loads: &Loads) -> u16
         most += most_on_load(game, size, *load);
     }
     most
-}
-
-// How many items of this size can come to a bin of this load that stays below the target.
-fn most_on_load(game: &Game, size: u16, load: u16) -> u16
-    requires below { load < game.now.target }
-    requires size { 1 ≤ size }
-    ensures value { result ≡ (game.now.target - 1 - load) / size }
-    ensures small { result ≤ 239 }
-{
-    (game.t() - 1 - load) / size
 }
 
 // Whether a packing is shown exactly where it is asked for, and packs the items with all that the step sends.

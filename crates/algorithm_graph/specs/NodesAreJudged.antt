@@ -18,10 +18,33 @@ pub root_is_asked_last : (terms : Terms) (earlier : List Position) (last : Bool)
     → MeetsRulesUnder terms earlier last node
     ↔ (MeetsRulesUnder terms earlier false node × (IsTrue last → IsEmptyPosition (position_of node)))
 root_is_asked_last terms earlier last node = (
-  λ m. ((m.0, (m.1.0, (m.1.1.0, (m.1.1.1.0, (m.1.1.1.1.0, (m.1.1.1.1.1.0, (m.1.1.1.1.1.1.0,
-  ((λ t. absurd (false≢true t)), tt)))))))), m.1.1.1.1.1.1.1.0),
+  λ m. (
+    (
+      m.0,
+      (
+        m.1.0,
+        (
+          m.1.1.0,
+          (
+            m.1.1.1.0,
+            (
+              m.1.1.1.1.0,
+              (
+                m.1.1.1.1.1.0,
+                (
+                  m.1.1.1.1.1.1.0,
+                  ((λ t. absurd (false≢true t)), tt),
+                ),
+              ),
+            ),
+          ),
+        ),
+      ),
+    ),
+    m.1.1.1.1.1.1.1.0,
+  ),
   λ h. let m = h.0 in
-  (m.0, (m.1.0, (m.1.1.0, (m.1.1.1.0, (m.1.1.1.1.0, (m.1.1.1.1.1.0, (m.1.1.1.1.1.1.0, (h.1, tt)))))))),
+      (m.0, (m.1.0, (m.1.1.0, (m.1.1.1.0, (m.1.1.1.1.0, (m.1.1.1.1.1.0, (m.1.1.1.1.1.1.0, (h.1, tt)))))))),
 )
 
 -- a node that meets its rules has loads and items of the game

@@ -34,7 +34,7 @@ use Rattle.adversary_graph.specs.Rules as adversary_rules
 use Rattle.algorithm_graph.specs.Nodes as algorithm
 use Rattle.algorithm_graph.specs.Pools as algorithm_pools
 use Rattle.algorithm_graph.specs.Judging.{node_at}
-use Rattle.algorithm_graph.specs.Rules.{NamesLoad, ReplyToEach}
+use Rattle.algorithm_graph.specs.Rules.{MeetsRules, NamesLoad, ReplyToEach}
 use Rattle.good_situations.specs.Finish.{Finishes}
 use Rattle.minimax.specs.State.{IsPlain, IsPlayable, IsReply, MayAct, PlacesAll, ReplyToAll, numbers_down}
 

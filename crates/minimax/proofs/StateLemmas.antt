@@ -26,7 +26,7 @@ use Rattle.transposition.specs.declared.verdict.Verdict.TheVariants.{Adversary, 
 use Rattle.minimax.specs.State.{AreKnown, AreSound, EachOver, FollowsUp, GoesOn, IsLed, IsNeverWon, IsNoWin}
 use Rattle.strategy_text.specs.declared.node.Format.TheVariants.{One}
 use Rattle.node_pool.specs.Pools.{Pool, terms_in}
-use Rattle.node_pool.specs.Terms.{Terms, whole_game}
+use Rattle.node_pool.specs.Terms.{Terms, whole_game as whole_terms}
 use Rattle.minimax.specs.State.{IsPending, IsPlain, IsReady, IsReadyWin, IsReply, IsSound, IsWonIn, KeepsReply, KeepsWin}
 use Rattle.minimax.specs.State.{PutsOnly, Says, Tells, allowed_by, position_of_reply, position_of_win}
 use Rattle.minimax.specs.declared.expanding.Search.{Search}
@@ -246,4 +246,4 @@ module _ (game : GameNumbers) (pass : ℕ) (meter : Metered) (wins : List Win) (
 
 -- a pool of format 1 for the whole game is one still where its terms stay
 pub IsPlain-same : {Node : Type 0} (before next : Pool Node) → terms_in next ≡ terms_in before → IsPlain before → IsPlain next
-IsPlain-same before next same plain = same ∙ plain ∙ ap (whole_game One) (sym (ap (λ (t : Terms). t.game) same))
+IsPlain-same before next same plain = same ∙ plain ∙ ap (whole_terms One) (sym (ap (λ (t : Terms). t.game) same))

@@ -87,9 +87,11 @@ AreLegal-from_pool {N} position Formed Meets asked pool root p r =
           let k_is : k ≡ root = omega (arith, eqb-true (k + 1) (length (take (root + 1) pool.nodes)) is_last, number) in
           let same : node ≡ r.0 = same_Some node r.0 (sym h.0 ∙ ap (slice_get pool.nodes) k_is ∙ r.1) in
           subst (λ (n : N). IsEmptyPosition (position n)) (sym same) r.2 in
-          (asked (terms_in pool) (map position (take k (take (root + 1) pool.nodes))) last node).1
-          (subst (λ earlier. Meets (terms_in pool) (map position earlier) false node)
-          (sym (take-take k (root + 1) pool.nodes (omega (arith, h.1)))) (p.follow k node h.0), empty);
+          (asked (terms_in pool) (map position (take k (take (root + 1) pool.nodes))) last node).1 (
+            subst (λ earlier. Meets (terms_in pool) (map position earlier) false node)
+                (sym (take-take k (root + 1) pool.nodes (omega (arith, h.1)))) (p.follow k node h.0),
+            empty,
+          );
     }
 
 -- legal nodes are a pool
@@ -120,9 +122,11 @@ root_of_legal position Formed Meets asked terms (node ∷ others) legal =
     let nodes = node ∷ others in
     let k = length nodes - 1 in
     let here = slice_get-get_or nodes k node (omega (arith, legal.low)) in
-    let is_last : eqb (k + 1) (length nodes) ≡ true = eq-eqb (k + 1) (length nodes) (omega (arith, legal.low)) in
-    (get_or nodes k node, here,
-    ((asked terms (map position (take k nodes)) (eqb (k + 1) (length nodes)) (get_or nodes k node)).0 (legal.each k (get_or nodes k node) here)).1 is_last)
+    let is_last : eqb (k + 1) (length nodes) ≡ true = eq-eqb (k + 1) (length nodes) (omega (arith, legal.low)) in (
+      get_or nodes k node,
+      here,
+      ((asked terms (map position (take k nodes)) (eqb (k + 1) (length nodes)) (get_or nodes k node)).0 (legal.each k (get_or nodes k node) here)).1 is_last,
+    )
 
 -- ---- positions
 

@@ -74,13 +74,6 @@ impl<N: Drop, R: NodeRules<N>> JudgedNodes<N, R> {
         self.nodes.len() as u32
     }
 
-    /// The nodes, in the order of their numbers.
-    pub fn as_slice(&self) -> &[N]
-        ensures value { result.now ≡ self.now.nodes }
-    {
-        self.nodes.as_slice()
-    }
-
     /// The node of this number.
     pub fn node(&self, i: u32) -> &N
         requires within { i < length self.now.nodes }

@@ -22,9 +22,9 @@ use Rattle.strategy_text.specs.declared.node.Side.TheVariants.{Adversary, Algori
 use Rattle.strategy_text.specs.declared.node.Strategy.{Strategy}
 use Rattle.algorithm_graph.proofs.BelowLemmas.{legal_replies_keep_below}
 use Rattle.algorithm_graph.proofs.ReplayLemmas.{replies_are_an_algorithm}
-use Rattle.checker.specs.Head.{AreLegalNodes}
+use Rattle.strategies.specs.AnyNode.{AreLegalNodes}
 use Rattle.checker.specs.declared.fault.Accepted.{Accepted}
-use Rattle.checker.specs.Accepted.{Accepts, Loads}
+use Rattle.checker.specs.Accepted.{Accepts, IsLoaded}
 use Rattle.checker.specs.FirstFault.{IsLegalText}
 use Rattle.checker.specs.declared.fault.Wanted.{Wanted}
 use Rattle.checker.specs.declared.fault.Wanted.TheVariants.{Either, Only}
@@ -53,7 +53,7 @@ small_nodes format game sizes (sides.Algorithm list) legal = (legal.of_game, ome
 legal_numbers : (accepted : Accepted) (left new_left : Option (List ℕ)) → Accepts Either accepted left new_left → HasSmallNumbers accepted
 legal_numbers accepted left new_left stands =
     let strategy = stands.strategy in
-    let small = small_nodes strategy.format strategy.game (sizes_of strategy.game) strategy.nodes stands.loads.spells.legal in
+    let small = small_nodes strategy.format strategy.game (sizes_of strategy.game) strategy.nodes stands.loaded.legal in
     let of_game : IsGame accepted.game = subst IsGame (sym stands.game) small.0 in
     record {
       bins = omega (arith, of_game.bins.high);
@@ -209,18 +209,17 @@ after_prefix names answers words left new_left status text piece old new accepte
     (sym same ∙ sym (take-append-drop n piece) ∙ ap (λ l. l ++ drop n piece) found.1 ∙ append_assoc (accepted_line accepted) found.0 (drop n piece))
 
 -- where all bytes were read, they are the text of the strategy
-legal_bytes : (wanted : Wanted) (strategy : Strategy) (bytes : List ℕ) (new_left : Option (List ℕ)) → Loads wanted strategy (Some bytes) new_left
+legal_bytes : (wanted : Wanted) (strategy : Strategy) (bytes : List ℕ) (new_left : Option (List ℕ)) → IsLoaded wanted strategy (Some bytes) new_left
     → IsLegalText wanted bytes
-legal_bytes wanted strategy bytes None loads = let gone : Some bytes ≡ None = loads.spells.gone in absurd cc
+legal_bytes wanted strategy bytes None loads = let gone : Some bytes ≡ None = loads.gone in absurd cc
 legal_bytes wanted strategy bytes (Some rest) loads =
-    let spells = loads.spells in
     let none : rest ≡ [] = loads.whole in
-    let all : bytes ≡ spells.read ++ rest = (let gone : Some bytes ≡ Some (spells.read ++ rest) = spells.gone in cc) in
+    let all : bytes ≡ loads.read ++ rest = (let gone : Some bytes ≡ Some (loads.read ++ rest) = loads.gone in cc) in
     record {
       strategy = strategy;
-      legal = spells.legal;
-      wanted_side = spells.wanted_side;
-      spelled = all ∙ ap (λ (more : List ℕ). spells.read ++ more) none ∙ append-nil spells.read ∙ spells.spelled ∙ append-nil (text_of strategy);
+      legal = loads.legal;
+      wanted_side = loads.wanted_side;
+      spelled = all ∙ ap (λ (more : List ℕ). loads.read ++ more) none ∙ append-nil loads.read ∙ loads.spelled;
     }
 
 -- the first letter of the words of a command, and what the letter tells of the side that it wants
@@ -278,18 +277,18 @@ faulty_exact (Some wanted) bytes new_left text due =
 
 -- a strategy that was read is that of the bytes
 read_exact : (wanted : Wanted) (status : Status) (strategy : Strategy) (bytes : List ℕ) (new_left : Option (List ℕ)) → IsServed status
-    → Loads wanted strategy (Some bytes) new_left → IsExact (Some wanted) (Some bytes) status
+    → IsLoaded wanted strategy (Some bytes) new_left → IsExact (Some wanted) (Some bytes) status
 read_exact wanted status strategy bytes new_left served loads = λ on. (λ any. legal_bytes wanted strategy bytes new_left loads, λ legal. served)
 
 -- a command is served exactly where the bytes are a legal text of the side that it wants
 outcome_exact : (names : List (List ℕ)) (answers : List (GameNumbers → List ℕ → ℕ)) (bytes : List ℕ) (new_left : Option (List ℕ)) (command : Command)
     (status : Status) (text : List ℕ) → IsOutcome names answers (Some bytes) new_left command status text → IsExact (wanted_by command) (Some bytes) status
-outcome_exact names answers bytes new_left Check Done text due = read_exact Either Done due.accepts.strategy bytes new_left tt due.accepts.loads
-outcome_exact names answers bytes new_left (Play place) Done text due = read_exact (Only Adversary) Done due.read.strategy bytes new_left tt due.read.loads
-outcome_exact names answers bytes new_left (Answer items) Done text due = read_exact (Only Algorithm) Done due.strategy bytes new_left tt due.loads
-outcome_exact names answers bytes new_left Minimise Done text due = read_exact Either Done due.strategy bytes new_left tt due.loads
-outcome_exact names answers bytes new_left Upgrade Done text due = read_exact Either Done due.strategy bytes new_left tt due.loads
-outcome_exact names answers bytes new_left Report Done text due = read_exact Either Done due.strategy bytes new_left tt due.loads
+outcome_exact names answers bytes new_left Check Done text due = read_exact Either Done due.accepts.strategy bytes new_left tt due.accepts.loaded
+outcome_exact names answers bytes new_left (Play place) Done text due = read_exact (Only Adversary) Done due.read.strategy bytes new_left tt due.read.loaded
+outcome_exact names answers bytes new_left (Answer items) Done text due = read_exact (Only Algorithm) Done due.strategy bytes new_left tt due.loaded
+outcome_exact names answers bytes new_left Minimise Done text due = read_exact Either Done due.strategy bytes new_left tt due.loaded
+outcome_exact names answers bytes new_left Upgrade Done text due = read_exact Either Done due.strategy bytes new_left tt due.loaded
+outcome_exact names answers bytes new_left Report Done text due = read_exact Either Done due.strategy bytes new_left tt due.loaded
 outcome_exact names answers bytes new_left (Drill number copies) Done text due = tt
 outcome_exact names answers bytes new_left (Search game budget table) Done text due = tt
 outcome_exact names answers bytes new_left command Rejected text due = faulty_exact (wanted_by command) bytes new_left text due
@@ -299,7 +298,7 @@ outcome_exact names answers bytes new_left command WriteFault text due = absurd 
 outcome_exact names answers bytes new_left command OutOfMemory text due = absurd due
 outcome_exact names answers bytes new_left Check Unpackable text due = absurd due
 outcome_exact names answers bytes new_left (Play place) Unpackable text due = absurd due
-outcome_exact names answers bytes new_left (Answer items) Unpackable text due = read_exact (Only Algorithm) Unpackable due.strategy bytes new_left tt due.loads
+outcome_exact names answers bytes new_left (Answer items) Unpackable text due = read_exact (Only Algorithm) Unpackable due.strategy bytes new_left tt due.loaded
 outcome_exact names answers bytes new_left Minimise Unpackable text due = absurd due
 outcome_exact names answers bytes new_left Upgrade Unpackable text due = absurd due
 outcome_exact names answers bytes new_left Report Unpackable text due = absurd due
@@ -369,7 +368,7 @@ accepted_forces game nodes left new_left stands = forced.accepted_forces Either 
 
 -- the replies of a legal strategy of the algorithm keep every load below the target
 strategy_replies : (format : Format) (game : GameNumbers) (number : ℕ) (nodes : Nodes) (left new_left : Option (List ℕ))
-    → Loads Either (record { format = format; game = game; nodes = nodes }) left new_left → number ≡ length (nodes_of nodes) → side_of nodes ≡ Algorithm
+    → IsLoaded Either (record { format = format; game = game; nodes = nodes }) left new_left → number ≡ length (nodes_of nodes) → side_of nodes ≡ Algorithm
     → Replying game number left new_left
 strategy_replies format game number (sides.Adversary list) left new_left loads e side = absurd cc
 strategy_replies format game number (sides.Algorithm list) left new_left loads e side =
@@ -377,9 +376,9 @@ strategy_replies format game number (sides.Algorithm list) left new_left loads e
       format = format;
       nodes = list;
       number_of_nodes = e ∙ length-map list of_algorithm;
-      loads = loads;
-      algorithm = replies_are_an_algorithm game list (loads.spells.legal.of_game);
-      keeps = legal_replies_keep_below format game list loads.spells.legal;
+      loaded = loads;
+      algorithm = replies_are_an_algorithm game list loads.legal.of_game;
+      keeps = legal_replies_keep_below format game list loads.legal;
     }
 
 pub accepted_replies : (game : GameNumbers) (nodes : ℕ) (left new_left : Option (List ℕ)) → Accepts Either (algorithm_accepted game nodes) left new_left
@@ -387,7 +386,7 @@ pub accepted_replies : (game : GameNumbers) (nodes : ℕ) (left new_left : Optio
 accepted_replies game nodes left new_left stands =
     let strategy = stands.strategy in
     subst (λ g. Replying g nodes left new_left) (sym stands.game)
-    (strategy_replies strategy.format strategy.game nodes strategy.nodes left new_left stands.loads stands.number (sym stands.side))
+    (strategy_replies strategy.format strategy.game nodes strategy.nodes left new_left stands.loaded stands.number (sym stands.side))
 
 -- a prefix of the same bytes
 pub same_some : (old new : Option (List ℕ)) (piece text : List ℕ) → piece ≡ text → AppendsSome old new piece → AppendsSome old new text

@@ -16,10 +16,16 @@ use Rattle.strategy_text.specs.declared.node.Side.TheVariants.{Adversary, Algori
 use Rattle.strategy_text.specs.declared.node.Strategy.{Strategy}
 use Rattle.adversary_graph.specs.Play.{IsLost, play}
 use Rattle.adversary_graph.specs.Playing.{play_of}
+use Rattle.node_pool.specs.Pools.{nodes_up_to, terms_in}
+use Rattle.node_pool.specs.Terms.{Terms, whole_game as whole_terms}
+use Rattle.strategy_text.specs.declared.node.AdvNode.{AdvNode}
+use Rattle.strategy_text.specs.declared.node.AlgNode.{AlgNode}
+use Rattle.adversary_graph.specs.Legal as adversary_legal
+use Rattle.algorithm_graph.specs.Legal as algorithm_legal
 use Rattle.adversary_graph.specs.Pools as adversary
 use Rattle.algorithm_graph.specs.Pools as algorithm
 use Rattle.algorithm_graph.specs.Replies.{replies}
-use Rattle.checker.specs.Head.{AreLegalNodes}
+use Rattle.strategies.specs.AnyNode.{AreLegalNodes}
 use Rattle.checker.proofs.LegalText.{legal_is_spellable, legal_text_has_no_fault}
 use Rattle.checker.specs.FirstFault.{IsLegalText}
 use Rattle.minimise.specs.Legal.{IsLegal}
@@ -35,7 +41,7 @@ use Rattle.monotone.specs.Visits.{most_visits}
 use Rattle.monotone.specs.declared.path.PathMove.{PathMove}
 use Rattle.loads.specs.Wins.{IsWon, empty_position}
 use Rattle.strategy_text.specs.Spelling.{IsSpellable}
-use Rattle.checker.specs.Accepted.{Loads, IsFaultOf}
+use Rattle.checker.specs.Accepted.{IsLoaded, IsFaultOf}
 use Rattle.checker.specs.declared.fault.CheckFault.{CheckFault}
 use Rattle.checker.specs.declared.fault.CheckFault.TheVariants as check_fault
 use Rattle.checker.specs.declared.fault.Wanted.{Wanted}
@@ -72,16 +78,16 @@ module _ (names : List (List ℕ)) (answers : List (GameNumbers → List ℕ →
   fault_status command status text e rejected = subst (λ s. IsOutcome names answers left new_left command s text) (sym e) rejected
 
   play_status : (place : ℕ) (name : List ℕ) (answer : GameNumbers → List ℕ → ℕ) (strategy : Strategy) (status : Status) (text : List ℕ)
-      → slice_get names place ≡ Some name → slice_get answers place ≡ Some answer → Loads (Only Adversary) strategy left new_left
+      → slice_get names place ≡ Some name → slice_get answers place ≡ Some answer → IsLoaded (Only Adversary) strategy left new_left
       → status ≡ Done → IsPlayOf name answer text strategy → IsOutcome names answers left new_left (Play place) status text
   play_status place name answer strategy status text named so loads e is =
       subst (λ s. IsOutcome names answers left new_left (Play place) s text) (sym e)
-      (record { name = name; named = named; answer = answer; answers_so = so; read = record { strategy = strategy; loads = loads; is = is } })
+      (record { name = name; named = named; answer = answer; answers_so = so; read = record { strategy = strategy; loaded = loads; is = is } })
 
-  reply_status : (items : List ℕ) (strategy : Strategy) (status : Status) (text : List ℕ) → Loads (Only Algorithm) strategy left new_left
+  reply_status : (items : List ℕ) (strategy : Strategy) (status : Status) (text : List ℕ) → IsLoaded (Only Algorithm) strategy left new_left
       → IsReply items strategy status text → IsOutcome names answers left new_left (Answer items) status text
-  reply_status items strategy Done text loads is = record { strategy = strategy; loads = loads; is = is }
-  reply_status items strategy Unpackable text loads is = record { strategy = strategy; loads = loads; is = is }
+  reply_status items strategy Done text loads is = record { strategy = strategy; loaded = loads; is = is }
+  reply_status items strategy Unpackable text loads is = record { strategy = strategy; loaded = loads; is = is }
   reply_status items strategy Rejected text loads is = absurd is
   reply_status items strategy Usage text loads is = absurd is
   reply_status items strategy Undecided text loads is = absurd is
@@ -126,7 +132,7 @@ module _ {E : Type 0} (names : List (List ℕ)) (answers : List (GameNumbers →
 
   -- the play of a strategy that was read
   pub play_outcome : (place : ℕ) (name : List ℕ) (answer : GameNumbers → List ℕ → ℕ) (strategy : Strategy) (r : Result Due E)
-      → slice_get names place ≡ Some name → slice_get answers place ≡ Some answer → Loads (Only Adversary) strategy left new_left
+      → slice_get names place ≡ Some name → slice_get answers place ≡ Some answer → IsLoaded (Only Adversary) strategy left new_left
       → IfOk r (λ due. (due.status ≡ Done) × IsPlayOf name answer due.text strategy)
       → IfOk r (λ due. IsOutcome names answers left new_left (Play place) due.status due.text)
   play_outcome place name answer strategy (Ok due) named so loads is = play_status names answers left new_left place name answer strategy due.status due.text
@@ -134,7 +140,7 @@ module _ {E : Type 0} (names : List (List ℕ)) (answers : List (GameNumbers →
   play_outcome place name answer strategy (Err e) named so loads is = tt
 
   -- the replies of a strategy that was read
-  pub reply_outcome : (items : List ℕ) (strategy : Strategy) (r : Result Due E) → Loads (Only Algorithm) strategy left new_left
+  pub reply_outcome : (items : List ℕ) (strategy : Strategy) (r : Result Due E) → IsLoaded (Only Algorithm) strategy left new_left
       → IfOk r (λ due. IsAnswered items strategy due) → IfOk r (λ due. IsOutcome names answers left new_left (Answer items) due.status due.text)
   reply_outcome items strategy (Ok due) loads is = reply_status names answers left new_left items strategy due.status due.text loads is
   reply_outcome items strategy (Err e) loads is = tt
@@ -147,17 +153,17 @@ module _ {E : Type 0} (names : List (List ℕ)) (answers : List (GameNumbers →
   done_with command Is (Err e) gives is = tt
 
   -- what was made of a strategy that was read
-  pub canonical_outcome : (strategy : Strategy) (r : Result Due E) → Loads Either strategy left new_left
+  pub canonical_outcome : (strategy : Strategy) (r : Result Due E) → IsLoaded Either strategy left new_left
       → IfOk r (λ due. (due.status ≡ Done) × IsCanonicalText due.text strategy)
       → IfOk r (λ due. IsOutcome names answers left new_left Minimise due.status due.text)
   canonical_outcome strategy r loads is =
-      done_with Minimise (λ text. IsCanonicalText text strategy) r (λ text made. record { strategy = strategy; loads = loads; is = made }) is
+      done_with Minimise (λ text. IsCanonicalText text strategy) r (λ text made. record { strategy = strategy; loaded = loads; is = made }) is
 
-  pub summary_outcome : (strategy : Strategy) (r : Result Due E) → Loads Either strategy left new_left
+  pub summary_outcome : (strategy : Strategy) (r : Result Due E) → IsLoaded Either strategy left new_left
       → IfOk r (λ due. (due.status ≡ Done) × IsSummaryOf due.text strategy)
       → IfOk r (λ due. IsOutcome names answers left new_left Report due.status due.text)
   summary_outcome strategy r loads is =
-      done_with Report (λ text. IsSummaryOf text strategy) r (λ text made. record { strategy = strategy; loads = loads; is = made }) is
+      done_with Report (λ text. IsSummaryOf text strategy) r (λ text made. record { strategy = strategy; loaded = loads; is = made }) is
 
   -- what was made without reading
   pub drill_outcome : (number copies : ℕ) (r : Result Due E) → new_left ≡ left
@@ -186,16 +192,54 @@ pub legal_algorithm : (format : Format) (game : GameNumbers) (nodes : Nodes) →
 legal_algorithm format game (nodes_of_side.Adversary list) legal e = absurd cc
 legal_algorithm format game (nodes_of_side.Algorithm list) legal e = legal
 
+pool_is : (pool : algorithm.Pool) → pool.sizes ≡ sizes_of pool.game → algorithm.pool_of pool.format pool.game pool.nodes ≡ pool
+pool_is pool whole = λ i. record { format = pool.format; game = pool.game; sizes = sym whole i; nodes = pool.nodes }
+
+-- the nodes of a legal strategy, and the strategy that they are
+adversary_list : (format : Format) (game : GameNumbers) (nodes : Nodes) → adversary.AreLegal format game nodes
+    → (list : List AdvNode) × (nodes ≡ nodes_of_side.Adversary list) × adversary_legal.IsLegal format game (sizes_of game) list
+adversary_list format game (nodes_of_side.Adversary list) legal = (list, refl, legal)
+adversary_list format game (nodes_of_side.Algorithm list) legal = absurd legal
+
+pub adversary_nodes : (strategy : Strategy) → adversary.IsLegalOfAdversary strategy
+    → (list : List AdvNode) × (strategy.nodes ≡ nodes_of_side.Adversary list) × adversary_legal.IsLegal strategy.format strategy.game (sizes_of strategy.game) list
+adversary_nodes strategy legal = adversary_list strategy.format strategy.game strategy.nodes legal
+
+algorithm_list : (format : Format) (game : GameNumbers) (nodes : Nodes) → algorithm.AreLegal format game nodes
+    → (list : List AlgNode) × (nodes ≡ nodes_of_side.Algorithm list) × algorithm_legal.IsLegal format game (sizes_of game) list
+algorithm_list format game (nodes_of_side.Algorithm list) legal = (list, refl, legal)
+algorithm_list format game (nodes_of_side.Adversary list) legal = absurd legal
+
+pub algorithm_nodes : (strategy : Strategy) → algorithm.IsLegalOfAlgorithm strategy
+    → (list : List AlgNode) × (strategy.nodes ≡ nodes_of_side.Algorithm list) × algorithm_legal.IsLegal strategy.format strategy.game (sizes_of strategy.game) list
+algorithm_nodes strategy legal = algorithm_list strategy.format strategy.game strategy.nodes legal
+
+pub adversary_strategy : (strategy : Strategy) (pool : adversary.Pool) → pool.format ≡ strategy.format → terms_in pool ≡ whole_terms strategy.format strategy.game
+    → strategy.nodes ≡ nodes_of_side.Adversary pool.nodes → strategy ≡ adversary.strategy_of pool
+adversary_strategy strategy pool format terms nodes =
+    let game : strategy.game ≡ pool.game = sym (ap (λ (t : Terms). t.game) terms) in
+    λ i. record { format = sym format i; game = game i; nodes = nodes i }
+
+pub algorithm_strategy : (strategy : Strategy) (pool : algorithm.Pool) → pool.format ≡ strategy.format → terms_in pool ≡ whole_terms strategy.format strategy.game
+    → strategy.nodes ≡ nodes_of_side.Algorithm pool.nodes → strategy ≡ algorithm.strategy_of pool
+algorithm_strategy strategy pool format terms nodes =
+    let game : strategy.game ≡ pool.game = sym (ap (λ (t : Terms). t.game) terms) in
+    λ i. record { format = sym format i; game = game i; nodes = nodes i }
+
+-- its terms are those of the whole game
+pub whole_of : (pool : algorithm.Pool) (format : Format) (game : GameNumbers) → terms_in pool ≡ whole_terms format game → pool.sizes ≡ sizes_of pool.game
+whole_of pool format game terms = ap (λ (t : Terms). t.sizes) terms ∙ ap sizes_of (sym (ap (λ (t : Terms). t.game) terms))
+
 -- the replies of a pool's nodes are those of the strategy that it was made from
 pub answer_of : (strategy : Strategy) (pool file : algorithm.Pool) (root : ℕ) (items text : List ℕ) (answered : Answered) → strategy ≡ algorithm.strategy_of pool
     → algorithm.IsRoot pool.nodes (length pool.nodes - 1) → root ≡ length pool.nodes - 1
-    → file ≡ algorithm.pool_of pool.format pool.game (algorithm.nodes_up_to root pool.nodes) → Packable file.game items
+    → pool.sizes ≡ sizes_of pool.game → file ≡ algorithm.pool_of pool.format pool.game (nodes_up_to root pool.nodes) → Packable file.game items
     → answered ≡ answered_by file.game (replies file.game file.nodes) items → All (λ load. load < file.game.target) answered.loads
     → text ≡ answer_text strategy.game answered → IsAnswerOf items text strategy
-answer_of strategy pool file root items text answered e is_root last same packable is below lines =
+answer_of strategy pool file root items text answered e is_root last whole same packable is below lines =
     let some = slice_get_within pool.nodes (length pool.nodes - 1) is_root.0 is_root.1 in
-    let all : algorithm.nodes_up_to root pool.nodes ≡ pool.nodes = take_all (root + 1) pool.nodes (omega (arith, last, some)) in
-    let file_is : file ≡ pool = same ∙ ap (λ nodes. algorithm.pool_of pool.format pool.game nodes) all in
+    let all : nodes_up_to root pool.nodes ≡ pool.nodes = take_all (root + 1) pool.nodes (omega (arith, last, some)) in
+    let file_is : file ≡ pool = same ∙ ap (λ nodes. algorithm.pool_of pool.format pool.game nodes) all ∙ pool_is pool whole in
     let answers : answered ≡ answered_by pool.game (replies pool.game pool.nodes) items =
     is ∙ ap (λ (f : algorithm.Pool). answered_by f.game (replies f.game f.nodes) items) file_is in
     let made : IsAnswerOf items text (algorithm.strategy_of pool) = record {

@@ -19,8 +19,8 @@ use Rattle.checker.specs.declared.fault.Accepted.{Accepted}
 use Rattle.checker.specs.declared.fault.Wanted.{Wanted}
 use Rattle.checker.specs.declared.fault.Wanted.TheVariants.{Either, Only}
 use Rattle.checker.specs.declared.fault.Why.{Why}
-use Rattle.checker.specs.Accepted.{Accepts, IsInterrupted, Loads, Rejects}
-use Rattle.checker.specs.Head.{IsLegal}
+use Rattle.checker.specs.Accepted.{Accepts, IsInterrupted, IsLoaded, Rejects}
+use Rattle.strategies.specs.AnyNode.{IsLegal}
 use Rattle.match_player.specs.Answers.{IsLeastUnpackable, answered_by}
 use Rattle.match_player.specs.Lines.{play_text, answer_text}
 use Rattle.items.specs.Multiset.{sizes_of}
@@ -79,7 +79,7 @@ pub record IsAccepted (left new_left : Option (List ℕ)) (text : List ℕ) : Ty
 -- a legal strategy of a wanted side was read, and this is so of it
 pub record IsRead (wanted : Wanted) (left new_left : Option (List ℕ)) (Is : Strategy → Type 0) : Type 0 where
   pub strategy : Strategy
-  pub loads : Loads wanted strategy left new_left
+  pub loaded : IsLoaded wanted strategy left new_left
   pub is : Is strategy
 
 -- the lines of the play of a strategy of the adversary, from its last node on, against a player, who loses

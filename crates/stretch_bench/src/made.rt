@@ -14,8 +14,8 @@ ghost use Rattle.stretch_bench.specs.declared.status.Status.TheVariants.{Done};
 use crate::due::{Due, Stop};
 use crate::lines::{line_of_report, line_of_unpackable};
 use crate::status::Status;
-use adversary_graph::{AdvPool, refute};
-use algorithm_graph::{AlgPool, FileAlgorithm};
+use adversary_graph::{AdvJudged, refute_by};
+use algorithm_graph::{AlgJudged, FileAlgorithm};
 use match_player::{AnswerFault, answer, answer_text, match_text};
 use minimise::{minimise, upgrade};
 use online_play::{Online, Player};
@@ -35,8 +35,8 @@ pub(crate) fn due_of_refuted(
     ensures read { result ≢ Err Read }
 {
     let game = strategy.game;
-    let pool = AdvPool::from_strategy(alloc, strategy)?;
-    let transcript = refute(alloc, &pool, pool.len() - 1, &player.player)?;
+    let nodes = AdvJudged::from_strategy(strategy);
+    let transcript = refute_by(alloc, &nodes, nodes.len() - 1, &player.player)?;
     Ok(Due {
         status: Status::Done,
         text: match_text(alloc, player.name.as_str(), &game, &transcript)?,
@@ -50,9 +50,9 @@ pub(crate) fn due_of_replies(alloc: Global, items: &[u16], strategy: Strategy) -
     ensures read { result ≢ Err Read }
 {
     let game = strategy.game;
-    let pool = AlgPool::from_strategy(alloc, strategy)?;
-    let root = pool.len() - 1;
-    let algorithm = FileAlgorithm::new(pool, root);
+    let nodes = AlgJudged::from_strategy(strategy);
+    let root = nodes.len() - 1;
+    let algorithm = FileAlgorithm::of_nodes(nodes, root);
     match answer(alloc, &algorithm, items) {
         Ok(answered) => Ok(Due {
             status: Status::Done,

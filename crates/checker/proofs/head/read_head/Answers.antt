@@ -1,8 +1,9 @@
-use Rattle.std.proofs.Common.{◌∷◌, []}
-use Rattle.strategy_text.specs.Text.{first_line, game_line, side_line, count_line}
+use Rattle.std.proofs.Common.{◌∷◌, [], sym, subst}
+use Rattle.strategy_text.specs.Text.{first_line, game_line, side_line, count_line, head_lines}
+use Rattle.node_pool.specs.Terms.{Terms}
 use Rattle.checker.specs.Accepted.{IsTextFaultOf}
 use Rattle.checker.specs.FirstFault.{IsGameLine, IsSideLine, IsCountLine}
-use Rattle.checker.specs.Progress.{IsWrongNext, NoRule, BreaksGame, BreaksSide}
+use Rattle.checker.specs.Progress.{IsWrongNext, NoRule, BreaksGame, BreaksSide, ReadsLines}
 use Rattle.checker.specs.declared.fault.CheckFault.{CheckFault}
 use Rattle.checker.proofs.FaultLemmas.{exit_first, exit_game, exit_side, exit_count}
 use Rattle.checker.proofs.ProgressLemmas.{passed_on, ReadsLines-then, RefusesAfter-then}
@@ -72,9 +73,11 @@ returns-clause-ok g c =
     let game = c.in_ok-game.ensures.ok in
     let side = c.in_ok-side.ensures.ok in
     let count = c.in_ok-count.ensures.ok in
-    ReadsLines-then (first_line c.in_ok-format.format ∷ game_line c.in_ok-game.game ∷ side_line c.in_ok-side.side ∷ [])
+    subst (λ (t : Terms). ReadsLines (head_lines t.format t.game c.in_ok-side.side c.in_ok-count.count) old c.read_count.new.lines left (g.S.Source.left c.read_count.new.source))
+    (sym c.of_game.ensures.value)
+    (ReadsLines-then (first_line c.in_ok-format.format ∷ game_line c.in_ok-game.game ∷ side_line c.in_ok-side.side ∷ [])
     (count_line c.in_ok-count.count ∷ []) old c.read_side.new.lines c.read_count.new.lines left (g.S.Source.left c.read_side.new.source) (g.S.Source.left c.read_count.new.source)
     (ReadsLines-then (first_line c.in_ok-format.format ∷ game_line c.in_ok-game.game ∷ []) (side_line c.in_ok-side.side ∷ []) old c.read_game.new.lines c.read_side.new.lines left
     (g.S.Source.left c.read_game.new.source) (g.S.Source.left c.read_side.new.source)
     (ReadsLines-then (first_line c.in_ok-format.format ∷ []) (game_line c.in_ok-game.game ∷ []) old c.read_first.new.lines c.read_game.new.lines left
-    (g.S.Source.left c.read_first.new.source) (g.S.Source.left c.read_game.new.source) first game) side) count
+    (g.S.Source.left c.read_first.new.source) (g.S.Source.left c.read_game.new.source) first game) side) count)

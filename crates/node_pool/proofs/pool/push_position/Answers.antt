@@ -28,5 +28,5 @@ returns-clause-ok g c =
     let nodes = c.args.nodes.now.nodes in
     let whole = positions_past position nodes c.args.number c.node-node.result.now c.node-node.ensures.value in
     let e : c.args.positions.now ++ position_at c.loads.result.now c.items.result.now ∷ [] ≡ map position (take (c.args.number + 1) nodes) =
-        rw (c.loads.ensures, c.items.ensures, c.requires.before) whole in
+    rw (c.loads.ensures, c.items.ensures, c.requires.before) whole in
     subst (λ (positions : List Position). OnOk c.push_lists.result (c.push_lists.new.self ≡ positions)) e c.push_lists.ensures.ok
