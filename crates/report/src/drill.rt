@@ -207,7 +207,7 @@ fn sends(
         step: Step::Send {
             size,
             pack: Some(packing_of(alloc, pack)?),
-            placements: placements_of(alloc, placements)?,
+            placements: Placements::from_slice(alloc, placements)?,
         },
     })
 }
@@ -220,16 +220,6 @@ fn packing_of(alloc: Global, bins: &[&[u16]]) -> Result<Packing, AllocError>
         packing.push_bin(Nums::from_slice(alloc, bin)?)?;
     }
     Ok(packing)
-}
-
-fn placements_of(alloc: Global, list: &[Placement]) -> Result<Placements, AllocError>
-    ensures { IfOk result (λ placements. placements ≡ list.now) }
-{
-    let mut placements = Placements::new(alloc);
-    for placement in list {
-        placements.push(*placement)?;
-    }
-    Ok(placements)
 }
 
 // The play is over where the item goes to a bin of this load.
