@@ -1,20 +1,19 @@
 -- Targets of one number of bins and one capacity: what holds at a lower or a higher one.
-use Rattle.std.proofs.Common.{◌≡◌, ◌≢◌, ℕ, zero, suc, ◌+◌, ◌-◌, ◌*◌, ◌<◌, ◌≤◌, Bool, List, [], ◌∷◌, length, get_or, replicate, take, max, refl, sym, ap, ◌∙◌, subst, arith}
-use Rattle.std.specs.Prelude.{All, Contains, sum_by}
+use Rattle.std.proofs.Common.{ℕ, ◌-◌, ◌≤◌, Bool, List, [], ◌∷◌, get_or, arith}
+use Rattle.std.specs.Prelude.{All}
 use Rattle.std.proofs.lemmas.List.Elements.{Contains-get_or}
-use Rattle.items.specs.Game.{GameNumbers, HasBins, HasCapacity, numbers}
+use Rattle.items.specs.Game.{numbers}
 use Rattle.items.specs.Multiset.{sizes_of}
 use Rattle.loads.specs.After.{after}
 use Rattle.loads.specs.Wins.{empty_position}
 use Rattle.loads.specs.declared.position.Position.{Position}
 use Rattle.monotone.specs.Passes.{allowed_in}
 use Rattle.monotone.specs.Paths.{IsLegalFrom}
-use Rattle.monotone.specs.Positions.{CountsAllEnds, CountsEnds, CountsEndsOfPass, IsEnd}
+use Rattle.monotone.specs.Positions.{CountsReachable, IsReachable}
 use Rattle.monotone.specs.declared.path.PathMove.{PathMove}
-use Rattle.monotone.proofs.EndsLemmas.{ends_are_no_more}
+use Rattle.monotone.proofs.ReachableLemmas.{reachable_are_no_more}
 use Rattle.online_play.proofs.WonLemmas.{lower_target_forces}
-use Rattle.bound_value.specs.Values.{IsForced}
-use Rattle.bound_value.specs.Laws.{AllEndsGrowWithTheTarget, EndsGrowWithTheTarget, LowerTargetsAreForced}
+use Rattle.bound_value.specs.Laws.{AllReachableGrowWithTheTarget, ReachableGrowWithTheTarget, LowerTargetsAreForced}
 
 pub lower_targets_are_forced : LowerTargetsAreForced
 lower_targets_are_forced bins capacity lower higher above le forced = record {
@@ -37,18 +36,18 @@ module _ (bins capacity lower higher : ℕ) (le : lower ≤ higher) (allowed : L
     legal_at_higher (after start step.load step.item) path l.1,
   )
 
-  pub ends_grow : (few many : ℕ) → CountsEnds (numbers bins capacity lower) allowed few → CountsEnds (numbers bins capacity higher) allowed many → few ≤ many
-  ends_grow few many (ends, h, e) all =
-      let each : All (IsEnd (numbers bins capacity higher) allowed) ends = λ k d l.
-      let is = (h.exact (get_or ends k d)).0 (Contains-get_or ends k d l) in
+  pub reachable_grow : (few many : ℕ) → CountsReachable (numbers bins capacity lower) allowed few → CountsReachable (numbers bins capacity higher) allowed many → few ≤ many
+  reachable_grow few many (reachable, h, e) all =
+      let each : All (IsReachable (numbers bins capacity higher) allowed) reachable = λ k d l.
+      let is = (h.exact (get_or reachable k d)).0 (Contains-get_or reachable k d l) in
       (is.0, legal_at_higher (empty_position (numbers bins capacity lower)) is.0 is.1, is.2) in
-      let no_more = ends_are_no_more (numbers bins capacity higher) allowed many ends all each h.once in
+      let no_more = reachable_are_no_more (numbers bins capacity higher) allowed many reachable all each h.once in
       omega (arith, no_more, e)
 
-pub ends_grow_with_the_target : EndsGrowWithTheTarget
-ends_grow_with_the_target bins capacity lower higher pass few many le fewer more =
-    ends_grow bins capacity lower higher le (allowed_in (sizes_of (numbers bins capacity lower)) pass) few many fewer more
+pub reachable_positions_grow_with_the_target : ReachableGrowWithTheTarget
+reachable_positions_grow_with_the_target bins capacity lower higher pass few many le fewer more =
+    reachable_grow bins capacity lower higher le (allowed_in (sizes_of (numbers bins capacity lower)) pass) few many fewer more
 
-pub all_ends_grow_with_the_target : AllEndsGrowWithTheTarget
-all_ends_grow_with_the_target bins capacity lower higher few many le fewer more =
-    ends_grow_with_the_target bins capacity lower higher (capacity - 1) few many le fewer more
+pub all_reachable_positions_grow_with_the_target : AllReachableGrowWithTheTarget
+all_reachable_positions_grow_with_the_target bins capacity lower higher few many le fewer more =
+    reachable_positions_grow_with_the_target bins capacity lower higher (capacity - 1) few many le fewer more

@@ -1,6 +1,6 @@
 -- What strategies of both sides, one target apart, say of the value.
-use Rattle.std.proofs.Common.{◌≡◌, ℕ, zero, suc, ◌+◌, ◌-◌, ◌*◌, ◌<◌, ◌≤◌, ◌==◌, true, List, [], ◌∷◌, length, get_or, map, replicate, take, max, Option, Some, None, refl, sym, ap, ◌∙◌, subst, ⊎_elim, inl, inr, arith}
-use Rattle.std.specs.Prelude.{All, Contains, sum_by}
+use Rattle.std.proofs.Common.{◌≡◌, ℕ, ◌+◌, ◌-◌, ◌*◌, ◌<◌, ◌≤◌, List, [], ◌∷◌, replicate, take, max, Option, Some, None, refl, ap, ◌∙◌, subst, ⊎_elim, arith}
+use Rattle.std.specs.Prelude.{sum_by}
 use Rattle.std.proofs.Common.{◌^◌}
 use Rattle.std.proofs.Math.Nat.{mul-le-mul_left}
 use Rattle.std.proofs.lemmas.Bool.{cases_lt}
@@ -14,7 +14,6 @@ use Rattle.items.specs.GameFaults.{IsFaultOf}
 use Rattle.items.specs.declared.game.GameFault.{GameFault}
 use Rattle.items.specs.Game.{GameNumbers, HasBins, HasCapacity, HasTarget, IsGame, numbers}
 use Rattle.items.specs.Multiset.{sizes_of}
-use Rattle.loads.specs.Descending.{IsDescending}
 use Rattle.loads.specs.Loads.{IsLoads}
 use Rattle.loads.specs.Position.{AreItemsOf, StandsAt}
 use Rattle.loads.specs.After.{after}
@@ -31,32 +30,36 @@ use Rattle.strategy_text.specs.declared.node.Nodes.TheVariants as sides
 use Rattle.strategy_text.specs.declared.node.Strategy.{Strategy}
 use Rattle.adversary_graph.specs.Pools as adversary_pools
 use Rattle.adversary_graph.proofs.WonLemmas.{legal_strategy_forces}
-use Rattle.algorithm_graph.specs.Legal.{IsLegal}
+use Rattle.algorithm_graph.specs.Legal.{IsLegal, IsNodeOfFormat, MeetsRulesUnder}
 use Rattle.algorithm_graph.specs.Nodes.{position_of}
-use Rattle.algorithm_graph.specs.Pools.{MayComeNext, nodes_up_to, pool_of}
+use Rattle.algorithm_graph.specs.Pools.{MayComeNext, pool_of}
+use Rattle.items.proofs.SizesLemmas.{sizes_are_sizes}
+use Rattle.node_pool.specs.Pools.{nodes_up_to}
+use Rattle.node_pool.specs.Terms.{whole_game as whole_terms}
+use Rattle.node_pool.proofs.PoolLemmas.{IsPool-nil, IsPool-push}
 use Rattle.algorithm_graph.specs.Rules.{NamesLoad}
-use Rattle.algorithm_graph.proofs.PoolLemmas.{IsLegal-from_pool, IsPool-nil, IsPool-push}
+use Rattle.algorithm_graph.proofs.PoolLemmas.{IsLegal-from_pool}
 use Rattle.strategy_text.specs.declared.node.Entry.{Entry}
 use Rattle.algorithm_graph.specs.Pools as algorithm_pools
 use Rattle.algorithm_graph.specs.Replies.{replies}
 use Rattle.algorithm_graph.proofs.BelowLemmas.{legal_replies_keep_below}
 use Rattle.algorithm_graph.proofs.ReplayLemmas.{replies_are_an_algorithm}
 use Rattle.monotone.specs.Passes.{allowed_in, whole_game}
-use Rattle.monotone.specs.Positions.{CountsAllEnds}
+use Rattle.monotone.specs.Positions.{CountsAllReachable}
 use Rattle.monotone.specs.Visits.{most_visits}
 use Rattle.monotone.specs.declared.path.PathMove.{PathMove}
-use Rattle.monotone.proofs.EndsLemmas.{ends_are_counted}
+use Rattle.monotone.proofs.ReachableLemmas.{reachable_positions_are_counted}
 use Rattle.minimax.specs.Answers.{IsAnswer, IsFor}
 use Rattle.minimax.specs.Answers as answers
 use Rattle.minimax.proofs.RootLemmas.{IsPlayable-empty}
-use Rattle.minimax.specs.Budgets.{AreNumbersOfEnds, HasRoom, IsOfAdversary, ends_before}
+use Rattle.minimax.specs.Budgets.{AreNumbersOfReachable, HasRoom, IsOfAdversary, reachable_before}
 use Rattle.minimax.specs.declared.answer.Answer.{Answer}
 use Rattle.minimax.specs.declared.answer.Answer.TheVariants.{Adversary, Algorithm, Undecided}
 use Rattle.bound_value.specs.Answers.{FallsShort, IsOpenAt, IsShownAt, IsShownNowhere, ShowsForced, ShowsKept}
 use Rattle.bound_value.specs.Laws.{OneValue, TwiceTheCapacityIsKept, ValuesAreBelowTwice, ValuesSplitTargets}
 use Rattle.bound_value.specs.Targets.{FallsShortIfUndecided, IsFoundBelow}
-use Rattle.bound_value.specs.Values.{IsForced, IsGreatestForced, IsValueOf}
-use Rattle.bound_value.proofs.TargetLemmas.{all_ends_grow_with_the_target, lower_targets_are_forced}
+use Rattle.bound_value.specs.Values.{IsForced}
+use Rattle.bound_value.proofs.TargetLemmas.{all_reachable_positions_grow_with_the_target, lower_targets_are_forced}
 
 -- a legal strategy of the adversary forces every algorithm
 legal_forces : (format : Format) (game : GameNumbers) (nodes : Nodes) → adversary_pools.AreLegal format game nodes → ForcesEvery game
@@ -153,9 +156,10 @@ module _ (bins capacity : ℕ) (has_bins : HasBins bins) (has_capacity : HasCapa
   unfolding only_node
   twice_is_kept =
       let game = numbers bins capacity (2 * capacity) in
-      let pool = IsPool-push (pool_of One game []) only_node (IsPool-nil One game game_of_twice) follows in
+      let none = IsPool-nil position_of IsNodeOfFormat MeetsRulesUnder (whole_terms One game) (record { of_game = game_of_twice; sizes = sizes_are_sizes game }) in
+      let pool = IsPool-push position_of IsNodeOfFormat MeetsRulesUnder (pool_of One game []) only_node none follows in
       nodes_keep One game (nodes_up_to 0 (only_node ∷ []))
-      (IsLegal-from_pool (pool_of One game (only_node ∷ [])) 0 pool
+      (IsLegal-from_pool (pool_of One game (only_node ∷ [])) 0 pool refl
       (only_node, refl, record { loads = All-replicate (λ load. load ≡ 0) bins 0 refl; items = refl }))
 
 pub twice_the_capacity_is_kept : TwiceTheCapacityIsKept
@@ -236,6 +240,13 @@ module _ (bins capacity budget target : ℕ) where
       → IsAnswer (numbers bins capacity target) budget (Undecided visits pass path) → IsOpenAt bins capacity budget target visits pass path
   open_at below visits pass path of_game found answer = record { of_game = of_game; spent = answer.0; due = answer.1; forced_below = forced_below below found }
 
+-- a strategy of the adversary for a target, at the next one
+pub found_next : (bins capacity budget target : ℕ) (strategy : Strategy) → HasTarget capacity target → ShowsForced (numbers bins capacity target) budget strategy
+    → IsFoundBelow bins capacity budget (target + 1) (Some strategy)
+found_next bins capacity budget target strategy of_game shows =
+    let here : target ≡ target + 1 - 1 = omega arith in
+    (omega (arith, of_game.low), subst (λ t. ShowsForced (numbers bins capacity t) budget strategy) here shows)
+
 -- the game that was made of numbers
 pub made_game : (made : GameNumbers) (result : Result GameNumbers GameFault) (game : GameNumbers)
     → MatchResult result (λ (new : GameNumbers). (new ≡ made) × IsGame made) (IsFaultOf made) → result ≡ Ok game → (game ≡ made) × IsGame made
@@ -258,25 +269,25 @@ above_if_not number budget not_within = ⊎_elim (λ below. below) (λ not_below
 module _ (game : GameNumbers) (budget room : ℕ) where
   -- what decides a game, and what then doesn't
   short_answer : (answer : Answer) → (most_visits (whole_game game) ≤ budget → answers.IsDecided answer)
-      → ((all : ℕ) → CountsAllEnds game all → all ≤ room → game.capacity * all ≤ budget → answers.IsDecided answer)
-      → ((numbers : ℕ → ℕ) → AreNumbersOfEnds game numbers → HasRoom game room → ends_before numbers game.capacity ≤ budget → answers.IsDecided answer)
-      → ((numbers : ℕ → ℕ) (pass : ℕ) → AreNumbersOfEnds game numbers → HasRoom game room → IsWon game (allowed_in (sizes_of game) pass) (empty_position game)
-      → ends_before numbers (pass + 1) ≤ budget → IsOfAdversary answer)
+      → ((all : ℕ) → CountsAllReachable game all → all ≤ room → game.capacity * all ≤ budget → answers.IsDecided answer)
+      → ((numbers : ℕ → ℕ) → AreNumbersOfReachable game numbers → HasRoom game room → reachable_before numbers game.capacity ≤ budget → answers.IsDecided answer)
+      → ((numbers : ℕ → ℕ) (pass : ℕ) → AreNumbersOfReachable game numbers → HasRoom game room → IsWon game (allowed_in (sizes_of game) pass) (empty_position game)
+      → reachable_before numbers (pass + 1) ≤ budget → IsOfAdversary answer)
       → FallsShortIfUndecided game budget room answer
   short_answer (Adversary strategy) many all each won = tt
   short_answer (Algorithm strategy) many all each won = tt
   short_answer (Undecided visits pass path) many all each won = record {
     all_visits = above_if_not (most_visits (whole_game game)) budget many;
     all_positions = λ number counts within. above_if_not (game.capacity * number) budget (all number counts within);
-    each_pass = λ numbers are has_room. above_if_not (ends_before numbers game.capacity) budget (each numbers are has_room);
-    won_pass = λ numbers passed are has_room wins. above_if_not (ends_before numbers (passed + 1)) budget (won numbers passed are has_room wins);
+    each_pass = λ numbers are has_room. above_if_not (reachable_before numbers game.capacity) budget (each numbers are has_room);
+    won_pass = λ numbers passed are has_room wins. above_if_not (reachable_before numbers (passed + 1)) budget (won numbers passed are has_room wins);
   }
 
   pub short_result : (result : Result Answer AllocError) → (most_visits (whole_game game) ≤ budget → IfOk result answers.IsDecided)
-      → ((all : ℕ) → CountsAllEnds game all → all ≤ room → game.capacity * all ≤ budget → IfOk result answers.IsDecided)
-      → ((numbers : ℕ → ℕ) → AreNumbersOfEnds game numbers → HasRoom game room → ends_before numbers game.capacity ≤ budget → IfOk result answers.IsDecided)
-      → ((numbers : ℕ → ℕ) (pass : ℕ) → AreNumbersOfEnds game numbers → HasRoom game room → IsWon game (allowed_in (sizes_of game) pass) (empty_position game)
-      → ends_before numbers (pass + 1) ≤ budget → IfOk result IsOfAdversary)
+      → ((all : ℕ) → CountsAllReachable game all → all ≤ room → game.capacity * all ≤ budget → IfOk result answers.IsDecided)
+      → ((numbers : ℕ → ℕ) → AreNumbersOfReachable game numbers → HasRoom game room → reachable_before numbers game.capacity ≤ budget → IfOk result answers.IsDecided)
+      → ((numbers : ℕ → ℕ) (pass : ℕ) → AreNumbersOfReachable game numbers → HasRoom game room → IsWon game (allowed_in (sizes_of game) pass) (empty_position game)
+      → reachable_before numbers (pass + 1) ≤ budget → IfOk result IsOfAdversary)
       → IfOk result (FallsShortIfUndecided game budget room)
   short_result (Ok answer) many all each won = short_answer answer many all each won
   short_result (Err error) many all each won = tt
@@ -289,9 +300,9 @@ enough_visits bins capacity target budget table short enough =
 
 -- and none for all positions at twice the capacity
 pub enough_positions : (bins capacity target budget table all : ℕ) → target ≤ 2 * capacity → FallsShort (numbers bins capacity target) budget table
-    → CountsAllEnds (numbers bins capacity (2 * capacity)) all → all ≤ table → capacity * all ≤ budget → ⊥
+    → CountsAllReachable (numbers bins capacity (2 * capacity)) all → all ≤ table → capacity * all ≤ budget → ⊥
 enough_positions bins capacity target budget table all within short counts room enough =
-    let here = ends_are_counted (numbers bins capacity target) (allowed_in (sizes_of (numbers bins capacity target)) (capacity - 1)) in
-    let fewer : here.0 ≤ all = all_ends_grow_with_the_target bins capacity target (2 * capacity) here.0 all within here.1 counts in
+    let here = reachable_positions_are_counted (numbers bins capacity target) (allowed_in (sizes_of (numbers bins capacity target)) (capacity - 1)) in
+    let fewer : here.0 ≤ all = all_reachable_positions_grow_with_the_target bins capacity target (2 * capacity) here.0 all within here.1 counts in
     let product : capacity * here.0 ≤ capacity * all = mul-le-mul_left capacity fewer in
     omega (arith, short.all_positions here.0 here.1 (omega (arith, fewer, room)), product, enough)

@@ -4,14 +4,14 @@ use Rattle.items.specs.Multiset.{sizes_of}
 use Rattle.loads.specs.Wins.{IsWon, empty_position}
 use Rattle.online_play.specs.Algorithm.{ForcesEvery}
 use Rattle.monotone.specs.Passes.{allowed_in, whole_game}
-use Rattle.monotone.specs.Positions.{CountsAllEnds}
+use Rattle.monotone.specs.Positions.{CountsAllReachable}
 use Rattle.monotone.specs.Visits.{most_visits, visit}
 use Rattle.monotone.specs.declared.path.PathMove.{PathMove}
 use Rattle.strategy_text.specs.declared.node.Strategy.{Strategy}
 use Rattle.adversary_graph.specs.Pools.{IsLegalOfAdversary}
 use Rattle.algorithm_graph.specs.Pools.{IsLegalOfAlgorithm}
 use Rattle.minimax.specs.Answers.{IsFor}
-use Rattle.minimax.specs.Budgets.{AreNumbersOfEnds, HasRoom, ends_before}
+use Rattle.minimax.specs.Budgets.{AreNumbersOfReachable, HasRoom, reachable_before}
 use Rattle.minimax.specs.Settled.{IsDue}
 use Rattle.bound_value.specs.Values.{IsValueOf}
 use Rattle.bound_value.specs.declared.valued.Valued.{Valued}
@@ -68,10 +68,10 @@ pub record FallsShort (game : GameNumbers) (budget table : ℕ) : Type 0 where
   -- all visits that there are
   pub all_visits : budget < most_visits (whole_game game)
   -- where the table has room for all positions at which legal paths end, as many visits in each pass
-  pub all_positions : (all : ℕ) → CountsAllEnds game all → all ≤ table → budget < game.capacity * all
+  pub all_positions : (all : ℕ) → CountsAllReachable game all → all ≤ table → budget < game.capacity * all
   -- then also the positions at which the legal paths of each pass end, all passes together
-  pub each_pass : (numbers : ℕ → ℕ) → AreNumbersOfEnds game numbers → HasRoom game table
-      → budget < ends_before numbers game.capacity
+  pub each_pass : (numbers : ℕ → ℕ) → AreNumbersOfReachable game numbers → HasRoom game table
+      → budget < reachable_before numbers game.capacity
   -- and where the adversary wins a pass, those of the passes up to it
-  pub won_pass : (numbers : ℕ → ℕ) (pass : ℕ) → AreNumbersOfEnds game numbers → HasRoom game table
-      → IsWon game (allowed_in (sizes_of game) pass) (empty_position game) → budget < ends_before numbers (pass + 1)
+  pub won_pass : (numbers : ℕ → ℕ) (pass : ℕ) → AreNumbersOfReachable game numbers → HasRoom game table
+      → IsWon game (allowed_in (sizes_of game) pass) (empty_position game) → budget < reachable_before numbers (pass + 1)

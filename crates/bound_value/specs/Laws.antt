@@ -1,6 +1,6 @@
 use Rattle.std.specs.Prelude.{◌≡◌, ℕ, ◌*◌, ◌<◌, ◌≤◌, Option, Some, List}
-use Rattle.items.specs.Game.{GameNumbers, HasBins, HasCapacity, numbers}
-use Rattle.monotone.specs.Positions.{CountsAllEnds, CountsEndsOfPass}
+use Rattle.items.specs.Game.{HasBins, HasCapacity, numbers}
+use Rattle.monotone.specs.Positions.{CountsAllReachable, CountsReachableOfPass}
 use Rattle.online_play.specs.Algorithm.{IsAlgorithm, KeepsBelow}
 use Rattle.bound_value.specs.Values.{IsForced, IsValueOf}
 
@@ -35,15 +35,15 @@ ValuesAreBelowTwice =
     → value < 2 * capacity
 
 -- at a higher target the legal paths of a pass end at no fewer positions
-abbrev pub EndsGrowWithTheTarget : Type 0
-EndsGrowWithTheTarget =
+abbrev pub ReachableGrowWithTheTarget : Type 0
+ReachableGrowWithTheTarget =
     (bins capacity lower higher pass few many : ℕ) → lower ≤ higher
-    → CountsEndsOfPass (numbers bins capacity lower) pass few
-    → CountsEndsOfPass (numbers bins capacity higher) pass many → few ≤ many
+    → CountsReachableOfPass (numbers bins capacity lower) pass few
+    → CountsReachableOfPass (numbers bins capacity higher) pass many → few ≤ many
 
 -- and the legal paths of all passes too
-abbrev pub AllEndsGrowWithTheTarget : Type 0
-AllEndsGrowWithTheTarget =
+abbrev pub AllReachableGrowWithTheTarget : Type 0
+AllReachableGrowWithTheTarget =
     (bins capacity lower higher few many : ℕ) → lower ≤ higher
-    → CountsAllEnds (numbers bins capacity lower) few → CountsAllEnds (numbers bins capacity higher) many
+    → CountsAllReachable (numbers bins capacity lower) few → CountsAllReachable (numbers bins capacity higher) many
     → few ≤ many

@@ -2,7 +2,7 @@
 
 ghost use Rattle.bound_value.specs.Laws.{LowerTargetsAreForced, TwiceTheCapacityIsKept};
 ghost use Rattle.bound_value.specs.Laws.{OneValue, ValuesSplitTargets, ValuesAreBelowTwice};
-ghost use Rattle.bound_value.specs.Laws.{EndsGrowWithTheTarget, AllEndsGrowWithTheTarget};
+ghost use Rattle.bound_value.specs.Laws.{ReachableGrowWithTheTarget, AllReachableGrowWithTheTarget};
 
 /// Where every algorithm is forced at a target, it is at each lower target of a game too.
 pub fn lower_targets_are_forced()
@@ -23,7 +23,7 @@ pub fn values_split_the_targets()
 {}
 
 /// The number of positions at which the legal paths of a pass end does not fall as the target grows.
-pub fn ends_grow_with_the_target()
-    ensures pass { EndsGrowWithTheTarget }
-    ensures all { AllEndsGrowWithTheTarget }
+pub fn reachable_positions_grow_with_the_target()
+    ensures pass { ReachableGrowWithTheTarget }
+    ensures all { AllReachableGrowWithTheTarget }
 {}

@@ -2,7 +2,7 @@
 
 ghost use Rattle.std.specs.Prelude.{◌≤◌, ◌<◌, ◌*◌, ◌+◌, ◌^◌, ◌≡◌, ℕ, IfOk};
 ghost use Rattle.items.specs.Game.{numbers, HasBins, HasCapacity};
-ghost use Rattle.monotone.specs.Positions.{CountsAllEnds};
+ghost use Rattle.monotone.specs.Positions.{CountsAllReachable};
 ghost use Rattle.strategy_text.specs.Spelling.{most_nodes};
 ghost use Rattle.minimax.specs.Answers.{IsAnswer};
 ghost use Rattle.bound_value.specs.Answers.{FallsShort, IfUndecided, IsDecided, IsValued};
@@ -39,7 +39,7 @@ pub fn value(alloc: Global, m: u16, g: u16, budget: u32, table: usize) -> Result
     ensures undecided { IfOk result (λ valued. IfUndecided valued (λ target.
         FallsShort (numbers m g target) budget table)) }
     ensures many_visits { g * (m + 1) ^ (m * g) ≤ budget → IfOk result IsDecided }
-    ensures all_positions { (all : ℕ) → CountsAllEnds (numbers m g (2 * g)) all → all ≤ table → g * all ≤ budget
+    ensures all_positions { (all : ℕ) → CountsAllReachable (numbers m g (2 * g)) all → all ≤ table → g * all ≤ budget
         → IfOk result IsDecided }
 {
     let mut below = None;

@@ -90,10 +90,10 @@ fn fits(items: &[u16], totals: [u16; 3], bins: usize, capacity: u16) -> bool {
     match items {
         [] => true,
         [item, rest @ ..] => {
-            for bin in 0..bins.min(3) {
+            for bin in 0..3 {
                 let mut more = totals;
                 more[bin] = more[bin].saturating_add(*item);
-                if more[bin] <= capacity && fits(rest, more, bins, capacity) {
+                if bin < bins && more[bin] <= capacity && fits(rest, more, bins, capacity) {
                     return true;
                 }
             }
@@ -112,10 +112,10 @@ fn is_won(game: &Game, items: &Nums, loads: [u16; 3], left: u16) -> Result<bool,
         let mut more = items.copy()?;
         more.push(size)?;
         let mut wins = fits(more.as_slice(), [0; 3], bins, game.g());
-        for bin in 0..bins.min(3) {
+        for bin in 0..3 {
             let mut next = loads;
             next[bin] = next[bin].saturating_add(size);
-            if wins && next[bin] < game.t() {
+            if wins && bin < bins && next[bin] < game.t() {
                 wins = is_won(game, &more, next, left - 1)?;
             }
         }

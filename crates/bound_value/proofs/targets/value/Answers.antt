@@ -1,9 +1,19 @@
-use Rattle.std.proofs.Common.{◌+◌, ℕ, arith, subst}
+use Rattle.std.proofs.Common.{ℕ, arith, subst}
 use Rattle.items.specs.Game.{numbers}
 use Rattle.minimax.specs.Answers.{IsAnswer}
 use Rattle.bound_value.specs.Targets.{FallsShortIfUndecided}
-use Rattle.bound_value.proofs.ValueLemmas.{enough_positions, made_game, none_past_twice, open_at}
+use Rattle.bound_value.proofs.ValueLemmas.{enough_positions, found_next, made_game, none_past_twice, open_at}
 use Rattle.bound_value.proofs.targets.value.Goals as goal
+
+pub loop-target-preserved : goal.loop-target-preserved
+loop-target-preserved c =
+    let target : ℕ = c.loop-target.target in
+    let game = made_game (numbers c.args.m c.args.g target) c.new.result c.unwrap-game.result c.new.ensures.exact c.unwrap-game.ensures in
+    let answer = subst (λ game. IsAnswer game c.args.budget c.in_ok-strategy.field-0) game.0 c.in_ok-strategy.ensures.answer in
+    let wins = subst (IsAnswer (numbers c.args.m c.args.g target) c.args.budget) c.in-Adversary.is answer in
+    record {
+      found = found_next c.args.m c.args.g c.args.budget target c.in-Adversary.strategy game.1.target (record { legal = wins.0; for_game = wins.1 });
+    }
 
 pub returns-in-Algorithm-clause-answer : goal.returns-in-Algorithm-clause-answer
 returns-in-Algorithm-clause-answer c =

@@ -1,0 +1,5 @@
+use Rattle.referee_session.proofs.PlayedLemmas.{each_talk_ends as each_ends}
+use Rattle.referee_session.proofs.laws.each_talk_ends.Goals as goal
+
+pub returns : goal.returns
+returns c = record { ends = each_ends }

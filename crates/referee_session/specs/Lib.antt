@@ -1,0 +1,10 @@
+pub mod Talk
+pub mod Told
+pub mod Session
+pub mod Lines
+pub mod Halt
+pub mod Due
+pub mod Answering
+pub mod Refereed
+pub mod Turns
+pub mod Laws
