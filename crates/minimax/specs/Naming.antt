@@ -75,7 +75,7 @@ pub record MayName (game : GameNumbers) (earlier : List Reply) (written : Writte
   pub pending : IsPending game earlier position entry
   pub number : MayNumber game earlier written (led_to position entry) entry.to
 
--- the same size and load, with the number of a node
+-- the entry with the number of a node, of the size and load that it had
 pub record IsNamed (before after : Written) (position : Position) (entry named : Entry) : Type 0 where
   pub size : named.size ≡ entry.size
   pub load : named.load ≡ entry.load

@@ -100,7 +100,7 @@ abbrev pub IsTriedBefore : GameNumbers → Told → List Position → Position �
 IsTriedBefore game told unnamed position =
     (pass : ℕ) → told ≡ Earlier pass → IsTriedOut game pass unnamed position
 
--- the same from each list with which the position is tried out as the table told
+-- whatever the list was, with which the position was tried out as the table told, a search came to another
 abbrev pub KeepsServingTold : GameNumbers → Told → Position → ℕ → Search → List (Position × Verdict) → Search
     → List (Position × Verdict) → (List Position → Type 0) → Type 0
 KeepsServingTold game told position took before old after new More =

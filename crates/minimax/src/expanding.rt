@@ -24,7 +24,7 @@ use crate::replies::{Replies, keep, put};
 use crate::rooms::Rooms;
 use crate::skipping::skipped;
 use crate::table::{Told, known, remember, remember_finish};
-use crate::wins::{Wins, keep_win, placements_of};
+use crate::wins::{Wins, keep_win};
 use good_situations::finishes;
 use items::laws::game_is_legal;
 use items::{Game, MOST_BINS};
@@ -100,7 +100,7 @@ pub(crate) fn expand<M: Memo>(
     look_up(game, pass, search, memo, loads, key)
 }
 
-// The same where the position does not finish. Apart from what is done at each load, so that a position that finishes
+// The verdict of a position that does not finish. Apart from what is done at each load, so that a position that finishes
 // costs no call of the recursion.
 #[cycle(expanding)]
 #[inline(never)]
@@ -214,7 +214,7 @@ fn decide<M: Memo>(
     Ok(verdict)
 }
 
-// The same by the sizes up to the room, from the largest on.
+// The verdict of a position by the sizes up to the room, from the largest on.
 #[cycle(expanding)]
 fn weigh_all<M: Memo>(
     game: &Game,
@@ -381,7 +381,7 @@ fn try_size<M: Memo>(
             Reached::Answers(verdict) => return Ok(Tried::Answered { load, verdict }),
         }
     }
-    let placements = placements_of(search.alloc, &placements[..count])?;
+    let placements = Placements::from_slice(search.alloc, &placements[..count])?;
     Ok(Tried::Wins(placements))
 }
 

@@ -66,7 +66,7 @@ pub fn solve<M: Memo>(
     search_passes(alloc, game, budget, memo)
 }
 
-// The same, pass by pass.
+// The answer of a search of a game, pass by pass.
 fn search_passes<M: Memo>(
     alloc: Global,
     game: &Game,

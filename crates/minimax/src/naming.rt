@@ -64,7 +64,7 @@ fn finish_number(game: &Game, written: &mut Written, position: &Position) -> Res
     Ok(number)
 }
 
-// The same entries, with the numbers of nodes alone.
+// The entries at a position, with the numbers of nodes alone.
 fn name_all(
     game: &Game,
     written: &mut Written,
@@ -83,7 +83,7 @@ fn name_all(
     Ok(all)
 }
 
-// The same entry, with the number of a node.
+// The entry at a position, with the number of a node.
 fn name(
     game: &Game,
     written: &mut Written,

@@ -84,19 +84,8 @@ pub(crate) fn push_reply(
     ensures { IfOk result (PutsReply replies.old replies.new position.now) }
 {
     entries.reverse();
-    let entries = entries_of(alloc, entries.as_slice())?;
+    let entries = Entries::from_slice(alloc, entries.as_slice())?;
     push_act(alloc, replies, position, Act::Reply(entries))
-}
-
-// These entries.
-fn entries_of(alloc: Global, list: &[Entry]) -> Result<Entries, AllocError>
-    ensures { IfOk result (λ made. made ≡ list.now) }
-{
-    let mut made = Entries::new(alloc);
-    for entry in list {
-        made.push(*entry)?;
-    }
-    Ok(made)
 }
 
 // Puts a node of the algorithm, and gives its number.

@@ -7,7 +7,7 @@ ghost use Rattle.minimax.specs.State.{KeepsWin};
 use items::Sequence;
 use loads::Position;
 use std::alloc::{AllocError, Global};
-use strategy_text::{Placement, Placements};
+use strategy_text::Placements;
 use transposition::Key;
 
 /// A win of the adversary at a position: the size that it sends, and what follows at each load, from the greatest on.
@@ -41,15 +41,4 @@ pub(crate) fn keep_win(
         placements,
     })?;
     Ok(number)
-}
-
-/// These placements.
-pub(crate) fn placements_of(alloc: Global, list: &[Placement]) -> Result<Placements, AllocError>
-    ensures { IfOk result (λ made. made ≡ list.now) }
-{
-    let mut made = Placements::new(alloc);
-    for placement in list {
-        made.push(*placement)?;
-    }
-    Ok(made)
 }

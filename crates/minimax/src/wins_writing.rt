@@ -56,7 +56,7 @@ fn write_win(
     push_win(alloc, pool, &win.position.position(), win.size, placements)
 }
 
-// The same placements, with the numbers of the nodes in place of those of the wins.
+// The placements of a win, with the numbers of the nodes in place of those of the wins.
 fn renumber(
     alloc: Global,
     numbers: &[u32],

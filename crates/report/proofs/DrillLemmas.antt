@@ -14,7 +14,7 @@ use Rattle.items.specs.Multiset.{sizes_of}
 use Rattle.loads.specs.Position.{StandsAt}
 use Rattle.strategy_text.specs.declared.node.AdvNode.{AdvNode}
 use Rattle.strategy_text.specs.declared.node.Format.TheVariants.{One}
-use Rattle.adversary_graph.specs.Legal.{EachMeetsRules, IsLegal}
+use Rattle.adversary_graph.specs.Legal.{IsLegal}
 use Rattle.adversary_graph.specs.Nodes.{IsOfFormat, position_of}
 use Rattle.adversary_graph.specs.Rules.{MeetsRules}
 use Rattle.algorithm_graph.proofs.PoolLemmas.{slice_get-take-within}

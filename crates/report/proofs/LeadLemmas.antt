@@ -47,7 +47,7 @@ use Rattle.algorithm_graph.specs.Judging as algorithm_judging
 use Rattle.algorithm_graph.specs.Legal as algorithm_legal
 use Rattle.algorithm_graph.specs.Nodes as algorithm
 use Rattle.algorithm_graph.proofs.SizesLemmas.{entries_of_have_sizes}
-use Rattle.report.specs.Legal.{AreLegalNodes}
+use Rattle.strategies.specs.AnyNode.{AreLegalNodes}
 use Rattle.report.specs.Measuring.{Leads, LeadsOn, EachLeadsOn}
 use Rattle.report.specs.Ways.{ends_after, goes_to, way_of, ways_of_step, ways_of_act}
 

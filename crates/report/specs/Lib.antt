@@ -1,4 +1,3 @@
-pub mod Legal
 pub mod Ways
 pub mod Walks
 pub mod Report

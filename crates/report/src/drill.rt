@@ -6,10 +6,10 @@ ghost use Rattle.std.specs.List.{range_with_len};
 ghost use Rattle.items.specs.Game.{numbers};
 ghost use Rattle.strategy_text.specs.Text.{nodes_of, side_of};
 ghost use Rattle.strategy_text.specs.declared.node.Side.TheVariants.{Adversary};
+ghost use Rattle.strategies.specs.AnyNode.{IsLegal};
 ghost use Rattle.report.specs.Drill.{choice, copy_of_1, copy_of_3, drill, drill_nodes};
 ghost use Rattle.report.specs.Drill.{node_0, node_1, node_2, node_3, node_4, over, sends, to};
 ghost use Rattle.report.specs.Drawing.{HasGiven};
-ghost use Rattle.report.specs.Legal.{IsLegal};
 
 use items::{Game, Nums};
 use packing_witness::Packing;
@@ -207,7 +207,7 @@ fn sends(
         step: Step::Send {
             size,
             pack: Some(packing_of(alloc, pack)?),
-            placements: placements_of(alloc, placements)?,
+            placements: Placements::from_slice(alloc, placements)?,
         },
     })
 }
@@ -220,16 +220,6 @@ fn packing_of(alloc: Global, bins: &[&[u16]]) -> Result<Packing, AllocError>
         packing.push_bin(Nums::from_slice(alloc, bin)?)?;
     }
     Ok(packing)
-}
-
-fn placements_of(alloc: Global, list: &[Placement]) -> Result<Placements, AllocError>
-    ensures { IfOk result (λ placements. placements ≡ list.now) }
-{
-    let mut placements = Placements::new(alloc);
-    for placement in list {
-        placements.push(*placement)?;
-    }
-    Ok(placements)
 }
 
 // The play is over where the item goes to a bin of this load.

@@ -1,7 +1,7 @@
 //! What a strategy shows, in numbers.
 
 ghost use Rattle.std.specs.Prelude.{IfOk};
-ghost use Rattle.report.specs.Legal.{IsLegal};
+ghost use Rattle.strategies.specs.AnyNode.{IsLegal};
 ghost use Rattle.report.specs.Report.{IsReportOf};
 
 use crate::depth::depth_of;

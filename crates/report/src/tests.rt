@@ -1,5 +1,10 @@
-ghost use Rattle.std.specs.Prelude.{◌≡◌, IfOk};
+ghost use Rattle.std.specs.Prelude.{◌≡◌};
+ghost use Rattle.items.specs.Multiset.{sizes_of};
 ghost use Rattle.strategy_text.specs.declared.node.Format.TheVariants.{Two};
+ghost use Rattle.node_pool.specs.Pools.{terms_in};
+ghost use Rattle.adversary_graph.specs.Pools as adversary;
+ghost use Rattle.algorithm_graph.specs.Pools as algorithm;
+ghost use Rattle.strategies.specs.AnyNode.{IsLegal};
 
 use crate::{Report, drill_strategy, summarise};
 use adversary_graph::AdvPool;
@@ -63,47 +68,69 @@ const FINISH: &[&str] = &["0 loads 0 0 items - finish"];
 const FINISH_8: &[&str] = &["0 loads 0 0 0 0 0 0 0 0 items - finish"];
 
 // Puts a node of the adversary into a pool; false where it is no node or breaks a rule.
-fn put_adversary(alloc: Global, pool: &mut AdvPool, line: &str) -> Result<bool, AllocError> {
+fn put_adversary(alloc: Global, pool: &mut AdvPool, line: &str) -> Result<bool, AllocError>
+    ensures { terms_in pool.new ≡ terms_in pool.old }
+{
     let Some(node) = parse_adversary(alloc, pool.format(), line.as_bytes(), pool.len())? else {
         return Ok(false);
     };
-    let earlier = pool.positions();
-    let fault = adversary_graph::node_fault(&pool.game(), pool.format(), earlier, false, &node);
-    if let Some(_rule) = fault {
+    if pool.len() >= 4_000_000_000 {
         return Ok(false);
     }
-    if pool.len() < 4_000_000_000 {
-        let _number = pool.push(node)?;
+    match adversary_graph::judge(pool.terms(), pool.positions(), false, &node) {
+        Some(_rule) => Ok(false),
+        None => {
+            let _number = pool.push(node)?;
+            Ok(true)
+        }
     }
-    Ok(true)
 }
 
 // Puts a node of the algorithm into a pool of format 2; false where it is no node or breaks a rule.
 fn put_algorithm(alloc: Global, pool: &mut AlgPool, line: &str) -> Result<bool, AllocError>
-    requires { pool.old.format ≡ Two }
-    ensures { pool.new.format ≡ Two }
+    ensures { terms_in pool.new ≡ terms_in pool.old }
 {
-    match parse_algorithm(alloc, Format::Two, line.as_bytes(), pool.len())? {
-        Some(node) => push_algorithm(alloc, pool, node),
-        None => Ok(false),
+    match pool.format() {
+        Format::One => Ok(false),
+        Format::Two => match parse_algorithm(alloc, Format::Two, line.as_bytes(), pool.len())? {
+            Some(node) => push_algorithm(alloc, pool, node),
+            None => Ok(false),
+        },
     }
 }
 
 fn push_algorithm(alloc: Global, pool: &mut AlgPool, node: AlgNode) -> Result<bool, AllocError>
     requires { pool.old.format ≡ Two }
-    ensures { pool.new.format ≡ Two }
+    ensures { terms_in pool.new ≡ terms_in pool.old }
 {
-    let game = pool.game();
-    match algorithm_graph::node_fault(alloc, &game, pool.positions(), false, &node)? {
+    if pool.len() >= 4_000_000_000 {
+        return Ok(false);
+    }
+    match algorithm_graph::judge(alloc, pool.terms(), pool.positions(), false, &node)? {
         Some(_rule) => Ok(false),
         None => {
-            if pool.len() >= 4_000_000_000 {
-                return Ok(false);
-            }
             let _number = pool.push(node)?;
             Ok(true)
         }
     }
+}
+
+// The strategy of a pool of the whole game.
+fn adversary_strategy(pool: AdvPool, root: u32) -> Strategy
+    requires root { adversary.IsRoot pool.nodes root }
+    requires whole { pool.sizes ≡ sizes_of pool.game }
+    ensures { IsLegal result }
+{
+    pool.into_strategy(root)
+}
+
+// The strategy of a pool of the whole game.
+fn algorithm_strategy(pool: AlgPool, root: u32) -> Strategy
+    requires root { algorithm.IsRoot pool.nodes root }
+    requires whole { pool.sizes ≡ sizes_of pool.game }
+    ensures { IsLegal result }
+{
+    pool.into_strategy(root)
 }
 
 // What a report tells: the side, the nodes, the depth, and the target over the capacity.
@@ -119,7 +146,9 @@ fn told(report: &Report) -> Told {
     )
 }
 
-fn fill_adversary(alloc: Global, pool: &mut AdvPool, lines: &[&str]) -> Result<bool, AllocError> {
+fn fill_adversary(alloc: Global, pool: &mut AdvPool, lines: &[&str]) -> Result<bool, AllocError>
+    ensures { terms_in pool.new ≡ terms_in pool.old }
+{
     for line in lines {
         if !put_adversary(alloc, pool, line)? {
             return Ok(false);
@@ -128,40 +157,8 @@ fn fill_adversary(alloc: Global, pool: &mut AdvPool, lines: &[&str]) -> Result<b
     Ok(true)
 }
 
-// Whether the report of the strategy of a pool tells this.
-#[tactic(auto, using(crate::proofs::LegalLemmas::legal_of_adversary))]
-fn reports_adversary(alloc: Global, pool: AdvPool, wanted: Told) -> Result<bool, AllocError> {
-    let root = pool.len().saturating_sub(1);
-    if !pool.is_root(root) {
-        return Ok(false);
-    }
-    let strategy = pool.into_strategy(root);
-    let report = summarise(alloc, &strategy)?;
-    Ok(told(&report) == wanted)
-}
-
-// Whether the report of the strategy of these nodes tells this.
-fn of_adversary(
-    alloc: Global,
-    format: Format,
-    lines: &[&str],
-    wanted: Told,
-) -> Result<bool, AllocError> {
-    match Game::new(2, 3, 4) {
-        Ok(game) => {
-            let mut pool = AdvPool::new(alloc, &game, format);
-            if !fill_adversary(alloc, &mut pool, lines)? {
-                return Ok(false);
-            }
-            reports_adversary(alloc, pool, wanted)
-        }
-        Err(_) => Ok(false),
-    }
-}
-
 fn fill_algorithm(alloc: Global, pool: &mut AlgPool, lines: &[&str]) -> Result<bool, AllocError>
-    requires { pool.old.format ≡ Two }
-    ensures { pool.new.format ≡ Two }
+    ensures { terms_in pool.new ≡ terms_in pool.old }
 {
     for line in lines {
         if !put_algorithm(alloc, pool, line)? {
@@ -171,17 +168,32 @@ fn fill_algorithm(alloc: Global, pool: &mut AlgPool, lines: &[&str]) -> Result<b
     Ok(true)
 }
 
-#[tactic(auto, using(crate::proofs::LegalLemmas::legal_of_algorithm))]
-fn reports_algorithm(alloc: Global, pool: AlgPool, wanted: Told) -> Result<bool, AllocError> {
-    let root = pool.len().saturating_sub(1);
-    if !pool.is_root(root) {
-        return Ok(false);
-    }
-    let strategy = pool.into_strategy(root);
+// Whether the report of a legal strategy tells this.
+fn tells(alloc: Global, strategy: Strategy, wanted: Told) -> Result<bool, AllocError>
+    requires { IsLegal strategy }
+{
     let report = summarise(alloc, &strategy)?;
     Ok(told(&report) == wanted)
 }
 
+// Whether the report of the strategy of these nodes of the adversary tells this.
+fn of_adversary(
+    alloc: Global,
+    game: &Game,
+    format: Format,
+    lines: &[&str],
+    wanted: Told,
+) -> Result<bool, AllocError> {
+    let mut pool = AdvPool::new(alloc, game, format);
+    let filled = fill_adversary(alloc, &mut pool, lines)?;
+    let root = pool.len().saturating_sub(1);
+    if !filled || !pool.is_root(root) {
+        return Ok(false);
+    }
+    tells(alloc, adversary_strategy(pool, root), wanted)
+}
+
+// Whether the report of the strategy of these nodes of the algorithm tells this.
 fn of_algorithm(
     alloc: Global,
     game: &Game,
@@ -189,22 +201,26 @@ fn of_algorithm(
     wanted: Told,
 ) -> Result<bool, AllocError> {
     let mut pool = AlgPool::new(alloc, game, Format::Two);
-    if !fill_algorithm(alloc, &mut pool, lines)? {
+    let filled = fill_algorithm(alloc, &mut pool, lines)?;
+    let root = pool.len().saturating_sub(1);
+    if !filled || !pool.is_root(root) {
         return Ok(false);
     }
-    reports_algorithm(alloc, pool, wanted)
+    tells(alloc, algorithm_strategy(pool, root), wanted)
 }
 
 #[test]
-fn strategies_of_the_adversary_are_reported(rt: HostRuntime) {
+fn strategies_of_the_adversary_are_reported(rt: HostRuntime) -> Result<(), Fail> {
+    let game = Game::new(2, 3, 4)?;
     for (format, lines, nodes) in [
         (Format::One, X, 5),
         (Format::One, COPIES, 7),
         (Format::Two, BURSTS, 4),
     ] {
         let wanted = (Side::Adversary, nodes, 4, 4, 3);
-        assert!(rt; of_adversary(rt.alloc(), format, lines, wanted) == Ok(true));
+        assert!(rt; of_adversary(rt.alloc(), &game, format, lines, wanted) == Ok(true));
     }
+    Ok(())
 }
 
 #[test]
@@ -272,9 +288,7 @@ fn drills(alloc: Global, number: u64, copies: u32, wanted: Told) -> Result<bool,
     if copies < 1 || copies > 2_000 {
         return Ok(false);
     }
-    let strategy = drill_strategy(alloc, number, copies)?;
-    let report = summarise(alloc, &strategy)?;
-    Ok(told(&report) == wanted)
+    tells(alloc, drill_strategy(alloc, number, copies)?, wanted)
 }
 
 #[test]

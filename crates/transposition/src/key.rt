@@ -116,7 +116,7 @@ impl Key {
         }
     }
 
-    /// The same position.
+    /// A key of this position.
     pub fn copy(&self) -> Result<Key, AllocError>
         ensures ok { IfOk result (λ made. made ≡ self.now) }
         ensures small { are_small self.now.items ≡ true → IsOk result }

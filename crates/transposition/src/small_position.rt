@@ -115,7 +115,7 @@ impl SmallPosition {
         items
     }
 
-    /// The same position.
+    /// A copy of this position.
     pub(crate) fn copy(&self) -> SmallPosition
         ensures { result ≡ self.now }
     {
