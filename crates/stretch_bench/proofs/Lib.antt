@@ -1,5 +1,2 @@
 mod LineLemmas
-mod WordLemmas
 mod Fronts
-mod DueLemmas
-mod OutcomeLemmas

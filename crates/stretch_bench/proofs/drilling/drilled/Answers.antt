@@ -1,0 +1,6 @@
+use Rattle.std.proofs.Common.{inl}
+use Rattle.stretch_bench.proofs.OutcomeLemmas.{spellable}
+use Rattle.stretch_bench.proofs.drilling.drilled.Goals as goal
+
+pub text_of-requires : goal.text_of-requires
+text_of-requires c = spellable c.in_ok-strategy.strategy (inl c.in_ok-strategy.ensures.legal)

@@ -1,0 +1,67 @@
+//! The command `play`.
+
+ghost use Rattle.std.specs.Prelude.{◌≡◌, ℕ, List, IfOk, MatchOption, map};
+ghost use Rattle.adversary_graph.specs.Pools.{IsLegalOfAdversary};
+ghost use Rattle.items.specs.Game.{GameNumbers};
+ghost use Rattle.stretch_bench.specs.Call.{Players};
+ghost use Rattle.stretch_bench.specs.Commands.{Spells, spelling_of};
+ghost use Rattle.stretch_bench.specs.Pieces.{IsDueWith};
+ghost use Rattle.stretch_bench.specs.Play.{IsFirstNamed, IsPlayOf};
+ghost use Rattle.stretch_bench.specs.declared.command.Command.TheVariants.{Play};
+ghost use Rattle.stretch_bench.specs.declared.status.Status.TheVariants.{Done};
+
+use crate::due::Due;
+use crate::status::Status;
+use adversary_graph::{AdvPool, refute};
+use match_player::match_text;
+use online_play::{Online, Player};
+use std::alloc::{AllocError, Global};
+use strategy_text::Strategy;
+
+/// The place of the player that the words `play NAME` mean.
+pub(crate) fn player_of(words: &[String], players: &Vec<Player>) -> Option<usize>
+    ensures { (answers : List (GameNumbers → List ℕ → ℕ))
+        → let players : Players = record { names = map (λ player. player.name) players.now.items; answers = answers } in
+        MatchOption result
+        ((place : ℕ) → Spells players (spelling_of words.now) (Play place) → ⊥)
+        (λ place. Spells players (spelling_of words.now) (Play place)) }
+{
+    let [first, name] = words else {
+        return None;
+    };
+    if first.as_str() != "play" {
+        return None;
+    }
+    place_of(name.as_str(), players)
+}
+
+// The place of the first player with this name.
+fn place_of(name: &str, players: &Vec<Player>) -> Option<usize>
+    ensures { let names = map (λ player. player.name) players.now.items in MatchOption result
+        ((place : ℕ) → IsFirstNamed names name.now place → ⊥)
+        (IsFirstNamed names name.now) }
+{
+    for place in 0..players.len() {
+        if players[place].name.as_str() == name {
+            return Some(place);
+        }
+    }
+    None
+}
+
+/// The lines of the play of a legal strategy against a player.
+pub(crate) fn played(
+    alloc: Global,
+    player: &Player,
+    strategy: Strategy,
+) -> Result<Due, AllocError>
+    requires legal { IsLegalOfAdversary strategy }
+    ensures play { let answer = (⟦<dyn Online as Online>⟧ player.now.player.vtable).answer player.now.player.value in
+        IfOk result (IsDueWith Done (IsPlayOf player.now.name answer strategy)) }
+{
+    let game = strategy.game;
+    let pool = AdvPool::from_strategy(alloc, strategy)?;
+    let transcript = refute(alloc, &pool, pool.len() - 1, &player.player)?;
+    let lines = match_text(alloc, player.name.as_str(), &game, &transcript)?;
+    Ok(Due::of_lines(Status::Done, lines))
+}
