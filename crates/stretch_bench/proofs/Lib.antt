@@ -1,2 +1,12 @@
+mod WordLemmas
 mod LineLemmas
 mod Fronts
+mod LegalLemmas
+mod OnceLemmas
+mod PlayLemmas
+mod AnswerLemmas
+mod OutcomeLemmas
+mod WriteLemmas
+mod RunLemmas
+mod AcceptedLemmas
+mod CommandLemmas

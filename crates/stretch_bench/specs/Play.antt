@@ -1,6 +1,5 @@
 -- The command `play`: a strategy of the adversary against a player.
-use Rattle.std.specs.Prelude.{◌≡◌, ◌≢◌, ℕ, ◌-◌, ◌<◌, List, [], ◌∷◌, Some, codes, length, slice_get}
-use Rattle.std.specs.List.{slice_index_or}
+use Rattle.std.specs.Prelude.{◌≡◌, ◌≢◌, ℕ, ◌-◌, ◌<◌, List, [], ◌∷◌, Some, codes, length, slice_get, unwrap_or}
 use Rattle.adversary_graph.specs.Play.{IsLost, play}
 use Rattle.adversary_graph.specs.Playing.{play_of}
 use Rattle.checker.specs.declared.fault.Wanted.TheVariants.{Only}
@@ -21,7 +20,7 @@ pub record IsFirstNamed (names : List (List ℕ)) (name : List ℕ) (place : ℕ
 
 -- the name of the player at a place
 abbrev pub name_at : List (List ℕ) → ℕ → List ℕ
-name_at names place = slice_index_or names place []
+name_at names place = unwrap_or (slice_get names place) []
 
 -- the lines of the play of a strategy of the adversary, from its last node on, against a player, who loses
 pub record IsPlayOf (name : List ℕ) (answer : GameNumbers → List ℕ → ℕ) (strategy : Strategy)

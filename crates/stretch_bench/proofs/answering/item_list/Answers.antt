@@ -1,4 +1,4 @@
-use Rattle.stretch_bench.proofs.WordLemmas.{no_item}
+use Rattle.stretch_bench.proofs.AnswerLemmas.{no_item}
 use Rattle.stretch_bench.proofs.answering.item_list.Goals as goal
 
 pub returns-in_default : goal.returns-in_default

@@ -1,5 +1,5 @@
 use Rattle.std.proofs.Common.{inl}
-use Rattle.stretch_bench.proofs.OutcomeLemmas.{spellable}
+use Rattle.stretch_bench.proofs.LegalLemmas.{spellable}
 use Rattle.stretch_bench.proofs.drilling.drilled.Goals as goal
 
 pub text_of-requires : goal.text_of-requires

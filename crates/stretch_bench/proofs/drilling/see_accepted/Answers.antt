@@ -1,5 +1,5 @@
 use Rattle.std.proofs.Common.{◌∙◌}
-use Rattle.stretch_bench.proofs.OutcomeLemmas.{no_fault}
+use Rattle.stretch_bench.proofs.LegalLemmas.{no_fault}
 use Rattle.stretch_bench.proofs.drilling.see_accepted.Goals as goal
 
 pub unreachable-requires-in-Err-Rejected : goal.unreachable-requires-in-Err-Rejected

@@ -1,5 +1,5 @@
 use Rattle.std.proofs.Common.{arith}
-use Rattle.stretch_bench.proofs.WordLemmas.{named_here, not_named_here, none_named}
+use Rattle.stretch_bench.proofs.PlayLemmas.{named_here, not_named_here, none_named}
 use Rattle.stretch_bench.proofs.playing.place_of.Goals as goal
 
 pub returns-then-eq : goal.returns-then-eq

@@ -1,5 +1,5 @@
 use Rattle.std.proofs.Common.{◌≡◌, [], ◌∷◌, ◌++◌, take}
-use Rattle.stretch_bench.specs.Lines.{move_word}
+use Rattle.stretch_bench.specs.Search.{move_word}
 use Rattle.strategy_text.proofs.Spaced.{each_spaced}
 use Rattle.stretch_bench.proofs.searching.put_moves.Given as goal
 

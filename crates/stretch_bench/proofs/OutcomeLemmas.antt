@@ -1,0 +1,223 @@
+-- What the work of a command comes to.
+use Rattle.std.proofs.Common.{◌≡◌, ◌⊎◌, ◌*◌, ◌≤◌, ◌<◌, ◌+◌, ◌++◌, ℕ, List, [], length, ⊎_elim}
+use Rattle.std.proofs.Common.{Option, Some, None, Result, Ok, Err, IfOk, inl, inr, sym, ap, subst, refl, ◌∙◌, arith, append-nil}
+use Rattle.std.proofs.lemmas.Bool.{cases_lt}
+use Rattle.std.specs.Prelude.{slice_get, MatchOption}
+use Rattle.items.specs.Game.{GameNumbers}
+use Rattle.items.specs.Multiset.{sizes_of}
+use Rattle.checker.specs.Accepted.{Accepts, IsFaultOf, Loads}
+use Rattle.checker.specs.declared.fault.Accepted.{Accepted}
+use Rattle.checker.specs.declared.fault.CheckFault.{CheckFault}
+use Rattle.checker.specs.declared.fault.CheckFault.TheVariants as check_fault
+use Rattle.checker.specs.declared.fault.Wanted.{Wanted}
+use Rattle.checker.specs.declared.fault.Wanted.TheVariants.{Either, Only}
+use Rattle.checker.specs.declared.fault.Why.{Why}
+use Rattle.loads.specs.Wins.{IsWon, empty_position}
+use Rattle.minimax.specs.Answers.{IsAnswer, IsDecided, IsFor}
+use Rattle.minimax.specs.Budgets.{AreNumbersOfEnds, HasRoom, IsOfAdversary, ends_before}
+use Rattle.minimax.specs.declared.answer.Answer.{Answer as SearchAnswer}
+use Rattle.minimax.specs.declared.answer.Answer.TheVariants as answers
+use Rattle.minimise.specs.Strategies.{IsLegal, canonical_form}
+use Rattle.minimise.specs.Upgrade.{IsCanonicalUpgrade}
+use Rattle.minimise.proofs.StrategyLemmas.{canonical_forms_have_no_more_nodes}
+use Rattle.monotone.specs.Passes.{allowed_in, whole_game}
+use Rattle.monotone.specs.Positions.{CountsAllEnds}
+use Rattle.monotone.specs.Visits.{most_visits}
+use Rattle.monotone.specs.declared.path.PathMove.{PathMove}
+use Rattle.strategy_text.specs.Text.{nodes_of, side_of, text_of}
+use Rattle.strategy_text.specs.declared.node.Side.TheVariants.{Adversary, Algorithm}
+use Rattle.strategy_text.specs.declared.node.Strategy.{Strategy}
+use Rattle.stretch_bench.specs.Answer.{IsAnswerOf, IsUnpackable}
+use Rattle.stretch_bench.specs.Call.{Players}
+use Rattle.stretch_bench.specs.Check.{IsAcceptedLine, accepted_line}
+use Rattle.stretch_bench.specs.Commands.{Spells, SpellsNone, form_of, wanted_by}
+use Rattle.stretch_bench.specs.Drill.{drilled}
+use Rattle.stretch_bench.specs.Due.{IsOutcome, IsRejected, done, rejected, undecided, unpackable}
+use Rattle.stretch_bench.specs.Form.{IsDone, IsRead, wanted_of}
+use Rattle.stretch_bench.specs.Lines.{rejected_line}
+use Rattle.stretch_bench.specs.Minimise.{IsMinimised}
+use Rattle.stretch_bench.specs.Pieces.{IsDueWith, IsEither, IsMade, IsStop, IsStopOf, due_text}
+use Rattle.stretch_bench.specs.Play.{IsPlayAt, IsPlayOf}
+use Rattle.stretch_bench.specs.Report.{IsSummaryOf}
+use Rattle.stretch_bench.specs.Search.{IsFound, IsUndecided, undecided_line}
+use Rattle.stretch_bench.specs.Upgrade.{IsUpgraded}
+use Rattle.stretch_bench.specs.declared.command.Command.{Command}
+use Rattle.stretch_bench.specs.declared.command.Command.TheVariants.{Check, Play, Answer, Minimise, Upgrade, Report, Drill, Search}
+use Rattle.stretch_bench.specs.declared.due.Due.{Due}
+use Rattle.stretch_bench.specs.declared.due.Stop.{Stop}
+use Rattle.stretch_bench.specs.declared.due.Stop.TheVariants.{Memory}
+use Rattle.stretch_bench.specs.declared.status.Status.{Status}
+use Rattle.stretch_bench.specs.declared.status.Status.TheVariants.{Done, Rejected, Undecided, Unpackable}
+use Rattle.stretch_bench.proofs.LegalLemmas.{canonical_alike, canonical_is, upgrade_alike, upgrade_is}
+
+-- another kind of text
+pub due_as : (status : Status) (Is Also : List ℕ → Type 0) (due : Due) → ((text : List ℕ) → Is text → Also text) → IsDueWith status Is due → IsDueWith status Also due
+due_as status Is Also due gives with = record { status_is = with.status_is; writable = with.writable; text = gives (due_text due) with.text }
+
+-- a text that is known
+pub due_is : (status : Status) (Is : List ℕ → Type 0) (known : List ℕ) (due : Due) → Is known → IsDueWith status (λ text. text ≡ known) due → IsDueWith status Is due
+due_is status Is known due is with = due_as status (λ text. text ≡ known) Is due (λ text e. subst Is (sym e) is) with
+
+module _ (players : Players) (left new_left : Option (List ℕ)) where
+  -- a command is done
+  done_with : (command : Command) (Is : List ℕ → Type 0) (due : Due)
+      → ((text : List ℕ) → Is text → IsDone (form_of players command).work left new_left text)
+      → IsDueWith Done Is due → IsMade players left new_left command due
+  done_with command Is due gives with = record { outcome = done with.status_is (gives (due_text due) with.text); writable = with.writable }
+
+  -- a command under another name
+  pub made_as : (one other : Command) (due : Due) → one ≡ other → IsMade players left new_left other due → IsMade players left new_left one due
+  made_as one other due e made = subst (λ (command : Command). IsMade players left new_left command due) (sym e) made
+
+  pub check_made : (due : Due) → IsDueWith Done (λ text. IsRead Either left new_left (λ strategy. IsAcceptedLine strategy text)) due
+      → IsMade players left new_left Check due
+  check_made due with = done_with Check (λ text. IsRead Either left new_left (λ strategy. IsAcceptedLine strategy text)) due (λ text read. read) with
+
+  pub play_made : (place : ℕ) (name : List ℕ) (answer : GameNumbers → List ℕ → ℕ) (strategy : Strategy) (due : Due)
+      → slice_get players.names place ≡ Some name → slice_get players.answers place ≡ Some answer → Loads (Only Adversary) strategy left new_left
+      → IsDueWith Done (IsPlayOf name answer strategy) due → IsMade players left new_left (Play place) due
+  play_made place name answer strategy due named so loads with =
+      done_with (Play place) (IsPlayOf name answer strategy) due
+      (λ text play. record {
+        strategy = strategy;
+        loads = loads;
+        is = record { name = name; named = named; answer = answer; answers_so = so; play = play };
+      })
+      with
+
+  pub answer_made : (items : List ℕ) (strategy : Strategy) (due : Due) → Loads (Only Algorithm) strategy left new_left
+      → IsEither Done (IsAnswerOf items strategy) Unpackable (IsUnpackable items strategy) due → IsMade players left new_left (Answer items) due
+  answer_made items strategy due loads (inl with) =
+      done_with (Answer items) (IsAnswerOf items strategy) due (λ text is. record { strategy = strategy; loads = loads; is = is }) with
+  answer_made items strategy due loads (inr with) = record {
+    outcome = unpackable items with.status_is refl (record { strategy = strategy; loads = loads; is = with.text });
+    writable = with.writable;
+  }
+
+  pub minimise_made : (strategy : Strategy) (due : Due) → Loads Either strategy left new_left → IsDueWith Done (IsMinimised strategy) due
+      → IsMade players left new_left Minimise due
+  minimise_made strategy due loads with =
+      done_with Minimise (IsMinimised strategy) due (λ text is. record { strategy = strategy; loads = loads; is = is }) with
+
+  pub upgrade_made : (strategy : Strategy) (due : Due) → Loads Either strategy left new_left → IsDueWith Done (IsUpgraded strategy) due
+      → IsMade players left new_left Upgrade due
+  upgrade_made strategy due loads with =
+      done_with Upgrade (IsUpgraded strategy) due (λ text is. record { strategy = strategy; loads = loads; is = is }) with
+
+  pub report_made : (strategy : Strategy) (due : Due) → Loads Either strategy left new_left → IsDueWith Done (IsSummaryOf strategy) due
+      → IsMade players left new_left Report due
+  report_made strategy due loads with =
+      done_with Report (IsSummaryOf strategy) due (λ text is. record { strategy = strategy; loads = loads; is = is }) with
+
+  pub drill_made : (number copies : ℕ) (due : Due) → new_left ≡ left → IsDueWith Done (λ text. text ≡ drilled number copies) due
+      → IsMade players left new_left (Drill number copies) due
+  drill_made number copies due unread with =
+      done_with (Drill number copies) (λ text. text ≡ drilled number copies) due (λ text is. (unread, is)) with
+
+  pub search_made : (game : GameNumbers) (budget table : ℕ) (due : Due) → new_left ≡ left
+      → IsEither Done (IsFound game budget) Undecided (IsUndecided game budget table) due → IsMade players left new_left (Search game budget table) due
+  search_made game budget table due unread (inl with) =
+      done_with (Search game budget table) (IsFound game budget) due (λ text is. (unread, is)) with
+  search_made game budget table due unread (inr with) =
+      record { outcome = undecided game budget table with.status_is refl unread with.text; writable = with.writable }
+
+  -- the line of a fault
+  fault_by : (command : Command) (wanted : Option Wanted) (fault : CheckFault) (r : Result Due Stop) → wanted_by players command ≡ wanted
+      → IsStopOf wanted left new_left fault
+      → ((w : Wanted) (l n : Option (List ℕ)) → IsStop w l n fault → IfOk r (IsDueWith Rejected (IsRejected w l n)))
+      → (fault ≡ check_fault.Memory → r ≡ Err Memory) → IfOk r (IsMade players left new_left command)
+  fault_by command None fault (Ok due) e stop gives memory = absurd (let never : Ok due ≡ Err Memory = memory stop in cc)
+  fault_by command (Some wanted) fault (Ok due) e stop gives memory =
+      let with : IsDueWith Rejected (IsRejected wanted left new_left) due = gives wanted left new_left stop in
+      record { outcome = rejected wanted with.status_is e with.text; writable = with.writable }
+  fault_by command wanted fault (Err why) e stop gives memory = tt
+
+  pub fault_due : (command : Command) (fault : CheckFault) (r : Result Due Stop) → IsStopOf (wanted_by players command) left new_left fault
+      → ((w : Wanted) (l n : Option (List ℕ)) → IsStop w l n fault → IfOk r (IsDueWith Rejected (IsRejected w l n)))
+      → (fault ≡ check_fault.Memory → r ≡ Err Memory) → IfOk r (IsMade players left new_left command)
+  fault_due command fault r stop gives memory = fault_by command (wanted_by players command) fault r refl stop gives memory
+
+-- ---- what is made
+
+-- the replies of a strategy whose text is known
+pub minimise_due : (strategy made : Strategy) (due : Due) → IsLegal strategy → made ≡ canonical_form strategy → IsDueWith Done (λ text. text ≡ text_of made) due
+    → IsDueWith Done (IsMinimised strategy) due
+minimise_due strategy made due legal is with =
+    due_is Done (IsMinimised strategy) (text_of made) due
+    (record { canonical = canonical_is strategy legal; alike = canonical_alike strategy; spelled = ap text_of is })
+    with
+
+pub upgrade_due : (strategy made : Strategy) (due : Due) → IsLegal strategy → IsCanonicalUpgrade strategy made → IsDueWith Done (λ text. text ≡ text_of made) due
+    → IsDueWith Done (IsUpgraded strategy) due
+upgrade_due strategy made due legal is with =
+    due_is Done (IsUpgraded strategy) (text_of made) due
+    (record { made = made; upgrade = is; canonical = upgrade_is strategy made legal is; alike = upgrade_alike strategy made is; spelled = refl })
+    with
+
+-- the canonical form of a strategy that was found
+pub found_due : (game : GameNumbers) (budget : ℕ) (strategy made : Strategy) (due : Due) → IsLegal strategy → IsFor game budget strategy
+    → made ≡ canonical_form strategy → IsDueWith Done (λ text. text ≡ text_of made) due → IsDueWith Done (IsFound game budget) due
+found_due game budget strategy made due legal for is with =
+    due_is Done (IsFound game budget) (text_of made) due
+    (record {
+      strategy = canonical_form strategy;
+      canonical = canonical_is strategy legal;
+      of_game = for.of_game;
+      of_format = for.of_format;
+      few = omega (arith, canonical_forms_have_no_more_nodes strategy legal, for.few);
+      spelled = ap text_of is;
+    })
+    with
+
+-- a number that is not at least another
+less : (a b : ℕ) → (a ≤ b → ⊥) → b < a
+less a b not = ⊎_elim (λ (l : b < a). l) (λ (m : a ≤ b). absurd (not m)) (cases_lt b a)
+
+-- the visit that was due where a search spent its budget
+pub undecided_due : (game : GameNumbers) (budget table room visits pass : ℕ) (path : List PathMove) (answer : SearchAnswer) (line : List ℕ) (due : Due)
+    → answer ≡ answers.Undecided visits pass path → room ≡ table → IsAnswer game budget answer
+    → (most_visits (whole_game game) ≤ budget → IsDecided answer)
+    → ((all : ℕ) → CountsAllEnds game all → all ≤ room → game.capacity * all ≤ budget → IsDecided answer)
+    → ((numbers : ℕ → ℕ) → AreNumbersOfEnds game numbers → HasRoom game room → ends_before numbers game.capacity ≤ budget → IsDecided answer)
+    → ((numbers : ℕ → ℕ) (won : ℕ) → AreNumbersOfEnds game numbers → HasRoom game room
+    → IsWon game (allowed_in (sizes_of game) won) (empty_position game) → ends_before numbers (won + 1) ≤ budget → IsOfAdversary answer)
+    → line ≡ undecided_line game visits pass path → IsDueWith Undecided (λ text. text ≡ line) due → IsDueWith Undecided (IsUndecided game budget table) due
+undecided_due game budget table room visits pass path answer line due e same is many all each won told with =
+    let at = subst (IsAnswer game budget) e is in
+    due_is Undecided (IsUndecided game budget table) line due
+    (record {
+      pass = pass;
+      path = path;
+      due = at.1;
+      fewer_than_visits = less (most_visits (whole_game game)) budget (λ h. subst IsDecided e (many h));
+      fewer_than_positions = λ number counts within. less (game.capacity * number) budget
+          (λ h. subst IsDecided e (all number counts (subst (λ (r : ℕ). number ≤ r) (sym same) within) h));
+      fewer_than_passes = λ numbers are room_for. less (ends_before numbers game.capacity) budget
+          (λ h. subst IsDecided e (each numbers are (subst (HasRoom game) (sym same) room_for) h));
+      fewer_than_won = λ numbers pass are room_for is_won. less (ends_before numbers (pass + 1)) budget
+          (λ h. subst IsOfAdversary e (won numbers pass are (subst (HasRoom game) (sym same) room_for) is_won h));
+      line = told ∙ ap (λ (v : ℕ). undecided_line game v pass path) at.0;
+    })
+    with
+
+-- the line of a strategy that was accepted
+pub accepted_due : (accepted : Accepted) (left new_left : Option (List ℕ)) (line : List ℕ) (due : Due) → Accepts Either accepted left new_left
+    → line ≡ accepted_line accepted → IsDueWith Done (λ text. text ≡ line) due
+    → IsDueWith Done (λ text. IsRead Either left new_left (λ strategy. IsAcceptedLine strategy text)) due
+accepted_due accepted left new_left line due accepts told with =
+    let strategy = accepts.strategy in
+    let same : accepted ≡ record { game = strategy.game; side = side_of strategy.nodes; nodes = length (nodes_of strategy.nodes) } =
+    λ i. record { game = accepts.game i; side = accepts.side i; nodes = accepts.number i } in
+    due_is Done (λ text. IsRead Either left new_left (λ strategy. IsAcceptedLine strategy text)) line due
+    (record { strategy = strategy; loads = accepts.loads; is = told ∙ ap accepted_line same })
+    with
+
+-- the line of a fault that was found
+pub rejected_due : (wanted : Wanted) (left new_left : Option (List ℕ)) (fault : CheckFault) (at : ℕ) (why : Why) (line : List ℕ) (due : Due)
+    → fault ≡ check_fault.Rejected at why → IsStop wanted left new_left fault → line ≡ rejected_line at why
+    → IsDueWith Rejected (λ text. text ≡ line) due → IsDueWith Rejected (IsRejected wanted left new_left) due
+rejected_due wanted left new_left fault at why line due e (inl memory) told with = absurd cc
+rejected_due wanted left new_left fault at why line due e (inr of) told with =
+    due_is Rejected (IsRejected wanted left new_left) line due
+    (record { at = at; why = why; rejects = subst (λ (f : CheckFault). IsFaultOf wanted [] f left new_left) e of; line = told })
+    with
