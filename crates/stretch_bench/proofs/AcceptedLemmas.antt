@@ -1,10 +1,9 @@
 -- What stands after an accepted line, and where a command is served.
-use Rattle.std.proofs.Common.{◌≡◌, ◌⊎◌, ◌≤◌, ℕ, List, [], ◌∷◌, ◌++◌, length, get_or, take, drop, codes, ⊎_elim}
+use Rattle.std.proofs.Common.{◌≡◌, ◌⊎◌, ◌≤◌, ℕ, List, [], ◌∷◌, ◌++◌, length, get_or, take, drop, codes}
 use Rattle.std.proofs.Common.{Option, Some, None, inl, inr, refl, ap, sym, subst, ◌∙◌, arith, append_assoc, append-nil, take-append-drop}
 use Rattle.std.proofs.lemmas.List.{append_cancel_left, length-map}
 use Rattle.std.specs.Prelude.{unwrap_or}
 use Rattle.std.specs.Io.KnownBytes.{append_known}
-use Rattle.port_io.specs.Told.{AppendsSome}
 use Rattle.items.specs.Game.{GameNumbers, IsGame}
 use Rattle.items.specs.Multiset.{sizes_of}
 use Rattle.online_play.specs.Algorithm.{ForcesEvery}
@@ -15,7 +14,7 @@ use Rattle.strategy_text.specs.declared.node.Format.{Format}
 use Rattle.strategy_text.specs.declared.node.Format.TheVariants.{One, Two}
 use Rattle.strategy_text.specs.declared.node.Nodes.{Nodes}
 use Rattle.strategy_text.specs.declared.node.Nodes.TheVariants as sides
-use Rattle.strategy_text.specs.declared.node.Side.TheVariants.{Adversary, Algorithm}
+use Rattle.strategy_text.specs.declared.node.Side.TheVariants.{Algorithm}
 use Rattle.strategy_text.specs.declared.node.Strategy.{Strategy}
 use Rattle.strategy_text.specs.Writing.{spaced}
 use Rattle.strategy_text.proofs.Spaced.{line_spaced}
@@ -42,7 +41,7 @@ use Rattle.stretch_bench.specs.Written.{WritesFirst}
 use Rattle.stretch_bench.specs.declared.command.Command.{Command}
 use Rattle.stretch_bench.specs.declared.command.Command.TheVariants.{Check, Play, Answer, Minimise, Upgrade, Report, Drill, Search}
 use Rattle.stretch_bench.specs.declared.status.Status.{Status}
-use Rattle.stretch_bench.specs.declared.status.Status.TheVariants.{Done, Rejected, Usage, Undecided, ReadFault, WriteFault, OutOfMemory, Unpackable}
+use Rattle.stretch_bench.specs.declared.status.Status.TheVariants.{Done, Rejected, Usage, ReadFault, WriteFault, OutOfMemory}
 use Rattle.stretch_bench.proofs.Fronts.{HasSmallNumbers, same_line}
 use Rattle.stretch_bench.proofs.OnceLemmas.{words_spell_one_command}
 

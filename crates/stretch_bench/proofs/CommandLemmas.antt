@@ -3,7 +3,7 @@ use Rattle.std.proofs.Common.{◌≡◌, ℕ, List, [], ◌∷◌, true, false, 
 use Rattle.std.specs.Prelude.{MatchOption}
 use Rattle.items.specs.Game.{GameNumbers}
 use Rattle.stretch_bench.specs.Call.{Players}
-use Rattle.stretch_bench.specs.Commands.{Spells, SpellsNone, form_of}
+use Rattle.stretch_bench.specs.Commands.{Spells, SpellsNone}
 use Rattle.stretch_bench.specs.declared.command.Command.{Command}
 use Rattle.stretch_bench.specs.declared.command.Command.TheVariants.{Check, Play, Answer, Minimise, Upgrade, Report, Drill, Search}
 

@@ -1,5 +1,5 @@
 -- Legal strategies of a side, and what is written of them.
-use Rattle.std.proofs.Common.{◌≡◌, ◌⊎◌, List, [], ℕ, Option, Some, inl, inr, sym, subst, ap, refl, ◌∙◌}
+use Rattle.std.proofs.Common.{◌≡◌, ◌⊎◌, List, [], ℕ, Option, Some, inl, inr, sym, subst, refl, ◌∙◌}
 use Rattle.items.specs.Game.{GameNumbers}
 use Rattle.items.specs.Multiset.{sizes_of}
 use Rattle.strategy_text.specs.Spelling.{IsSpellable}

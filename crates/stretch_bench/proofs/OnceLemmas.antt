@@ -1,17 +1,15 @@
 -- Words spell one command at most: the first word is the name of the command, and names differ.
-use Rattle.std.proofs.Common.{◌≡◌, ◌<◌, ◌≤◌, ◌++◌, false, true, ⊎_elim, ℕ, All, Some, List, [], ◌∷◌, get_or, drop, map, codes, decimal, refl, ap, sym, subst, ◌∙◌, arith}
+use Rattle.std.proofs.Common.{◌≡◌, ◌<◌, ◌≤◌, false, true, ⊎_elim, ℕ, All, Some, List, [], ◌∷◌, get_or, drop, map, decimal, refl, ap, sym, ◌∙◌, arith}
 use Rattle.std.proofs.lemmas.Bool.{cases_lt}
 use Rattle.std.proofs.lemmas.Fmt.{decimal_injective}
 use Rattle.std.proofs.lemmas.List.Elements.{All-head, All-tail}
 use Rattle.std.specs.Cmp.Lexicographic.{pointwise, bytes_decides}
-use Rattle.std.specs.Prelude.{nat_eq, slice_get}
+use Rattle.std.specs.Prelude.{nat_eq}
 use Rattle.items.specs.Game.{GameNumbers, IsGame, numbers}
 use Rattle.items.specs.Multiset.{IsSize}
 use Rattle.stretch_bench.specs.Answer.{most_item}
-use Rattle.stretch_bench.specs.Call.{Players}
-use Rattle.stretch_bench.specs.Commands.{Spells, WordsSpellOneCommand, form_of}
+use Rattle.stretch_bench.specs.Commands.{WordsSpellOneCommand, form_of}
 use Rattle.stretch_bench.specs.Play.{IsFirstNamed, name_at}
-use Rattle.stretch_bench.specs.declared.command.Command.{Command}
 use Rattle.stretch_bench.specs.declared.command.Command.TheVariants.{Check, Play, Answer, Minimise, Upgrade, Report, Drill, Search}
 
 -- two names that differ
@@ -45,7 +43,7 @@ one_list [] (y ∷ ys) e f same = absurd cc
 one_list (x ∷ xs) [] e f same = absurd cc
 one_list (x ∷ xs) (y ∷ ys) e f same =
     let head : x ≡ y = decimal_injective x y (omega (arith, (All-head (IsSize most_item) x xs e).high)) (omega (arith, (All-head (IsSize most_item) y ys f).high))
-        (ap (λ (ws : List (List ℕ)). get_or ws 0 []) same) in
+    (ap (λ (ws : List (List ℕ)). get_or ws 0 []) same) in
     let tail : xs ≡ ys = one_list xs ys (All-tail (IsSize most_item) x xs e) (All-tail (IsSize most_item) y ys f) (ap (λ (ws : List (List ℕ)). drop 1 ws) same) in
     cc
 
@@ -73,11 +71,11 @@ words_spell_one_command players words (Drill number copies) (Drill other more) e
     λ i. Drill (numbers i) (times i)
 words_spell_one_command players words (Search game budget table) (Search other visits entries) e f =
     let games = one_game game other e.allowed.of_game f.allowed.of_game (at 1 words _ _ e.spelled f.spelled) (at 2 words _ _ e.spelled f.spelled)
-        (at 3 words _ _ e.spelled f.spelled) in
+    (at 3 words _ _ e.spelled f.spelled) in
     let budgets = decimal_injective budget visits (omega (arith, e.allowed.setting.most_visits)) (omega (arith, f.allowed.setting.most_visits))
-        (ap (λ (word : List ℕ). drop 7 word) (at 4 words _ _ e.spelled f.spelled)) in
+    (ap (λ (word : List ℕ). drop 7 word) (at 4 words _ _ e.spelled f.spelled)) in
     let tables = decimal_injective table entries (omega (arith, e.allowed.setting.most_entries)) (omega (arith, f.allowed.setting.most_entries))
-        (ap (λ (word : List ℕ). drop 6 word) (at 5 words _ _ e.spelled f.spelled)) in
+    (ap (λ (word : List ℕ). drop 6 word) (at 5 words _ _ e.spelled f.spelled)) in
     λ i. Search (games i) (budgets i) (tables i)
 words_spell_one_command players words one other e f =
     absurd (differ (form_of players one).name (form_of players other).name words (form_of players one).arguments (form_of players other).arguments refl e.spelled

@@ -1,8 +1,8 @@
 -- What the work of a command comes to.
-use Rattle.std.proofs.Common.{◌≡◌, ◌⊎◌, ◌*◌, ◌≤◌, ◌<◌, ◌+◌, ◌++◌, ℕ, List, [], length, ⊎_elim}
-use Rattle.std.proofs.Common.{Option, Some, None, Result, Ok, Err, IfOk, inl, inr, sym, ap, subst, refl, ◌∙◌, arith, append-nil}
+use Rattle.std.proofs.Common.{◌≡◌, ◌*◌, ◌≤◌, ◌<◌, ◌+◌, ℕ, List, [], length, ⊎_elim}
+use Rattle.std.proofs.Common.{Option, Some, None, Result, Ok, Err, IfOk, inl, inr, sym, ap, subst, refl, ◌∙◌, arith}
 use Rattle.std.proofs.lemmas.Bool.{cases_lt}
-use Rattle.std.specs.Prelude.{slice_get, MatchOption}
+use Rattle.std.specs.Prelude.{slice_get}
 use Rattle.items.specs.Game.{GameNumbers}
 use Rattle.items.specs.Multiset.{sizes_of}
 use Rattle.checker.specs.Accepted.{Accepts, IsFaultOf, Loads}
@@ -30,14 +30,14 @@ use Rattle.strategy_text.specs.declared.node.Strategy.{Strategy}
 use Rattle.stretch_bench.specs.Answer.{IsAnswerOf, IsUnpackable}
 use Rattle.stretch_bench.specs.Call.{Players}
 use Rattle.stretch_bench.specs.Check.{IsAcceptedLine, accepted_line}
-use Rattle.stretch_bench.specs.Commands.{Spells, SpellsNone, form_of, wanted_by}
+use Rattle.stretch_bench.specs.Commands.{form_of, wanted_by}
 use Rattle.stretch_bench.specs.Drill.{drilled}
-use Rattle.stretch_bench.specs.Due.{IsOutcome, IsRejected, done, rejected, undecided, unpackable}
-use Rattle.stretch_bench.specs.Form.{IsDone, IsRead, wanted_of}
+use Rattle.stretch_bench.specs.Due.{IsRejected, done, rejected, undecided, unpackable}
+use Rattle.stretch_bench.specs.Form.{IsDone, IsRead}
 use Rattle.stretch_bench.specs.Lines.{rejected_line}
 use Rattle.stretch_bench.specs.Minimise.{IsMinimised}
 use Rattle.stretch_bench.specs.Pieces.{IsDueWith, IsEither, IsMade, IsStop, IsStopOf, due_text}
-use Rattle.stretch_bench.specs.Play.{IsPlayAt, IsPlayOf}
+use Rattle.stretch_bench.specs.Play.{IsPlayOf}
 use Rattle.stretch_bench.specs.Report.{IsSummaryOf}
 use Rattle.stretch_bench.specs.Search.{IsFound, IsUndecided, undecided_line}
 use Rattle.stretch_bench.specs.Upgrade.{IsUpgraded}

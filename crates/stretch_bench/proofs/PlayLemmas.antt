@@ -86,7 +86,6 @@ none_named name_of xs k name l before place named =
     absurd cc)
     (cases_lt place k)
 
-
 -- the player of a play that is allowed stands in the list
 pub place_within : (players : Players) (command : Command) (place : ℕ) → command ≡ Play place → (form_of players command).IsAllowed → place < length players.names
 place_within players command place e allowed =

@@ -1,24 +1,22 @@
 -- What a run comes to, by what was made and how the writing of it ended.
-use Rattle.std.proofs.Common.{◌≡◌, ◌⊎◌, ◌≤◌, ◌++◌, ℕ, List, [], Option, Some, None, Result, Ok, Err, IfOk, IfErr, inl, inr, refl, sym, subst, ap, ◌∙◌}
-use Rattle.std.specs.Io.KnownBytes.{append_known}
-use Rattle.checker.specs.Accepted.{IsFaultOf, IsInterrupted}
+use Rattle.std.proofs.Common.{◌≡◌, ◌⊎◌, ℕ, List, [], Option, Some, None, Result, Ok, Err, IfOk, IfErr, inl, inr, sym, subst}
+use Rattle.checker.specs.Accepted.{IsFaultOf}
 use Rattle.checker.specs.declared.fault.CheckFault.{CheckFault}
 use Rattle.checker.specs.declared.fault.CheckFault.TheVariants as check_fault
 use Rattle.checker.specs.declared.fault.Wanted.{Wanted}
 use Rattle.port_io.specs.Faults.{Rose}
-use Rattle.port_io.specs.Told.{AppendsSome}
 use Rattle.stretch_bench.specs.Call.{Call, Players}
-use Rattle.stretch_bench.specs.Commands.{Spells, SpellsNone, wanted_by}
+use Rattle.stretch_bench.specs.Commands.{Spells, SpellsNone}
 use Rattle.stretch_bench.specs.Due.{IsDue, IsOutcome, done, rejected, undecided, unpackable, commanded, usage}
 use Rattle.stretch_bench.specs.Lines.{usage_line}
-use Rattle.stretch_bench.specs.Pieces.{IsDueWith, IsEnding, IsMade, IsStop, IsStopOf, all, due_text, some, unmade, unread}
+use Rattle.stretch_bench.specs.Pieces.{IsDueWith, IsEnding, IsMade, IsStopOf, all, due_text, some, unmade, unread}
 use Rattle.stretch_bench.specs.Run.{IsAnswer, IsCut, IsCutShort, IsStopped, Run, memory_refused, read_failed, write_failed, wrote}
 use Rattle.stretch_bench.specs.declared.command.Command.{Command}
 use Rattle.stretch_bench.specs.declared.due.Due.{Due}
 use Rattle.stretch_bench.specs.declared.due.Stop.{Stop}
-use Rattle.stretch_bench.specs.declared.due.Stop.TheVariants.{Read, Memory}
+use Rattle.stretch_bench.specs.declared.due.Stop.TheVariants.{Read}
 use Rattle.stretch_bench.specs.declared.status.Status.{Status}
-use Rattle.stretch_bench.specs.declared.status.Status.TheVariants.{Done, Rejected, Usage, Undecided, ReadFault, WriteFault, OutOfMemory, Unpackable}
+use Rattle.stretch_bench.specs.declared.status.Status.TheVariants.{Done, Rejected, Usage, Undecided, ReadFault, OutOfMemory, Unpackable}
 
 abbrev pub call_of : Players → List (List ℕ) → Option (List ℕ) → Option (List ℕ) → Call
 call_of players words left new_left = record { players = players; words = words; left = left; new_left = new_left }

@@ -1,20 +1,16 @@
 -- Words and the commands that they spell.
-use Rattle.std.proofs.Common.{◌≡◌, ◌≢◌, ◌-◌, ◌^◌, true, false, Result, Ok, Err, IsTrue, ◌⊎◌, Bool, Option, Some, None, ⊎_elim, ◌<◌, ◌≤◌, ◌+◌}
-use Rattle.std.proofs.Common.{ℕ, All, List, [], ◌∷◌, length, get_or, take, drop, map, codes, decimal, String, string_bytes, sym, ap, refl, ◌∙◌, subst, arith}
+use Rattle.std.proofs.Common.{◌≡◌, ◌≢◌, ◌-◌, ◌^◌, true, false, Result, Ok, IsTrue, ◌⊎◌, Bool, ⊎_elim, ◌<◌, ◌≤◌}
+use Rattle.std.proofs.Common.{ℕ, List, [], ◌∷◌, length, get_or, take, drop, decimal, String, string_bytes, sym, ap, refl, ◌∙◌, subst, arith}
 use Rattle.std.proofs.lemmas.List.{take_all, get_or-map, length-map}
-use Rattle.std.proofs.lemmas.List.Elements.{All-get_or}
-use Rattle.std.proofs.lemmas.Bool.{cases_lt}
 use Rattle.std.proofs.lemmas.Fmt.{decimal_injective, parse-decimal}
 use Rattle.items.specs.GameFaults.{IsFaultOf}
 use Rattle.items.specs.declared.game.GameFault.{GameFault}
 use Rattle.checker.proofs.HeadLemmas.{no_game as is_no_game}
-use Rattle.std.proofs.lemmas.Option.{slice_get-map, slice_get-get_or, slice_get_past}
 use Rattle.std.specs.Str.Parse.{ParsesUnsigned}
 use Rattle.std.specs.Cmp.Lexicographic.{pointwise, same_text, bytes_decides}
-use Rattle.std.specs.Prelude.{slice_get, nat_eq, not, option_map, ◌↔◌, MatchOption, IfOk}
+use Rattle.std.specs.Prelude.{nat_eq, not, ◌↔◌}
 use Rattle.std.specs.declared.alloc.Global.{Global}
 use Rattle.items.specs.Game.{GameNumbers, IsGame, numbers}
-use Rattle.items.specs.Multiset.{IsSize}
 use Rattle.stretch_bench.specs.Commands.{spelling_of}
 
 -- a text that differs from another in the test differs from it

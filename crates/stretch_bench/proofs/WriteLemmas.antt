@@ -3,7 +3,7 @@ use Rattle.std.proofs.Common.{◌≡◌, ℕ, List, ◌++◌, Option, Result, Ok
 use Rattle.std.specs.Io.KnownBytes.{append_known}
 use Rattle.std.specs.Result.{OnErr}
 use Rattle.port_io.specs.Told.{AppendsSome}
-use Rattle.port_io.proofs.ToldLemmas.{append_known-append, AppendsSome-then, AppendsSome-longer}
+use Rattle.port_io.proofs.ToldLemmas.{AppendsSome-then, AppendsSome-longer}
 
 pub on_err : {X E : Type 0} (r : Result X E) {P : Type 0} → P → OnErr r P
 on_err (Ok x) p = tt

@@ -52,11 +52,7 @@ fn item_list(alloc: Global, words: &[String]) -> Result<Option<Nums>, AllocError
 }
 
 /// The lines of the replies of a legal strategy to a list of items, or the line of how many of them do not fit.
-pub(crate) fn answered(
-    alloc: Global,
-    items: &[u16],
-    strategy: Strategy,
-) -> Result<Due, AllocError>
+pub(crate) fn answered(alloc: Global, items: &[u16], strategy: Strategy) -> Result<Due, AllocError>
     requires legal { IsLegalOfAlgorithm strategy }
     ensures replies { IfOk result (IsEither Done (IsAnswerOf items.now strategy)
         Unpackable (IsUnpackable items.now strategy)) }

@@ -56,10 +56,10 @@ pub fn run_bench<S: Source, K: Sink>(
     ensures answer { IsAnswer (record {
       call = record {
         players = (record {
-      names = map (λ player. player.name) players.now.items;
-      answers = map (λ player. (⟦<dyn Online as Online>⟧ player.player.vtable).answer player.player.value)
-          players.now.items;
-    });
+          names = map (λ player. player.name) players.now.items;
+          answers = map (λ player. (⟦<dyn Online as Online>⟧ player.player.vtable).answer player.player.value)
+              players.now.items;
+        });
         words = spelling_of words.now;
         left = S.left source.old;
         new_left = S.left source.new;

@@ -50,11 +50,7 @@ fn place_of(name: &str, players: &Vec<Player>) -> Option<usize>
 }
 
 /// The lines of the play of a legal strategy against a player.
-pub(crate) fn played(
-    alloc: Global,
-    player: &Player,
-    strategy: Strategy,
-) -> Result<Due, AllocError>
+pub(crate) fn played(alloc: Global, player: &Player, strategy: Strategy) -> Result<Due, AllocError>
     requires legal { IsLegalOfAdversary strategy }
     ensures play { let answer = (⟦<dyn Online as Online>⟧ player.now.player.vtable).answer player.now.player.value in
         IfOk result (IsDueWith Done (IsPlayOf player.now.name answer strategy)) }

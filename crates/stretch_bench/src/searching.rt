@@ -28,7 +28,7 @@ use transposition::ClockMemo;
 pub(crate) fn search_of(words: &[String]) -> Option<(Game, u32, u32)>
     ensures { (players : Players) → MatchOption result
         ((game : GameNumbers) (budget table : ℕ)
-            → Spells players (spelling_of words.now) (Search game budget table) → ⊥)
+        → Spells players (spelling_of words.now) (Search game budget table) → ⊥)
         (λ three. Spells players (spelling_of words.now) (Search three.0 three.1 three.2)) }
 {
     let [first, bins, capacity, target, budget, table] = words else {
@@ -73,12 +73,7 @@ pub(crate) fn searched(
 }
 
 // The canonical form of a legal strategy that was found.
-fn found(
-    alloc: Global,
-    game: &Game,
-    budget: u32,
-    strategy: &Strategy,
-) -> Result<Due, AllocError>
+fn found(alloc: Global, game: &Game, budget: u32, strategy: &Strategy) -> Result<Due, AllocError>
     requires legal { IsLegal strategy.now }
     requires found { IsFor game.now budget strategy.now }
     ensures found { IfOk result (IsDueWith Done (IsFound game.now budget)) }

@@ -1,4 +1,4 @@
-use Rattle.std.proofs.Common.{◌<◌, length, map, refl, arith}
+use Rattle.std.proofs.Common.{◌<◌, length, refl, arith}
 use Rattle.std.proofs.lemmas.List.{length-map}
 use Rattle.stretch_bench.proofs.OutcomeLemmas.{answer_made, drill_made, made_as, play_made, search_made}
 use Rattle.stretch_bench.proofs.PlayLemmas.{named_at, place_within}
