@@ -87,3 +87,46 @@ fn unpackable_words(alloc: Global, place: usize) -> Result<String, AllocError>
 {
     format!(in alloc; "unpackable {place}\n")
 }
+
+#[cfg(test)]
+mod tests {
+    use crate::tests::{LEGAL, OF_ALGORITHM, Run, WITH_BIG, is_due};
+
+    const ANSWERS: [Run; 8] = [
+        (
+            "answer 1 2 1",
+            OF_ALGORITHM,
+            0,
+            "answer 2 2 3\nitems 1 2 1\nbins 0 1 0\nloads 2 2\n",
+        ),
+        (
+            "answer",
+            OF_ALGORITHM,
+            0,
+            "answer 2 2 3\nitems -\nbins -\nloads 0 0\n",
+        ),
+        ("answer 1 1 2 1", OF_ALGORITHM, 7, "unpackable 4\n"),
+        ("answer 3", OF_ALGORITHM, 7, "unpackable 1\n"),
+        ("answer 65535 1", OF_ALGORITHM, 7, "unpackable 1\n"),
+        (
+            "answer 2 2",
+            OF_ALGORITHM,
+            0,
+            "answer 2 2 3\nitems 2 2\nbins 0 1\nloads 2 2\n",
+        ),
+        (
+            "answer 2 2",
+            WITH_BIG,
+            0,
+            "answer 2 2 3\nitems 2 2\nbins 0 1\nloads 2 2\n",
+        ),
+        ("answer 3", LEGAL, 1, "rejected line 3 rule side\n"),
+    ];
+
+    #[test]
+    fn answers_are_written(rt: HostRuntime) {
+        for row in &ANSWERS {
+            assert!(rt; is_due(rt.alloc(), row).unwrap_or(false), "{}", row.0);
+        }
+    }
+}

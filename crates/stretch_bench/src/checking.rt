@@ -48,3 +48,43 @@ fn accepted_words(alloc: Global, accepted: &Accepted) -> Result<String, AllocErr
     let nodes = accepted.nodes;
     format!(in alloc; "accepted {side} {bins} {capacity} {target} nodes {nodes}\n")
 }
+
+#[cfg(test)]
+mod tests {
+    use crate::tests::{
+        ACCEPTED, FINISHING, LEGAL, OF_ALGORITHM, OF_ALGORITHM_IN_FORMAT_2, OF_FORMAT_2, Run,
+        WITH_BIG, WITH_BURSTS, is_due,
+    };
+
+    const CHECKS: [Run; 7] = [
+        ("check", LEGAL, 0, ACCEPTED),
+        ("check", OF_FORMAT_2, 0, ACCEPTED),
+        (
+            "check",
+            OF_ALGORITHM,
+            0,
+            "accepted algorithm 2 2 3 nodes 5\n",
+        ),
+        (
+            "check",
+            OF_ALGORITHM_IN_FORMAT_2,
+            0,
+            "accepted algorithm 2 2 3 nodes 5\n",
+        ),
+        ("check", WITH_BIG, 0, "accepted algorithm 2 2 3 nodes 6\n"),
+        ("check", FINISHING, 0, "accepted algorithm 2 3 5 nodes 1\n"),
+        (
+            "check",
+            WITH_BURSTS,
+            0,
+            "accepted adversary 2 3 4 nodes 4\n",
+        ),
+    ];
+
+    #[test]
+    fn strategies_of_both_sides_and_formats_are_accepted(rt: HostRuntime) {
+        for row in &CHECKS {
+            assert!(rt; is_due(rt.alloc(), row).unwrap_or(false), "{}", row.1);
+        }
+    }
+}

@@ -86,3 +86,32 @@ fn line_of_drill(
     )?;
     text_of_line(alloc, line.as_str())
 }
+
+#[cfg(test)]
+mod tests {
+    use crate::tests::{Unread, is_due_unread};
+
+    const DRILLS: [Unread; 2] = [
+        (
+            "drill 7 1",
+            0,
+            "drill 7 1 nodes 5 bytes 326 accepted minimised 5\n",
+        ),
+        (
+            "drill 7 2",
+            0,
+            "drill 7 2 nodes 9 bytes 556 accepted minimised 5\n",
+        ),
+    ];
+
+    #[test]
+    fn drills_are_made_without_input(rt: HostRuntime) {
+        for row in &DRILLS {
+            assert!(rt;
+                is_due_unread(rt.alloc(), row).unwrap_or(false),
+                "{}",
+                row.0
+            );
+        }
+    }
+}

@@ -19,3 +19,22 @@ pub(crate) fn minimised(alloc: Global, strategy: Strategy) -> Result<Due, AllocE
     let made = minimise(alloc, &strategy)?;
     Ok(Due::of_strategy(alloc, made))
 }
+
+#[cfg(test)]
+mod tests {
+    use crate::tests::{LEGAL, OF_ALGORITHM, Run, WITH_BURSTS, WITH_COPIES, is_due};
+
+    const MINIMISED: [Run; 4] = [
+        ("minimise", WITH_COPIES, 0, LEGAL),
+        ("minimise", LEGAL, 0, LEGAL),
+        ("minimise", OF_ALGORITHM, 0, OF_ALGORITHM),
+        ("minimise", WITH_BURSTS, 0, WITH_BURSTS),
+    ];
+
+    #[test]
+    fn strategies_are_made_shorter(rt: HostRuntime) {
+        for row in &MINIMISED {
+            assert!(rt; is_due(rt.alloc(), row).unwrap_or(false), "{}", row.1);
+        }
+    }
+}

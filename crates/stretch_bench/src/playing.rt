@@ -61,3 +61,60 @@ pub(crate) fn played(alloc: Global, player: &Player, strategy: Strategy) -> Resu
     let lines = match_text(alloc, player.name.as_str(), &game, &transcript)?;
     Ok(Due::of_lines(Status::Done, lines))
 }
+
+#[cfg(test)]
+mod tests {
+    use crate::tests::{LEGAL, OF_ALGORITHM, Run, WITH_BURSTS, is_due};
+
+    const PLAYS: [Run; 7] = [
+        (
+            "play best-fit",
+            LEGAL,
+            0,
+            "play best-fit 2 3 4\nitems 1 1 2 2\nbins 0 0 1 0\nloads 4 2\npack 1 2 / 1 2\n",
+        ),
+        (
+            "play first-fit",
+            WITH_BURSTS,
+            0,
+            "play first-fit 2 3 4\nitems 1 1 2 2\nbins 0 0 1 0\nloads 4 2\npack 1 2 / 1 2\n",
+        ),
+        (
+            "play first-fit",
+            LEGAL,
+            0,
+            "play first-fit 2 3 4\nitems 1 1 2 2\nbins 0 0 1 0\nloads 4 2\npack 1 2 / 1 2\n",
+        ),
+        (
+            "play least-loaded",
+            LEGAL,
+            0,
+            "play least-loaded 2 3 4\nitems 1 1 3\nbins 0 1 0\nloads 4 1\npack 3 / 1 1\n",
+        ),
+        (
+            "play best-fit",
+            WITH_BURSTS,
+            0,
+            "play best-fit 2 3 4\nitems 1 1 2 2\nbins 0 0 1 0\nloads 4 2\npack 1 2 / 1 2\n",
+        ),
+        (
+            "play least-loaded",
+            WITH_BURSTS,
+            0,
+            "play least-loaded 2 3 4\nitems 1 1 3\nbins 0 1 0\nloads 4 1\npack 3 / 1 1\n",
+        ),
+        (
+            "play first-fit",
+            OF_ALGORITHM,
+            1,
+            "rejected line 3 rule side\n",
+        ),
+    ];
+
+    #[test]
+    fn plays_are_written(rt: HostRuntime) {
+        for row in &PLAYS {
+            assert!(rt; is_due(rt.alloc(), row).unwrap_or(false), "{}", row.0);
+        }
+    }
+}

@@ -49,3 +49,56 @@ fn game_words(alloc: Global, report: &Report) -> Result<String, AllocError>
     let nodes = report.nodes;
     format!(in alloc; "report {side} {bins} {capacity} {target} nodes {nodes}")
 }
+
+#[cfg(test)]
+mod tests {
+    use crate::tests::{
+        FINISHING, FINISHING_LARGEST, LEGAL, OF_ALGORITHM, Run, WITH_BURSTS, WITH_COPIES, is_due,
+    };
+
+    const REPORTS: [Run; 6] = [
+        (
+            "report",
+            FINISHING_LARGEST,
+            0,
+            "report algorithm 8 120 240 nodes 1 depth 0 target 2/1\n",
+        ),
+        (
+            "report",
+            WITH_BURSTS,
+            0,
+            "report adversary 2 3 4 nodes 4 depth 4 target 4/3\n",
+        ),
+        (
+            "report",
+            LEGAL,
+            0,
+            "report adversary 2 3 4 nodes 5 depth 4 target 4/3\n",
+        ),
+        (
+            "report",
+            OF_ALGORITHM,
+            0,
+            "report algorithm 2 2 3 nodes 5 depth 2 target 3/2\n",
+        ),
+        (
+            "report",
+            FINISHING,
+            0,
+            "report algorithm 2 3 5 nodes 1 depth 0 target 5/3\n",
+        ),
+        (
+            "report",
+            WITH_COPIES,
+            0,
+            "report adversary 2 3 4 nodes 7 depth 4 target 4/3\n",
+        ),
+    ];
+
+    #[test]
+    fn strategies_are_reported(rt: HostRuntime) {
+        for row in &REPORTS {
+            assert!(rt; is_due(rt.alloc(), row).unwrap_or(false), "{}", row.1);
+        }
+    }
+}

@@ -126,3 +126,79 @@ fn put_move(text: &mut Text, step: PathMove) -> Result<(), AllocError>
     text.push(b'@')?;
     text.push_all(itoa::Buffer::new().format(step.load).as_bytes())
 }
+
+#[cfg(test)]
+mod tests {
+    use crate::tests::{
+        ACCEPTED, FINISHING, FINISHING_LARGEST, Found, LEGAL, OF_ALGORITHM, Unread, is_due_unread,
+        is_found,
+    };
+
+    const SEARCHES: [Unread; 9] = [
+        (
+            "search 2 2 3 budget=1 table=1",
+            3,
+            "undecided 2 2 3 visits 1 pass 0 path 2@0\n",
+        ),
+        (
+            "search 2 2 3 budget=4 table=1",
+            3,
+            "undecided 2 2 3 visits 4 pass 0 path 1@0 1@1\n",
+        ),
+        (
+            "search 2 2 3 budget=2 table=1",
+            3,
+            "undecided 2 2 3 visits 2 pass 0 path 1@0\n",
+        ),
+        ("search 2 2 3 budget=5 table=1", 0, OF_ALGORITHM),
+        ("search 2 2 3 budget=20 table=10", 0, OF_ALGORITHM),
+        ("search 2 2 3 budget=162 table=1", 0, OF_ALGORITHM),
+        ("search 8 120 240 budget=1 table=1", 0, FINISHING_LARGEST),
+        (
+            "search 2 3 4 budget=11 table=1",
+            3,
+            "undecided 2 3 4 visits 11 pass 0 path 1@0 1@0\n",
+        ),
+        ("search 2 3 5 budget=1 table=1", 0, FINISHING),
+    ];
+
+    #[test]
+    fn games_are_searched_without_input(rt: HostRuntime) {
+        for row in &SEARCHES {
+            assert!(rt;
+                is_due_unread(rt.alloc(), row).unwrap_or(false),
+                "{}",
+                row.0
+            );
+        }
+    }
+
+    const FOUND: [Found; 4] = [
+        ("search 2 3 4 budget=12 table=1", "", LEGAL, ACCEPTED),
+        (
+            "search 3 3 4 budget=786432 table=1",
+            "",
+            "stretch 1\ngame 3 3 4\nside adversary\n",
+            "accepted adversary 3 3 4 ",
+        ),
+        (
+            "search 2 6 8 budget=3188646 table=100000",
+            "",
+            "stretch 1\ngame 2 6 8\nside adversary\n",
+            "accepted adversary 2 6 8 ",
+        ),
+        (
+            "search 2 6 9 budget=3188646 table=100000",
+            "",
+            "stretch 1\ngame 2 6 9\nside algorithm\n",
+            "accepted algorithm 2 6 9 ",
+        ),
+    ];
+
+    #[test]
+    fn strategies_are_found_whatever_their_packings(rt: HostRuntime) {
+        for row in &FOUND {
+            assert!(rt; is_found(rt.alloc(), row).unwrap_or(false), "{}", row.0);
+        }
+    }
+}
