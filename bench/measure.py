@@ -2,18 +2,36 @@
 """Times a check of a strategy file beside a count of its lines, and says how much memory each took.
 
     measure.py PROGRAM FILE LINE TIMES [YARDSTICK]
+    measure.py --beside OTHER PROGRAM FILE NAME WORD ..
 
 PROGRAM is the built program, FILE the strategy, LINE the answer that is due, without its line feed, and TIMES how often
 each command is run, in turns. The seconds are those of the processor, which other work on the machine disturbs least.
 YARDSTICK is another checker, which reads a strategy from standard input: it is run beside the program where it is
-given, and the ratios are told. The other commands that read a strategy of either side are timed once. It ends with status 1 where a check gives
-another answer.
+given, and the ratios are told. The other commands that read a strategy of either side are timed once. It ends with
+status 1 where a check gives another answer.
+
+With --beside it runs the words, with FILE as their input, with both programs in turns, prints how their seconds compare
+under the name, and ends with status 1 where PROGRAM is slower.
 """
 
 import os
 import subprocess
 import sys
 import time
+
+TURNS = 6  # of each program, in a comparison
+SAME = 1.03  # at most so many times the other's seconds are the same
+
+
+def compared(name, seconds_of, program, other, turns=TURNS):
+    """Takes turns with both programs, of each the seconds that the function tells. Prints the least of each, and
+    answers whether the program is no slower than the other one."""
+    pairs = [(seconds_of(program), seconds_of(other)) for _ in range(turns)]
+    ours, others = (min(seconds) for seconds in zip(*pairs))
+    ratio = ours / max(others, 1e-6)
+    word = "slower" if ratio > SAME else "faster" if ratio * SAME < 1 else "the same"
+    print(f"{name:<36}{ours:9.3f}{others:9.3f} seconds{ratio:7.3f} times, {word}", flush=True)
+    return ratio <= SAME
 
 
 def run(command, path):
@@ -60,7 +78,21 @@ def timed(command, path):
     return child.returncode, used.ru_utime + used.ru_stime, most
 
 
+def beside(other, program, path, name, *words):
+    """Compares a command of two programs on a file, and answers whether the first is no slower."""
+
+    def seconds_of(program):
+        status, _, seconds = run([program, *words], path)
+        if status != 0:
+            sys.exit(f"{program} {' '.join(words)}: status {status}")
+        return seconds
+
+    return compared(name, seconds_of, program, other)
+
+
 def main():
+    if sys.argv[1] == "--beside":
+        return 0 if beside(*sys.argv[2:]) else 1
     program, path, line, times, *others = sys.argv[1:]
     due = line.encode() + b"\n"
     checks = {"stretch check": [program, "check"]}
@@ -90,7 +122,8 @@ def main():
         time_ratio = taken / max(min(least["yardstick"]), 1e-6)
         print(f"beside the yardstick: {time_ratio:.2f} times its time, "
               f"{held['stretch check'] / held['yardstick']:.2f} times its memory")
+    return 0
 
 
 if __name__ == "__main__":
-    main()
+    sys.exit(main())

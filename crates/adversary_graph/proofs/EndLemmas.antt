@@ -133,8 +133,8 @@ module _ (pool : Pool) (is_pool : IsPool pool) (answer : List ℕ → ℕ) (algo
       (subst (λ (next : Option Then). goes_on go number (history ++ size ∷ []) next ≡ Some end) h.is ends)
   end_at_step (Burst times size pack) number history node go end is e at on ends =
       let m = rules_of pool is_pool number node e in
-      let send : Contains (sizes_of pool.game) size = subst (λ (step : Step). Contains (sizes_of pool.game) (sent_size step)) is m.send in
-      let low = (All-contains (IsSize pool.game.capacity) (sizes_of pool.game) size (sizes_are_sizes pool.game) send).low in
+      let send : Contains pool.sizes size = subst (λ (step : Step). Contains pool.sizes (sent_size step)) is m.send in
+      let low = (All-contains (IsSize pool.game.capacity) pool.sizes size is_pool.sizes send).low in
       let long : most_below_target pool.game size node.loads < times = subst (λ (step : Step). IsLongEnough pool.game node.loads step) is m.burst in
       let same = sum_by-Same (λ load. (pool.game.target - 1 - load) / size) (run pool.game answer history) node.loads at.loads in
       let packable = subst (λ (step : Step). Packable pool.game (history ++ sent_items step)) is (ready_packable pool is_pool answer algorithm number history node e at) in
@@ -229,7 +229,7 @@ module _ (pool : Pool) (is_pool : IsPool pool) where
         record {
           whole = items ++ sent_items step;
           packed = subst packs shown m.pack.holds;
-          sizes = sent_sizes pool.game (sizes_of pool.game) loads items step (sizes_are_sizes pool.game) m.items m.send;
+          sizes = sent_sizes pool.game pool.sizes loads items step is_pool.sizes m.items m.send;
           enough = λ x. omega arith;
         },
       )

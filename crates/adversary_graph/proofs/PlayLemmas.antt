@@ -133,10 +133,10 @@ module _ (pool : Pool) (is_pool : IsPool pool) (answer : List ℕ → ℕ) (algo
   ready_packable number history node e at =
       Packable-Same pool.game (node.items ++ sent_items node.step) (history ++ sent_items node.step)
       (Same-append node.items history (sent_items node.step) (sent_items node.step) (Same-sym history node.items at.items) (λ z. refl))
-      (packable_node pool.format pool.game (sizes_of pool.game) pool.nodes (sizes_are_sizes pool.game) is_pool.follow (suc number) number node (omega arith) e)
+      (packable_node pool.format pool.game pool.sizes pool.nodes is_pool.sizes is_pool.follow (suc number) number node (omega arith) e)
 
   hits_by : (number : ℕ) (history loads items : List ℕ) (size : ℕ) (pack : Option (List (List ℕ))) (placements : List Placement)
-      → Met pool.format pool.game (sizes_of pool.game) (map position_of (take number pool.nodes)) (record { loads = loads; items = items; step = Send size pack placements })
+      → Met pool.format pool.game pool.sizes (map position_of (take number pool.nodes)) (record { loads = loads; items = items; step = Send size pack placements })
       → Packable pool.game (history ++ size ∷ []) → ComesTo pool.game answer history (record { loads = loads; items = items })
       → Hits pool.game answer pool.nodes number history size placements
   hits_by number history loads items size pack placements m packable at =
@@ -170,7 +170,7 @@ module _ (pool : Pool) (is_pool : IsPool pool) (answer : List ℕ → ℕ) (algo
       → Hits pool.game answer pool.nodes number history size placements
   hits_at number history node size pack placements e is at =
       hits_by number history node.loads node.items size pack placements
-      (subst (λ (step : Step). Met pool.format pool.game (sizes_of pool.game) (map position_of (take number pool.nodes))
+      (subst (λ (step : Step). Met pool.format pool.game pool.sizes (map position_of (take number pool.nodes))
       (record { loads = node.loads; items = node.items; step = step })) is (rules_of pool is_pool number node e))
       (subst (λ (step : Step). Packable pool.game (history ++ sent_items step)) is (ready_packable number history node e at))
       at
@@ -222,7 +222,6 @@ goes_to_end game answer nodes (suc n) number history items l step =
 
 -- before the first item
 pub root_ready : (pool : Pool) (answer : List ℕ → ℕ) (root : ℕ) → IsPool pool → IsRoot pool.nodes root → StandsReady pool.game answer pool.nodes root []
-unfolding EachFollows
 root_ready pool answer root p r = (
   r.0,
   r.1,

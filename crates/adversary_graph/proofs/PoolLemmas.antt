@@ -1,148 +1,35 @@
--- Pools: a node that comes next, the positions of the nodes, and legal strategies from pools and to pools.
-use Rattle.std.proofs.Common.{◌≡◌, ℕ, ◌+◌, ◌<◌, Bool, IsTrue, false, List, [], ◌∷◌, ◌++◌, Some, None, length, get_or, ◌-◌, take, map, arith, ap, sym, subst}
-use Rattle.std.proofs.Common.{true, ◌∙◌, ⊎_elim, eqb}
-use Rattle.std.specs.List.{All, slice_get}
-use Rattle.std.proofs.lemmas.Bool.{eqb-true, eq-eqb}
-use Rattle.std.proofs.lemmas.List.{take-take, take-append-le, length-take-le, map-append, length-append}
-use Rattle.std.proofs.lemmas.List.Elements.{All-push, All-nil, All-take}
-use Rattle.std.proofs.lemmas.Option.{same_Some, none-some, slice_get_within, slice_get-get_or, slice_get-map}
-use Rattle.std.specs.Option.{option_map}
-use Rattle.std.proofs.Math.Seq.{take-append_seam}
-use Rattle.items.specs.Game.{GameNumbers, IsGame}
+-- The rules that a node of a pool meets, and the legal strategy of a pool.
+use Rattle.std.proofs.Common.{◌≡◌, ℕ, false, List, Some, take, map, sym, subst}
+use Rattle.std.specs.List.{slice_get}
+use Rattle.items.specs.Game.{GameNumbers}
 use Rattle.items.specs.Multiset.{sizes_of}
-use Rattle.items.proofs.ListLemmas.{slice_get-push, slice_get-take, mapped}
-use Rattle.items.proofs.SizesLemmas.{sizes_are_sizes}
-use Rattle.loads.proofs.LoadsLemmas.{multiset_from_items}
-use Rattle.loads.specs.Position.{IsEmptyPosition, position}
-use Rattle.loads.specs.declared.position.Position.{Position}
 use Rattle.strategy_text.specs.declared.node.AdvNode.{AdvNode}
 use Rattle.strategy_text.specs.declared.node.Format.{Format}
-use Rattle.strategy_text.specs.declared.node.Step.TheVariants.{Burst}
-use Rattle.adversary_graph.specs.Judging.{HasPosition, node_at}
-use Rattle.adversary_graph.specs.Legal.{EachFollows, EachMeetsRules, IsLegal}
-use Rattle.adversary_graph.specs.Nodes.{position_of, IsOfFormat}
-use Rattle.adversary_graph.specs.Pools.{Pool, IsPool, MayComeNext, IsRoot, nodes_up_to, pool_of}
-use Rattle.adversary_graph.specs.Rules.{MeetsRules}
-use Rattle.adversary_graph.proofs.WonLemmas.{EachFollows-from_legal, Met, met}
-
--- a node that meets its rules has loads and items of the game
-pub HasPosition-from_rules : (format : Format) (game : GameNumbers) (earlier : List Position) (last : Bool) (node : AdvNode)
-    → IsGame game → MeetsRules format game (sizes_of game) earlier last node → HasPosition game node
-HasPosition-from_rules format game earlier last node g m =
-    record { loads = m.0; items = multiset_from_items game (sizes_of game) node.loads node.items g (sizes_are_sizes game) m.0 m.1.0 }
+use Rattle.strategy_text.specs.declared.node.Nodes.{Nodes}
+use Rattle.strategy_text.specs.declared.node.Nodes.TheVariants as sides
+use Rattle.strategy_text.specs.declared.node.Strategy.{Strategy}
+use Rattle.node_pool.specs.Pools as pools
+use Rattle.node_pool.specs.Pools.{terms_in}
+use Rattle.adversary_graph.specs.Legal.{IsLegal, IsNodeOfFormat, MeetsRulesUnder}
+use Rattle.adversary_graph.specs.Nodes.{position_of}
+use Rattle.adversary_graph.specs.Pools.{AreLegal, IsLegalOfAdversary, IsPool, Pool}
+use Rattle.adversary_graph.proofs.WonLemmas.{Met, met}
 
 -- the rules that a node of a pool meets
 pub rules_of : (pool : Pool) → IsPool pool → (number : ℕ) (node : AdvNode) → slice_get pool.nodes number ≡ Some node
-    → Met pool.format pool.game (sizes_of pool.game) (map position_of (take number pool.nodes)) node
-unfolding EachFollows
+    → Met pool.format pool.game pool.sizes (map position_of (take number pool.nodes)) node
 rules_of pool p number node e =
-    met pool.format pool.game (sizes_of pool.game) (map position_of (take number pool.nodes)) false node (p.follow number node e)
+    met pool.format pool.game pool.sizes (map position_of (take number pool.nodes)) false node (p.follow number node e)
 
--- a rule that speaks of the last node alone
-with_root : (format : Format) (game : GameNumbers) (sizes : List ℕ) (earlier : List Position) (last : Bool) (node : AdvNode)
-    → MeetsRules format game sizes earlier false node → (IsTrue last → IsEmptyPosition (position_of node)) → MeetsRules format game sizes earlier last node
-with_root format game sizes earlier last node m root =
-    (m.0, (m.1.0, (m.1.1.0, (m.1.1.1.0, (m.1.1.1.1.0, (m.1.1.1.1.1.0, (m.1.1.1.1.1.1.0, (m.1.1.1.1.1.1.1.0, (root, tt)))))))))
+-- the strategy of a pool of the whole game is legal
+legal_nodes : (format : Format) (game : GameNumbers) (list : Nodes) (nodes : List AdvNode) → list ≡ sides.Adversary nodes → IsLegal format game (sizes_of game) nodes
+    → AreLegal format game list
+legal_nodes format game list nodes e legal = subst (AreLegal format game) (sym e) legal
 
-pub IsPool-nil : (format : Format) (game : GameNumbers) → IsGame game → IsPool (pool_of format game [])
-unfolding EachFollows
-IsPool-nil format game g = record {
-  of_game = g;
-  few = omega arith;
-  formed = All-nil (λ (node : AdvNode). IsOfFormat format node.step);
-  follow = λ k node e. absurd (none-some node e);
-}
-
-pub IsPool-push : (pool : Pool) (node : AdvNode) → IsPool pool → MayComeNext pool node → IsPool (pool_of pool.format pool.game (pool.nodes ++ node ∷ []))
-unfolding EachFollows
-IsPool-push pool node p next =
-    let rules = λ (earlier : List AdvNode) (last : AdvNode). MeetsRules pool.format pool.game (sizes_of pool.game) (map position_of earlier) false last in
-    record {
-      of_game = p.of_game;
-      few = omega (arith, length-append pool.nodes (node ∷ []), next.room);
-      formed = All-push (λ (n : AdvNode). IsOfFormat pool.format n.step) pool.nodes node p.formed next.formed;
-      follow = λ k other e. ⊎_elim
-          (λ here. subst (λ earlier. rules earlier other) (sym (take-append-le k pool.nodes (node ∷ []) (omega (
-            arith,
-            slice_get_within pool.nodes k other here,
-          )))) (p.follow k other here))
-          (λ last. subst (λ n. rules (take n (pool.nodes ++ node ∷ [])) other) (sym last.0)
-          (subst (λ earlier. rules earlier other) (sym (take-append_seam pool.nodes (node ∷ [])))
-          (subst (λ n. rules pool.nodes n) last.1 next.follows)))
-          (slice_get-push pool.nodes node k other e);
-    }
-
-pub map-push : (nodes : List AdvNode) (node : AdvNode) → map position_of (nodes ++ node ∷ []) ≡ map position_of nodes ++ position_of node ∷ []
-map-push nodes node = map-append position_of nodes (node ∷ [])
-
--- the nodes of a pool up to one with the empty position are legal
-pub IsLegal-from_pool : (pool : Pool) (root : ℕ) → IsPool pool → IsRoot pool.nodes root → IsLegal pool.format pool.game (sizes_of pool.game) (nodes_up_to root pool.nodes)
-unfolding EachFollows EachMeetsRules
-IsLegal-from_pool pool root p r =
-    let sizes = sizes_of pool.game in
-    let within = slice_get_within pool.nodes root r.0 r.1 in
-    let number : length (take (root + 1) pool.nodes) ≡ root + 1 = length-take-le (root + 1) pool.nodes (omega (arith, within)) in
-    record {
-      of_game = p.of_game;
-      low = omega (arith, number);
-      high = omega (arith, number, within, p.few);
-      formed = All-take (λ (node : AdvNode). IsOfFormat pool.format node.step) (root + 1) pool.nodes p.formed;
-      each = λ k node e.
-          let h = slice_get-take pool.nodes (root + 1) k node e in
-          let last = eqb (k + 1) (length (take (root + 1) pool.nodes)) in
-          let empty = λ (is_last : last ≡ true).
-          let k_is : k ≡ root = omega (arith, eqb-true (k + 1) (length (take (root + 1) pool.nodes)) is_last, number) in
-          let same : node ≡ r.0 = same_Some node r.0 (sym h.0 ∙ ap (slice_get pool.nodes) k_is ∙ r.1) in
-          subst (λ (n : AdvNode). IsEmptyPosition (position_of n)) (sym same) r.2 in
-          with_root pool.format pool.game sizes (map position_of (take k (take (root + 1) pool.nodes))) last node
-          (subst (λ earlier. MeetsRules pool.format pool.game sizes (map position_of earlier) false node) (sym (take-take k (root + 1) pool.nodes (omega (
-            arith,
-            h.1,
-          )))) (p.follow k node h.0))
-          empty;
-    }
-
--- the nodes of a legal strategy are a pool, and have positions
-pub IsPool-from_legal : (format : Format) (game : GameNumbers) (nodes : List AdvNode) → IsLegal format game (sizes_of game) nodes → IsPool (pool_of format game nodes)
-IsPool-from_legal format game nodes legal = record {
-  of_game = legal.of_game;
-  few = legal.high;
-  formed = legal.formed;
-  follow = EachFollows-from_legal format game (sizes_of game) nodes legal;
-}
-
-pub each_has_position : (format : Format) (game : GameNumbers) (nodes : List AdvNode) → IsPool (pool_of format game nodes) → All (HasPosition game) nodes
-unfolding EachFollows
-each_has_position format game nodes p k d l =
-    HasPosition-from_rules format game (map position_of (take k nodes)) false _ p.of_game (p.follow k _ (slice_get-get_or nodes k d l))
-
--- the last node of a legal strategy is a root
-pub root_of_legal : (format : Format) (game : GameNumbers) (nodes : List AdvNode) → IsLegal format game (sizes_of game) nodes → IsRoot nodes (length nodes - 1)
-unfolding EachMeetsRules
-root_of_legal format game nodes legal =
-    let k = length nodes - 1 in
-    let last : k < length nodes = omega (arith, legal.low) in
-    let none : AdvNode = node_at (position [] []) (Burst 0 0 []) in
-    let here = slice_get-get_or nodes k none last in
-    let is_last : eqb (k + 1) (length nodes) ≡ true = eq-eqb (k + 1) (length nodes) (omega (arith, legal.low)) in
-    (get_or nodes k none, here, (legal.each k (get_or nodes k none) here).1.1.1.1.1.1.1.1.0 is_last)
-
--- a root by its position
-node_with_position : (nodes : List AdvNode) (i : ℕ) (p : Position) → slice_get (map position_of nodes) i ≡ Some p
-    → (node : AdvNode) × (slice_get nodes i ≡ Some node) × (position_of node ≡ p)
-node_with_position nodes i p e = mapped position_of (slice_get nodes i) p (sym (slice_get-map position_of nodes i) ∙ e)
-
-pub root_from_position : (nodes : List AdvNode) (i : ℕ) (p : Position) → slice_get (map position_of nodes) i ≡ Some p → IsEmptyPosition p → IsRoot nodes i
-root_from_position nodes i p e empty =
-    let node = node_with_position nodes i p e in
-    (node.0, node.1, subst IsEmptyPosition (sym node.2) empty)
-
-pub position_from_root : (nodes : List AdvNode) (i : ℕ) (p : Position) → slice_get (map position_of nodes) i ≡ Some p → IsRoot nodes i → IsEmptyPosition p
-position_from_root nodes i p e root =
-    let node = node_with_position nodes i p e in
-    let same : root.0 ≡ node.0 = same_Some root.0 node.0 (sym root.1 ∙ node.1) in
-    subst IsEmptyPosition (ap position_of same ∙ node.2) root.2
-
-pub no_root : (nodes : List AdvNode) (i : ℕ) → slice_get (map position_of nodes) i ≡ None → IsRoot nodes i → ⊥
-no_root nodes i e root =
-    none-some (position_of root.0) (sym e ∙ slice_get-map position_of nodes i ∙ ap (option_map position_of) root.1)
+pub IsLegal-of_pool : (strategy : Strategy) (pool : Pool) (nodes : List AdvNode) → pool.sizes ≡ sizes_of pool.game → strategy.format ≡ pool.format → strategy.game ≡ pool.game
+    → strategy.nodes ≡ sides.Adversary nodes → pools.AreLegal position_of IsNodeOfFormat MeetsRulesUnder (terms_in pool) nodes → IsLegalOfAdversary strategy
+IsLegal-of_pool strategy pool nodes whole format game is legal =
+    legal_nodes strategy.format strategy.game strategy.nodes nodes is
+    (subst (λ (f : Format). IsLegal f strategy.game (sizes_of strategy.game) nodes) (sym format)
+    (subst (λ (g : GameNumbers). IsLegal pool.format g (sizes_of g) nodes) (sym game)
+    (subst (λ (sizes : List ℕ). IsLegal pool.format pool.game sizes nodes) whole legal)))

@@ -172,7 +172,6 @@ met format game sizes earlier last node m = record {
 
 pub packable_node : (format : Format) (game : GameNumbers) (sizes : List ℕ) (nodes : List AdvNode) → All (IsSize game.capacity) sizes → EachFollows format game sizes nodes
     → (bound k : ℕ) (node : AdvNode) → k < bound → slice_get nodes k ≡ Some node → Packable game (node.items ++ sent_items node.step)
-unfolding EachFollows
 packable_node format game sizes nodes z follows zero k node l e = absurd (omega arith)
 packable_node format game sizes nodes z follows (suc bound) k node l e =
     let m = met format game sizes (map position_of (take k nodes)) false node (follows k node e) in
@@ -246,7 +245,6 @@ wins_step format game sizes loads items (Burst number size pack) earlier n z m p
 
 pub wins_node : (format : Format) (game : GameNumbers) (sizes : List ℕ) (nodes : List AdvNode) → All (IsSize game.capacity) sizes → EachFollows format game sizes nodes
     → (bound k : ℕ) (node : AdvNode) → k < bound → slice_get nodes k ≡ Some node → Wins game (is_one_of sizes) (sent_by (take (suc k) nodes)) (position_of node)
-unfolding EachFollows
 wins_node format game sizes nodes z follows zero k node l e = absurd (omega arith)
 wins_node format game sizes nodes z follows (suc bound) k node l e =
     let allowed = is_one_of sizes in
@@ -271,7 +269,6 @@ not_last format game sizes earlier last node m =
 
 pub EachFollows-from_legal : (format : Format) (game : GameNumbers) (sizes : List ℕ) (nodes : List AdvNode) → IsLegal format game sizes nodes
     → EachFollows format game sizes nodes
-unfolding EachFollows EachMeetsRules
 EachFollows-from_legal format game sizes nodes legal k node e =
     not_last format game sizes (map position_of (take k nodes)) (eqb (k + 1) (length nodes)) node (legal.each k node e)
 
@@ -284,7 +281,6 @@ legal_nodes_are_won format game sizes nodes z legal k d l = (
 )
 
 pub legal_strategy_forces : (format : Format) (game : GameNumbers) (nodes : List AdvNode) → IsLegal format game (sizes_of game) nodes → ForcesEvery game
-unfolding EachMeetsRules
 legal_strategy_forces format game nodes legal =
     let k = length nodes - 1 in
     let last : k < length nodes = omega (arith, legal.low) in

@@ -5,5 +5,6 @@ pub mod Legal
 pub mod Judging
 pub mod Laws
 pub mod Pools
+pub mod NodesAreJudged
 pub mod Play
 pub mod Playing

@@ -3,11 +3,11 @@
 ghost use Rattle.adversary_graph.specs.Laws.{LegalNodesAreWon, LegalStrategiesForceEvery, PlaysAreLost};
 ghost use Rattle.adversary_graph.specs.Pools.{IsPool};
 
-use crate::pool::AdvPool;
+use crate::pool::AdvJudged;
 
-/// The nodes of a pool meet every rule but `root` over the nodes before them, and the numbers of its game are within
+/// Judged nodes meet every rule but `root` over the nodes before them, and the numbers of their game are within
 /// their ranges.
-pub fn pool_is_legal(pool: &AdvPool)
+pub fn pool_is_legal(pool: &AdvJudged)
     ensures { IsPool pool.now }
 {
     let _len = pool.len();

@@ -7,9 +7,10 @@ mod pool;
 mod rules;
 mod step;
 
-pub use plays::refute;
-pub use pool::AdvPool;
+pub use plays::{first_child, packing_for, refute, refute_by, without_beyond};
+pub use pool::{AdvJudged, AdvPool, AdversaryRules};
 pub use rules::{judge, node_fault};
+pub use step::packing_of;
 
 #[cfg(test)]
 mod tests;

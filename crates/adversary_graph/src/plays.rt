@@ -14,7 +14,7 @@ ghost use Rattle.adversary_graph.specs.Pools.{IsRoot};
 ghost use Rattle.adversary_graph.specs.Playing.{IsCourse, IsEnd, IsStep, ShowsEndPacking, StandsReady, play_of};
 
 use crate::laws::pool_is_legal;
-use crate::pool::AdvPool;
+use crate::pool::{AdvJudged, AdvPool};
 use crate::step::packing_of;
 use items::laws::game_is_legal;
 use items::{Game, Nums};
@@ -37,10 +37,25 @@ pub fn refute<O: Online>(
         IfOk result (λ transcript. play pool.now.game pool.now.nodes root answer ≡ Some (play_of transcript)) }
     ensures lost { IfOk result (λ transcript. IsLost pool.now.game (play_of transcript)) }
 {
+    refute_by(alloc, pool.nodes(), root, player)
+}
+
+/// As [`refute`], for nodes without their positions.
+pub fn refute_by<O: Online>(
+    alloc: Global,
+    pool: &AdvJudged,
+    root: u32,
+    player: &O,
+) -> Result<Transcript, AllocError>
+    requires root { IsRoot pool.now.nodes root }
+    ensures played { let answer = O.answer player.now pool.now.game in
+        IfOk result (λ transcript. play pool.now.game pool.now.nodes root answer ≡ Some (play_of transcript)) }
+    ensures lost { IfOk result (λ transcript. IsLost pool.now.game (play_of transcript)) }
+{
     pool_is_legal(pool);
     let mut course = Course::new(alloc, &pool.game());
     let end = play_on(pool, root, player, &mut course)?;
-    let packing = packing_for(pool, end, &course.items)?;
+    let packing = packing_for(pool, end, course.items.as_slice())?;
     let loads = Nums::from_slice(alloc, course.actual.as_slice())?;
     Ok(Transcript {
         items: course.items,
@@ -110,7 +125,7 @@ impl Course {
 
 // Plays from the root to the end, and gives the number of the node that sent the last item.
 fn play_on<O: Online>(
-    pool: &AdvPool,
+    pool: &AdvJudged,
     root: u32,
     player: &O,
     course: &mut Course,
@@ -135,7 +150,7 @@ fn play_on<O: Online>(
 
 // Sends what the node of this number sends, and gives the child at which the play goes on, if it does.
 fn play_step<O: Online>(
-    pool: &AdvPool,
+    pool: &AdvJudged,
     number: u32,
     player: &O,
     course: &mut Course,
@@ -186,8 +201,9 @@ fn child_of(next: Then) -> Option<u32>
     }
 }
 
-// A packing of a play's items: the end packing of the node of this number without what that has beyond the items.
-fn packing_for(pool: &AdvPool, number: u32, items: &Nums) -> Result<Packing, AllocError>
+/// The packing of a play that ends at the node of this number, whose items are these in any order: the end packing of
+/// the node without what that has beyond the items. It costs a copy of the packing for each item taken out.
+pub fn packing_for(pool: &AdvJudged, number: u32, items: &[u16]) -> Result<Packing, AllocError>
     requires end { IsEnd pool.now number items.now }
     ensures made { IfOk result (λ packing.
         (bins : List (List ℕ)) × (end_packing pool.now.nodes (number + 1) number ≡ Some bins)
@@ -196,12 +212,12 @@ fn packing_for(pool: &AdvPool, number: u32, items: &Nums) -> Result<Packing, All
 {
     pool_is_legal(pool);
     let game = pool.game();
-    let packing = without_beyond(&game, end_packing(pool, number), items.as_slice())?;
+    let packing = without_beyond(&game, end_packing(pool, number), items)?;
     Ok(packing)
 }
 
 // The end packing of the node of this number.
-fn end_packing(pool: &AdvPool, number: u32) -> &Packing
+fn end_packing(pool: &AdvJudged, number: u32) -> &Packing
     requires within { number < length pool.now.nodes }
     ensures { end_packing pool.now.nodes (number + 1) number ≡ Some result.now }
 {
@@ -209,7 +225,7 @@ fn end_packing(pool: &AdvPool, number: u32) -> &Packing
 }
 
 // The node whose packing is the end packing of the node of this number.
-fn packed_node(pool: &AdvPool, number: u32) -> u32
+fn packed_node(pool: &AdvJudged, number: u32) -> u32
     requires within { number < length pool.now.nodes }
     ensures { ShowsEndPacking pool.now.nodes number result }
 {
@@ -225,8 +241,8 @@ fn packed_node(pool: &AdvPool, number: u32) -> u32
     }
 }
 
-// The child of the first placement that has one.
-fn first_child(step: &Step) -> Option<u32>
+/// The child of the first placement of a step that has one. Takes no memory.
+pub fn first_child(step: &Step) -> Option<u32>
     ensures { result ≡ first_child (placements_of step.now) }
 {
     match step {
@@ -246,8 +262,10 @@ fn first_child_of(placements: &[Placement]) -> Option<u32>
     None
 }
 
-// The bins without what they have beyond the items.
-fn without_beyond(game: &Game, bins: &Packing, items: &[u16]) -> Result<Packing, AllocError>
+/// The bins without what they have beyond the items: each item is taken out of the first bin that has one, in
+/// ascending order. So a packing of the items and others becomes one of the items. Costs a copy of the bins for each
+/// item taken out.
+pub fn without_beyond(game: &Game, bins: &Packing, items: &[u16]) -> Result<Packing, AllocError>
     requires few { (x : ℕ) → count x (concat bins.now) ≤ 960 }
     ensures { IfOk result (λ packing. packing ≡ without_all (beyond game.now (concat bins.now) items.now) bins.now) }
 {

@@ -1,7 +1,7 @@
 //! The rules of an adversary's node.
 
 ghost use Rattle.std.specs.Prelude.{◌≡◌, ◌<◌, ◌↔◌, ◌+◌, ◌-◌, ◌/◌, ◌*◌, ◌≤◌, ◌∷◌, [], ◌++◌, All, IsTrue, MatchOption};
-ghost use Rattle.std.specs.Prelude.{MatchResult, Contains, Some, length, sum, map};
+ghost use Rattle.std.specs.Prelude.{Contains, Some, length, sum, map};
 ghost use Rattle.items.specs.Multiset.{sizes_of, IsSize, IsMultiset};
 ghost use Rattle.items.specs.Packable.{IsPacking};
 ghost use Rattle.loads.specs.After.{after};
@@ -9,44 +9,42 @@ ghost use Rattle.loads.specs.Descending.{distinct};
 ghost use Rattle.loads.specs.Loads.{IsLoads};
 ghost use Rattle.loads.specs.Position.{AreItemsOf, IsEmptyPosition, position};
 ghost use Rattle.strategy_text.specs.Rules.{AllMet, IsFirstBroken};
-ghost use Rattle.adversary_graph.specs.Nodes.{position_of, sent_size, sent_items, placements_of, IsOfFormat};
+ghost use Rattle.adversary_graph.specs.Nodes.{sent_size, sent_items, placements_of, IsOfFormat};
 ghost use Rattle.adversary_graph.specs.Rules.{MeetsRules, Breaks, Meets, rules_past_items, most_below_target};
 ghost use Rattle.adversary_graph.specs.Rules.{IsLongEnough, IsPacked, PlacesEachLoad, IsOverAtTarget};
 ghost use Rattle.adversary_graph.specs.Judging.{node_at, BreaksPastItems, LeadsOn};
 
-use crate::pool::position_of;
 use crate::step::{is_packing_asked, packing_of, sent_number, sent_size};
 use items::laws::game_is_legal;
-use items::{Game, MOST_SIZE, MOST_VOLUME, Sizes};
-use loads::{EarlierPositions, Loads, Position, are_items_of};
+use items::{Game, MOST_SIZE, MOST_VOLUME};
+use loads::{EarlierPositions, Loads, are_items_of, most_on_load};
+use node_pool::Terms;
 use packing_witness::Packing;
 use strategy_text::{AdvNode, Format, Placement, Rule, Step, Then};
 
-/// The position of a node that meets every rule as the node that follows the earlier ones, or the first rule
-/// that it breaks. Items may have the given sizes, each of which is a size of the game. The rule `root` is judged
-/// only where the node is the last one. Takes no memory; the cost is linear in the node.
+/// The first rule that the node breaks under these terms as the node that follows the earlier ones; None exactly where
+/// it breaks none. The rule `root` is judged only where the node is the last one. Takes no memory; the cost is linear in
+/// the node.
 pub fn judge<E: EarlierPositions>(
-    format: Format,
-    game: &Game,
-    sizes: &Sizes,
+    terms: &Terms,
     earlier: &E,
     last: bool,
     node: &AdvNode,
-) -> Result<Position, Rule>
-    requires form { IsOfFormat format node.now.step }
-    requires sizes { All (IsSize game.now.capacity) sizes.now }
-    ensures exact { MatchResult result
-        (λ position. (position ≡ position_of node.now)
-        × MeetsRules format game.now sizes.now (E.positions earlier.now) last node.now)
-        (Breaks format game.now sizes.now (E.positions earlier.now) last node.now) }
+) -> Option<Rule>
+    requires form { IsOfFormat terms.now.format node.now.step }
+    ensures exact { let terms = terms.now in MatchOption result
+        (MeetsRules terms.format terms.game terms.sizes (E.positions earlier.now) last node.now)
+        (Breaks terms.format terms.game terms.sizes (E.positions earlier.now) last node.now) }
 {
-    match first_fault(format, game, sizes, earlier, last, node) {
-        Some(rule) => Err(rule),
-        None => {
-            game_is_legal(game);
-            Ok(position_of(game, node))
-        }
+    let loads = node.loads.as_slice();
+    let Some(loads) = Loads::from_slice(node.loads.allocator(), &terms.game(), loads) else {
+        return Some(Rule::Loads);
+    };
+    let items = node.items.as_slice();
+    if !are_items_of(terms.sizes(), &loads, items) {
+        return Some(Rule::Items);
     }
+    fault_past_items(terms, earlier, last, &loads, items, &node.step)
 }
 
 /// The first rule of the whole game that the node breaks as the node that follows the earlier ones; None exactly
@@ -64,35 +62,7 @@ pub fn node_fault<E: EarlierPositions>(
         (MeetsRules format game.now (sizes_of game.now) (E.positions earlier.now) last node.now)
         (Breaks format game.now (sizes_of game.now) (E.positions earlier.now) last node.now) }
 {
-    first_fault(format, game, &Sizes::of_game(game), earlier, last, node)
-}
-
-// The first rule that a node breaks as the node that follows the earlier ones.
-fn first_fault<E: EarlierPositions>(
-    format: Format,
-    game: &Game,
-    sizes: &Sizes,
-    earlier: &E,
-    last: bool,
-    node: &AdvNode,
-) -> Option<Rule>
-    requires form { IsOfFormat format node.now.step }
-    requires sizes { All (IsSize game.now.capacity) sizes.now }
-    ensures exact { MatchOption result
-        (MeetsRules format game.now sizes.now (E.positions earlier.now) last node.now)
-        (Breaks format game.now sizes.now (E.positions earlier.now) last node.now) }
-{
-    let loads = node.loads.as_slice();
-    let Some(loads) = Loads::from_slice(node.loads.allocator(), game, loads) else {
-        return Some(Rule::Loads);
-    };
-    let items = node.items.as_slice();
-    if !are_items_of(sizes, &loads, items) {
-        return Some(Rule::Items);
-    }
-    fault_past_items(
-        format, game, sizes, earlier, last, &loads, items, &node.step,
-    )
+    judge(&Terms::of_game(format, game), earlier, last, node)
 }
 
 fn total_of(loads: &[u16]) -> u32
@@ -104,30 +74,28 @@ fn total_of(loads: &[u16]) -> u32
 
 // The first rule past `items` that a node breaks which takes this step at the position of these loads and items.
 fn fault_past_items<E: EarlierPositions>(
-    format: Format,
-    game: &Game,
-    sizes: &Sizes,
+    terms: &Terms,
     earlier: &E,
     last: bool,
     loads: &Loads,
     items: &[u16],
     step: &Step,
 ) -> Option<Rule>
-    requires sizes { All (IsSize game.now.capacity) sizes.now }
-    requires loads { IsLoads game.now loads.now }
-    requires items { AreItemsOf sizes.now loads.now items.now }
-    ensures exact { let node = node_at (position loads.now items.now) step.now in MatchOption result
-        (AllMet (Meets format game.now sizes.now (E.positions earlier.now) last node) rules_past_items)
-        (BreaksPastItems format game.now sizes.now (E.positions earlier.now) last node) }
+    requires loads { IsLoads terms.now.game loads.now }
+    requires items { AreItemsOf terms.now.sizes loads.now items.now }
+    ensures exact { let node = node_at (position loads.now items.now) step.now in let terms = terms.now in
+        MatchOption result
+        (AllMet (Meets terms.format terms.game terms.sizes (E.positions earlier.now) last node) rules_past_items)
+        (BreaksPastItems terms.format terms.game terms.sizes (E.positions earlier.now) last node) }
 {
-    game_is_legal(game);
-    if !sizes.contains(sent_size(step)) {
+    let game = &terms.game();
+    if !terms.sizes().contains(sent_size(step)) {
         return Some(Rule::Send);
     }
     if !is_long_enough(game, loads, step) {
         return Some(Rule::Burst);
     }
-    if !is_packed(format, game, loads, items, step) {
+    if !is_packed(terms.format(), game, loads, items, step) {
         return Some(Rule::Pack);
     }
     if !places_each_load(loads, step) {
@@ -168,16 +136,6 @@ fn most_below_target(game: &Game, size: u16, loads: &Loads) -> u16
         most += most_on_load(game, size, *load);
     }
     most
-}
-
-// How many items of this size can come to a bin of this load that stays below the target.
-fn most_on_load(game: &Game, size: u16, load: u16) -> u16
-    requires below { load < game.now.target }
-    requires size { 1 ≤ size }
-    ensures value { result ≡ (game.now.target - 1 - load) / size }
-    ensures small { result ≤ 239 }
-{
-    (game.t() - 1 - load) / size
 }
 
 // Whether a packing is shown exactly where it is asked for, and packs the items with all that the step sends.
@@ -356,11 +314,4 @@ fn is_root(loads: &Loads, items: &[u16]) -> bool
     ensures exact { IsTrue result ↔ IsEmptyPosition (position loads.now items.now) }
 {
     items.is_empty() && loads.as_slice().iter().all(|load| *load == 0)
-}
-
-// Whether all bins of a position are empty and there are no items.
-pub fn is_empty(position: &Position) -> bool
-    ensures exact { IsTrue result ↔ IsEmptyPosition position.now }
-{
-    position.items.volume() == 0 && position.loads.as_slice().iter().all(|load| *load == 0)
 }

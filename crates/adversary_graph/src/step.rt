@@ -28,7 +28,7 @@ pub fn sent_number(step: &Step) -> u16
     }
 }
 
-// The packing that a step shows, if it shows one.
+/// The packing that a step shows, if it shows one. Takes no memory.
 pub fn packing_of(step: &Step) -> Option<&Packing>
     ensures { option_copied result ≡ packing_of step.now }
 {

@@ -1,6 +1,9 @@
+ghost use Rattle.std.specs.Prelude.{◌≡◌, IfOk};
+ghost use Rattle.items.specs.Multiset.{sizes_of};
+ghost use Rattle.node_pool.specs.Pools.{terms_in};
 ghost use Rattle.adversary_graph.specs.Nodes.{IsOfFormat};
 
-use crate::{AdvPool, node_fault, refute};
+use crate::{AdvPool, judge, refute};
 use items::{Game, Nums};
 use online_play::{FirstFit, LeastLoaded, Online, Transcript};
 use std::alloc::{AllocError, Global};
@@ -34,8 +37,9 @@ const BURSTS: [&str; 4] = [
 // Judges a node after those of a pool, and puts it into the pool where it breaks no rule.
 fn put(pool: &mut AdvPool, node: AdvNode, last: bool) -> Result<Option<Rule>, AllocError>
     requires { IsOfFormat pool.old.format node.step }
+    ensures { terms_in pool.new ≡ terms_in pool.old }
 {
-    let fault = node_fault(&pool.game(), pool.format(), pool.positions(), last, &node);
+    let fault = judge(pool.terms(), pool.positions(), last, &node);
     if fault.is_none() && pool.len() < 4_000_000_000 {
         let _number = pool.push(node)?;
     }
@@ -48,7 +52,9 @@ fn judged(
     pool: &mut AdvPool,
     line: &str,
     last: bool,
-) -> Result<Option<Rule>, AllocError> {
+) -> Result<Option<Rule>, AllocError>
+    ensures { terms_in pool.new ≡ terms_in pool.old }
+{
     match parse_adversary(alloc, pool.format(), line.as_bytes(), pool.len())? {
         Some(node) => put(pool, node, last),
         None => Ok(Some(Rule::Game)),
@@ -56,7 +62,9 @@ fn judged(
 }
 
 // The pool of the nodes of these lines that break no rule, for two bins of capacity 3 and target 4.
-fn pool_of(alloc: Global, format: Format, lines: &[&str]) -> Result<AdvPool, AllocError> {
+fn pool_of(alloc: Global, format: Format, lines: &[&str]) -> Result<AdvPool, AllocError>
+    ensures { IfOk result (λ pool. pool.sizes ≡ sizes_of pool.game) }
+{
     let game = Game::new(2, 3, 4).unwrap();
     let mut pool = AdvPool::new(alloc, &game, format);
     for line in lines {

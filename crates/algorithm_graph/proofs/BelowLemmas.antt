@@ -109,7 +109,6 @@ pub record Meets (game : GameNumbers) (sizes : List ℕ) (earlier : List Positio
 meets : (format : Format) (game : GameNumbers) (sizes : List ℕ) (nodes : List AlgNode) → IsLegal format game sizes nodes → (k : ℕ) (node : AlgNode)
     → slice_get nodes k ≡ Some node
     → Meets game sizes (map position_of (take k nodes)) node
-unfolding EachMeetsRules
 meets format game sizes nodes legal k node here =
     let m = legal.each k node here in
     record { loads = m.0; items = m.1.0; finish = m.1.1.0; big = m.1.1.1.0; replies = m.1.1.1.1.0; reply = m.1.1.1.1.1.0; child = m.1.1.1.1.1.1.0 }
@@ -224,7 +223,6 @@ module _ (format : Format) (game : GameNumbers) (sizes : List ℕ) (nodes : List
 
   -- the root
   pub root : (node : AlgNode) × StandsAtNode nodes (length nodes - 1) node [] (replicate game.bins 0)
-  unfolding EachMeetsRules
   root =
       let k : ℕ = length nodes - 1 in
       let last : k < length nodes = omega (arith, legal.low) in

@@ -14,7 +14,8 @@ use Rattle.strategy_text.specs.declared.node.Act.{Act}
 use Rattle.strategy_text.specs.declared.node.Act.TheVariants.{Reply}
 use Rattle.strategy_text.specs.declared.node.AlgNode.{AlgNode}
 use Rattle.strategy_text.specs.declared.node.Entry.{Entry}
-use Rattle.algorithm_graph.specs.Pools.{IsRoot, nodes_up_to}
+use Rattle.algorithm_graph.specs.Pools.{IsRoot}
+use Rattle.node_pool.specs.Pools.{nodes_up_to}
 use Rattle.algorithm_graph.specs.Replies.{Stand, at_node, Replay, start, Move, move_to, move_at, move_of, node_move, act_move, entry_move, finish_move, big_move, moved}
 use Rattle.algorithm_graph.specs.Replies.{after_item, replayed, replies}
 use Rattle.algorithm_graph.specs.Replaying.{replay_at, stand_of, IsStep}

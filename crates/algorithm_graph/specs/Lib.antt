@@ -3,6 +3,7 @@ pub mod Rules
 pub mod Legal
 pub mod Judging
 pub mod Pools
+pub mod NodesAreJudged
 pub mod Replies
 pub mod Files
 pub mod RepliesAnswer

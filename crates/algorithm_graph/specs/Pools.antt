@@ -1,48 +1,35 @@
-use Rattle.std.specs.Prelude.{◌≡◌, ℕ, ◌+◌, ◌<◌, ◌≤◌, List, Some, length, map, take, slice_get, false}
-use Rattle.std.specs.Prelude.{All}
-use Rattle.items.specs.Game.{GameNumbers, IsGame}
+use Rattle.std.specs.Prelude.{ℕ, List}
+use Rattle.items.specs.Game.{GameNumbers}
 use Rattle.items.specs.Multiset.{sizes_of}
-use Rattle.loads.specs.Position.{IsEmptyPosition}
-use Rattle.strategy_text.specs.Spelling.{most_nodes}
 use Rattle.strategy_text.specs.declared.node.AlgNode.{AlgNode}
 use Rattle.strategy_text.specs.declared.node.Format.{Format}
 use Rattle.strategy_text.specs.declared.node.Nodes.{Nodes}
 use Rattle.strategy_text.specs.declared.node.Nodes.TheVariants as sides
 use Rattle.strategy_text.specs.declared.node.Strategy.{Strategy}
-use Rattle.algorithm_graph.specs.Legal.{EachFollows, IsLegal}
-use Rattle.algorithm_graph.specs.Nodes.{position_of, IsOfFormat}
-use Rattle.algorithm_graph.specs.Rules.{MeetsRules}
+use Rattle.node_pool.specs.Pools as pools
+use Rattle.node_pool.specs.Terms.{whole_game}
+use Rattle.algorithm_graph.specs.Legal.{IsLegal, IsNodeOfFormat, MeetsRulesUnder}
+use Rattle.algorithm_graph.specs.Nodes.{position_of}
 
--- a pool of nodes of the algorithm: the format, the game, and the nodes in the order of their numbers
-pub record Pool : Type 0 where
-  pub format : Format
-  pub game : GameNumbers
-  pub nodes : List AlgNode
+-- a pool of nodes of the algorithm
+abbrev pub Pool : Type 0
+Pool = pools.Pool AlgNode
 
+-- the pool of these nodes for the whole game
 abbrev pub pool_of : Format → GameNumbers → List AlgNode → Pool
-pool_of format game nodes = record { format = format; game = game; nodes = nodes }
+pool_of format game nodes = pools.pool_of (whole_game format game) nodes
 
--- what every pool keeps: the numbers are a game, there are at most 4,000,000,000 nodes, each has a form of the format,
--- and each meets every rule of the whole game but `root` over the nodes before it
-pub record IsPool (pool : Pool) : Type 0 where
-  pub of_game : IsGame pool.game
-  pub few : length pool.nodes ≤ most_nodes
-  pub formed : All (λ node. IsOfFormat pool.format node.act) pool.nodes
-  pub follow : EachFollows pool.game (sizes_of pool.game) pool.nodes
+-- what every pool keeps
+abbrev pub IsPool : Pool → Type 0
+IsPool pool = pools.IsPool position_of IsNodeOfFormat MeetsRulesUnder pool
 
 -- a node may come next into a pool
-pub record MayComeNext (pool : Pool) (node : AlgNode) : Type 0 where
-  pub room : length pool.nodes < most_nodes
-  pub formed : IsOfFormat pool.format node.act
-  pub follows : MeetsRules pool.game (sizes_of pool.game) (map position_of pool.nodes) false node
+abbrev pub MayComeNext : Pool → AlgNode → Type 0
+MayComeNext pool node = pools.MayComeNext position_of IsNodeOfFormat MeetsRulesUnder pool node
 
 -- the node of this number has the empty position
 abbrev pub IsRoot : List AlgNode → ℕ → Type 0
-IsRoot nodes root = (node : AlgNode) × (slice_get nodes root ≡ Some node) × IsEmptyPosition (position_of node)
-
--- the nodes up to that of this number
-abbrev pub nodes_up_to : ℕ → List AlgNode → List AlgNode
-nodes_up_to root nodes = take (root + 1) nodes
+IsRoot nodes root = pools.IsRoot position_of nodes root
 
 -- the strategy of the algorithm that these nodes are
 abbrev pub strategy_of : Pool → Strategy

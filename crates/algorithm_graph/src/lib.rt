@@ -8,7 +8,7 @@ mod replay;
 mod rules;
 
 pub use file::FileAlgorithm;
-pub use pool::AlgPool;
+pub use pool::{AlgJudged, AlgPool, AlgorithmRules};
 pub use rules::{judge, node_fault};
 
 #[cfg(test)]

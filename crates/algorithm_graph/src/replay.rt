@@ -4,12 +4,13 @@ ghost use Rattle.std.specs.Prelude.{◌≡◌, ◌≢◌, ◌==◌, ◌<◌, ◌
 ghost use Rattle.std.specs.Prelude.{position, slice_get};
 ghost use Rattle.items.specs.Packable.{Packable};
 ghost use Rattle.good_situations.specs.KeptOrder.{CanAdd, IsOrderOf};
-ghost use Rattle.algorithm_graph.specs.Pools.{IsRoot, nodes_up_to};
+ghost use Rattle.algorithm_graph.specs.Pools.{IsRoot};
+ghost use Rattle.node_pool.specs.Pools.{nodes_up_to};
 ghost use Rattle.algorithm_graph.specs.Replies.{at_node, stay, finish_move, big_move, bin_move, entry_move, act_move};
 ghost use Rattle.algorithm_graph.specs.Replies.{move_at, replies};
 ghost use Rattle.algorithm_graph.specs.Replaying.{stand_of, IsStandIn, IsStep, LeavesABin};
 
-use crate::pool::AlgPool;
+use crate::pool::AlgJudged;
 use good_situations::{BigFinish, Finish};
 use items::Game;
 use online_play::Actual;
@@ -31,7 +32,7 @@ pub struct Step {
 }
 
 // The bin of the last item of a list in the replay from a root.
-pub fn replay(pool: &AlgPool, root: u32, game: &Game, history: &[u16]) -> u8
+pub fn replay(pool: &AlgJudged, root: u32, game: &Game, history: &[u16]) -> u8
     requires root { IsRoot pool.now.nodes root }
     requires game { pool.now.game ≡ game.now }
     requires some { history.now ≢ [] }
@@ -51,7 +52,7 @@ pub fn replay(pool: &AlgPool, root: u32, game: &Game, history: &[u16]) -> u8
 }
 
 fn step_at(
-    pool: &AlgPool,
+    pool: &AlgJudged,
     root: u32,
     game: &Game,
     actual: &[u16],
@@ -77,7 +78,7 @@ fn step_at(
 }
 
 // The node of this number among those up to the root.
-fn node_of(pool: &AlgPool, root: u32, number: u32) -> Option<&AlgNode>
+fn node_of(pool: &AlgJudged, root: u32, number: u32) -> Option<&AlgNode>
     requires { IsRoot pool.now.nodes root }
     ensures exact { let found = slice_get (nodes_up_to root pool.now.nodes) number in
         MatchOption result (found ≡ None) (λ node. found ≡ Some node.now) }

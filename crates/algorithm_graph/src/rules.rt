@@ -1,51 +1,49 @@
 //! The rules of an algorithm's node.
 
-ghost use Rattle.std.specs.Prelude.{◌≡◌, ◌↔◌, ◌++◌, ◌≤◌, ◌<◌, IsTrue, All, Contains, MatchOption, MatchResult};
+ghost use Rattle.std.specs.Prelude.{◌≡◌, ◌↔◌, ◌++◌, ◌≤◌, ◌<◌, IsTrue, All, Contains, MatchOption};
 ghost use Rattle.std.specs.Prelude.{IfOk, length, slice_get, Some, sum, take, ℕ};
 ghost use Rattle.items.specs.Multiset.{IsMultiset, IsSize, sizes_of};
 ghost use Rattle.loads.specs.Loads.{IsLoads};
 ghost use Rattle.loads.specs.Position.{AreItemsOf, IsEmptyPosition, position};
 ghost use Rattle.strategy_text.specs.Rules.{AllMet};
-ghost use Rattle.algorithm_graph.specs.Nodes.{position_of, entries_of};
+ghost use Rattle.algorithm_graph.specs.Nodes.{entries_of};
 ghost use Rattle.algorithm_graph.specs.Rules.{MeetsRules, Breaks, Meets, NamesLoad, rules_past_items};
 ghost use Rattle.algorithm_graph.specs.Rules.{FinishesIfSaid, BigFinishesIfSaid, RepliesIfSaid};
 ghost use Rattle.algorithm_graph.specs.Judging.{node_at, sizes_in, sizes_up_to, if_one_of, BreaksPastItems};
 ghost use Rattle.algorithm_graph.specs.Judging.{HaveRoom, HasSize, LeadsOn};
 
-use crate::pool::position_of;
 use good_situations::{big_finishes, finishes};
 use items::laws::game_is_legal;
 use items::{Game, Items, MOST_SIZE, Sizes};
-use loads::{EarlierPositions, Loads, Position, are_items_of};
+use loads::{EarlierPositions, Loads, are_items_of};
+use node_pool::Terms;
 use reachable_loads::room_of;
 use std::alloc::{AllocError, Global};
-use strategy_text::{Act, AlgNode, Entry, Rule};
+use strategy_text::{Act, AlgNode, Entry, Format, Rule};
 
-/// The position of a node that meets every rule as the node that follows the earlier ones, or the first rule
-/// that it breaks. Items may have the given sizes, each of which is a size of the game. The rule `root` is judged
-/// only where the node is the last one. A node that replies costs the room of its items, once; any other is judged
-/// without memory.
+/// The first rule that the node breaks under these terms as the node that follows the earlier ones; None exactly where
+/// it breaks none. The rule `root` is judged only where the node is the last one. A node that replies costs the room of
+/// its items, once; any other is judged without memory.
 pub fn judge<E: EarlierPositions>(
     alloc: Global,
-    game: &Game,
-    sizes: &Sizes,
+    terms: &Terms,
     earlier: &E,
     last: bool,
     node: &AlgNode,
-) -> Result<Result<Position, Rule>, AllocError>
-    requires sizes { All (IsSize game.now.capacity) sizes.now }
-    ensures exact { IfOk result (λ judged. MatchResult judged
-        (λ position. (position ≡ position_of node.now)
-        × MeetsRules game.now sizes.now (E.positions earlier.now) last node.now)
-        (Breaks game.now sizes.now (E.positions earlier.now) last node.now)) }
+) -> Result<Option<Rule>, AllocError>
+    ensures exact { let terms = terms.now in IfOk result (λ fault. MatchOption fault
+        (MeetsRules terms.game terms.sizes (E.positions earlier.now) last node.now)
+        (Breaks terms.game terms.sizes (E.positions earlier.now) last node.now)) }
 {
-    match first_fault(alloc, game, sizes, earlier, last, node)? {
-        Some(rule) => Ok(Err(rule)),
-        None => {
-            game_is_legal(game);
-            Ok(Ok(position_of(game, node)))
-        }
+    let loads = node.loads.as_slice();
+    let Some(loads) = Loads::from_slice(alloc, &terms.game(), loads) else {
+        return Ok(Some(Rule::Loads));
+    };
+    let items = node.items.as_slice();
+    if !are_items_of(terms.sizes(), &loads, items) {
+        return Ok(Some(Rule::Items));
     }
+    fault_past_items(alloc, terms, earlier, last, &loads, items, &node.act)
 }
 
 /// The first rule of the whole game that the node breaks as the node that follows the earlier ones; None exactly
@@ -61,60 +59,40 @@ pub fn node_fault<E: EarlierPositions>(
         (MeetsRules game.now (sizes_of game.now) (E.positions earlier.now) last node.now)
         (Breaks game.now (sizes_of game.now) (E.positions earlier.now) last node.now)) }
 {
-    first_fault(alloc, game, &Sizes::of_game(game), earlier, last, node)
-}
-
-// The first rule that a node breaks as the node that follows the earlier ones.
-fn first_fault<E: EarlierPositions>(
-    alloc: Global,
-    game: &Game,
-    sizes: &Sizes,
-    earlier: &E,
-    last: bool,
-    node: &AlgNode,
-) -> Result<Option<Rule>, AllocError>
-    requires sizes { All (IsSize game.now.capacity) sizes.now }
-    ensures exact { IfOk result (λ fault. MatchOption fault
-        (MeetsRules game.now sizes.now (E.positions earlier.now) last node.now)
-        (Breaks game.now sizes.now (E.positions earlier.now) last node.now)) }
-{
-    let loads = node.loads.as_slice();
-    let Some(loads) = Loads::from_slice(alloc, game, loads) else {
-        return Ok(Some(Rule::Loads));
-    };
-    let items = node.items.as_slice();
-    if !are_items_of(sizes, &loads, items) {
-        return Ok(Some(Rule::Items));
-    }
-    fault_past_items(alloc, game, sizes, earlier, last, &loads, items, &node.act)
+    judge(
+        alloc,
+        &Terms::of_game(Format::Two, game),
+        earlier,
+        last,
+        node,
+    )
 }
 
 // The first rule past `items` that a node breaks which does this at the position of these loads and items.
 fn fault_past_items<E: EarlierPositions>(
     alloc: Global,
-    game: &Game,
-    sizes: &Sizes,
+    terms: &Terms,
     earlier: &E,
     last: bool,
     loads: &Loads,
     items: &[u16],
     act: &Act,
 ) -> Result<Option<Rule>, AllocError>
-    requires sizes { All (IsSize game.now.capacity) sizes.now }
-    requires loads { IsLoads game.now loads.now }
-    requires items { AreItemsOf sizes.now loads.now items.now }
-    ensures exact { let node = node_at (position loads.now items.now) act.now in IfOk result (λ fault. MatchOption fault
-        (AllMet (Meets game.now sizes.now (E.positions earlier.now) last node) rules_past_items)
-        (BreaksPastItems game.now sizes.now (E.positions earlier.now) last node)) }
+    requires loads { IsLoads terms.now.game loads.now }
+    requires items { AreItemsOf terms.now.sizes loads.now items.now }
+    ensures exact { let node = node_at (position loads.now items.now) act.now in let terms = terms.now in
+        IfOk result (λ fault. MatchOption fault
+        (AllMet (Meets terms.game terms.sizes (E.positions earlier.now) last node) rules_past_items)
+        (BreaksPastItems terms.game terms.sizes (E.positions earlier.now) last node)) }
 {
-    game_is_legal(game);
+    let game = &terms.game();
     if !finishes_if_said(game, loads, items, act) {
         return Ok(Some(Rule::Finish));
     }
     if !big_finishes_if_said(game, loads, items, act) {
         return Ok(Some(Rule::Big));
     }
-    if !replies_if_said(alloc, game, sizes, loads, items, act)? {
+    if !replies_if_said(alloc, terms, loads, items, act)? {
         return Ok(Some(Rule::Replies));
     }
     let entries = entries_of(act);
@@ -157,22 +135,21 @@ fn big_finishes_if_said(game: &Game, loads: &Loads, items: &[u16], act: &Act) ->
 // Whether a node that replies does so to each size that may come.
 fn replies_if_said(
     alloc: Global,
-    game: &Game,
-    sizes: &Sizes,
+    terms: &Terms,
     loads: &Loads,
     items: &[u16],
     act: &Act,
 ) -> Result<bool, AllocError>
-    requires { IsMultiset game.now.capacity items.now }
+    requires { IsMultiset terms.now.game.capacity items.now }
     ensures { IfOk result (λ met. IsTrue met
-        ↔ RepliesIfSaid game.now sizes.now (node_at (position loads.now items.now) act.now) act.now) }
+        ↔ RepliesIfSaid terms.now.game terms.now.sizes (node_at (position loads.now items.now) act.now) act.now) }
 {
     match act {
         Act::Finish => Ok(true),
         Act::Big(_) => Ok(true),
         Act::Reply(entries) => {
-            let room = room_after(alloc, game, items)?;
-            Ok(are_sizes_up_to(sizes, room, entries.as_slice()))
+            let room = room_after(alloc, &terms.game(), items)?;
+            Ok(are_sizes_up_to(terms.sizes(), room, entries.as_slice()))
         }
     }
 }
@@ -301,10 +278,4 @@ fn is_root(loads: &Loads, items: &[u16]) -> bool
     ensures exact { IsTrue result ↔ IsEmptyPosition (position loads.now items.now) }
 {
     items.is_empty() && loads.as_slice().iter().all(|load| *load == 0)
-}
-
-pub fn is_empty(position: &Position) -> bool
-    ensures exact { IsTrue result ↔ IsEmptyPosition position.now }
-{
-    position.items.volume() == 0 && position.loads.as_slice().iter().all(|load| *load == 0)
 }

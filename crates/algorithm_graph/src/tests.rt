@@ -1,4 +1,6 @@
-ghost use Rattle.std.specs.Prelude.{◌≡◌};
+ghost use Rattle.std.specs.Prelude.{◌≡◌, IfOk};
+ghost use Rattle.items.specs.Multiset.{sizes_of};
+ghost use Rattle.node_pool.specs.Pools.{terms_in};
 ghost use Rattle.strategy_text.specs.declared.node.Format.TheVariants.{Two};
 
 use super::*;
@@ -30,14 +32,13 @@ fn node_of(alloc: Global, line: &str) -> Result<AlgNode, AllocError> {
 // Puts a node at the end of a pool of format 2; whether it meets its rules there.
 fn put(alloc: Global, pool: &mut AlgPool, line: &str) -> Result<bool, AllocError>
     requires { pool.old.format ≡ Two }
-    ensures { pool.new.format ≡ Two }
+    ensures { terms_in pool.new ≡ terms_in pool.old }
 {
     let node = node_of(alloc, line)?;
-    let game = pool.game();
     if pool.len() >= 4_000_000_000 {
         return Ok(false);
     }
-    let fault = node_fault(alloc, &game, pool.positions(), false, &node)?;
+    let fault = judge(alloc, pool.terms(), pool.positions(), false, &node)?;
     match fault {
         Some(_) => Ok(false),
         None => {
@@ -48,7 +49,9 @@ fn put(alloc: Global, pool: &mut AlgPool, line: &str) -> Result<bool, AllocError
 }
 
 // Puts a node at the end where the pool is of format 2 and the node meets its rules.
-fn grow(alloc: Global, pool: &mut AlgPool, line: &str) -> Result<(), AllocError> {
+fn grow(alloc: Global, pool: &mut AlgPool, line: &str) -> Result<(), AllocError>
+    ensures { terms_in pool.new ≡ terms_in pool.old }
+{
     match pool.format() {
         Format::One => Ok(()),
         Format::Two => {
@@ -59,7 +62,9 @@ fn grow(alloc: Global, pool: &mut AlgPool, line: &str) -> Result<(), AllocError>
 }
 
 // The first nodes that stand above, as many as these, where they meet their rules.
-fn pool_of(alloc: Global, game: &Game, count: usize) -> Result<AlgPool, AllocError> {
+fn pool_of(alloc: Global, game: &Game, count: usize) -> Result<AlgPool, AllocError>
+    ensures { IfOk result (λ pool. pool.sizes ≡ sizes_of pool.game) }
+{
     let mut pool = AlgPool::new(alloc, game, Format::Two);
     for line in NODES.iter().take(count) {
         grow(alloc, &mut pool, line)?;

@@ -36,7 +36,7 @@ use Rattle.algorithm_graph.specs.Nodes.{entries_of}
 use Rattle.algorithm_graph.specs.Nodes as algorithm_nodes
 use Rattle.algorithm_graph.specs.Rules.{FinishesIfSaid, BigFinishesIfSaid, IsStrictlyAscending, ReplyToEach, RepliesIfSaid, NamesLoad}
 use Rattle.algorithm_graph.specs.Rules as algorithm
-use Rattle.checker.specs.Head.{Head, MeetsRules, Breaks}
+use Rattle.checker.specs.Head.{Head, MeetsUnder, BreaksUnder}
 use Rattle.checker.proofs.DecideLemmas.{Decided, decided_by, decided_both, decided_if, decided_iff, decided_true, decided_eq, decided_lt, decided_le, decided_all, decided_contains}
 use Rattle.checker.proofs.DecideLemmas.{decided_lists, decided_ascending, decided_neighbours, decided_packing, decided_packable, decided_stands}
 
@@ -226,7 +226,7 @@ decided_algorithm game sizes earlier last node algorithm.root = decided_root las
 
 -- a node meets every rule, or breaks one first
 abbrev pub IsJudged : Head → List Position → Bool → AnyNode → Type 0
-IsJudged head earlier last node = MeetsRules head earlier last node ⊎ ((rule : Rule) × Breaks head earlier last node rule)
+IsJudged head earlier last node = MeetsUnder head earlier last node ⊎ ((rule : Rule) × BreaksUnder head earlier last node rule)
 
 adversary_judged : (head : Head) (earlier : List Position) (last : Bool) (node : AdvNode)
     → Judged (adversary.Meets head.format head.game head.sizes earlier last node) adversary.node_rules

@@ -25,9 +25,10 @@ use Rattle.strategy_text.specs.declared.node.Side.TheVariants.{Adversary, Algori
 use Rattle.strategy_text.specs.declared.rule.Rule.TheVariants as rules
 use Rattle.strategy_text.proofs.HeadLines.{game_exact, count_exact}
 use Rattle.strategy_text.proofs.NodeLines.{adversary_line_takes, algorithm_line_takes, adversary_refused, algorithm_refused}
-use Rattle.checker.specs.Accepted.{IsFaultOf}
+use Rattle.checker.specs.Accepted.{IsFaultOf, IsTextFaultOf}
 use Rattle.checker.specs.FirstFault.{IsWanted, IsFirstLine, IsGameLine, IsSideLine, IsCountLine, HasNoFault, IsLegalText}
-use Rattle.checker.specs.Head.{Head, head_of_game, position_of, SpellsUnder, IsNodeLine, IsBrokenNodeLine}
+use Rattle.strategies.specs.AnyNode.{position_of}
+use Rattle.checker.specs.Head.{Head, head_of_game, SpellsUnder, IsNodeLine, IsBrokenNodeLine}
 use Rattle.checker.specs.Laws.{HasFirstFault, EveryTextHasAFirstFaultOrNone, OnlyLegalTextsHaveNoFault}
 use Rattle.checker.specs.Progress.{StandFirst, HasNext, IsWrongNext, IsWrongAfter, RefusesAfter, IsPastEnd, NoRule, BreaksGame, BreaksSide, IsHead, lines_of_head, AreJudged}
 use Rattle.checker.specs.declared.fault.CheckFault.{CheckFault}
@@ -181,6 +182,9 @@ refused given Wrong line cause bytes w = record {
 fault_from : (wanted : Wanted) (bytes : List ℕ) (line : ℕ) (cause : Why) → IsFaultOf wanted [] (Rejected line cause) (Some bytes) (Some []) → Outcome wanted bytes
 fault_from wanted bytes line cause r = inl (line, cause, r.first_of_input)
 
+text_fault_from : (wanted : Wanted) (bytes : List ℕ) (line : ℕ) (cause : Why) → IsTextFaultOf wanted [] (Rejected line cause) (Some bytes) (Some []) → Outcome wanted bytes
+text_fault_from wanted bytes line cause r = fault_from wanted bytes line cause r.rejects
+
 StandFirst-push : (given : List (List ℕ)) (line bytes rest more : List ℕ) → StandFirst given bytes rest → IsLine line → rest ≡ with_lf line ++ more
     → StandFirst (given ++ line ∷ []) bytes more
 StandFirst-push given line bytes rest more s is e =
@@ -229,7 +233,7 @@ end_step : (wanted : Wanted) (head : Head) (list : List AnyNode) (bytes rest : L
     → Outcome wanted bytes
 end_step wanted head list bytes rest is judged number stood (inr never) =
     let place : ℕ = head.start + head.count in
-    fault_from wanted bytes place why.Syntax
+    text_fault_from wanted bytes place why.Syntax
     (exit_end wanted head list (Rejected place why.Syntax) nothing (Some bytes) (Some []) is judged number
     (refused (lines_of_head head ++ node_lines 0 list) (IsWrongNext place (λ line. line ≡ end_line) NoRule) place why.Syntax bytes (rest, stood, (refl, never))))
 end_step wanted head list bytes rest is judged number stood (inl next) =
@@ -252,7 +256,7 @@ judged_step wanted head list bytes rest is judged few stood more next (inr broke
     let place : ℕ = head.start + length list in
     let under : SpellsUnder head (length (map position_of list)) next.line next.form.0 =
     subst (λ (i : ℕ). SpellsUnder head i next.line next.form.0) (sym (length-map list position_of)) next.form.1 in
-    fault_from wanted bytes place (why.Rule broken.0)
+    text_fault_from wanted bytes place (why.Rule broken.0)
     (exit_node wanted head list (Rejected place (why.Rule broken.0)) nothing (Some bytes) (Some []) is judged few
     (refused (lines_of_head head ++ node_lines 0 list) (IsWrongNext place (IsNodeLine head (length list)) (IsBrokenNodeLine head (map position_of list))) place
     (why.Rule broken.0) bytes
@@ -273,7 +277,7 @@ node_step : (wanted : Wanted) (head : Head) (list : List AnyNode) (bytes rest : 
     → Decided (HasNext (IsNodeLine head (length list)) rest) → Outcome wanted bytes
 node_step wanted head list bytes rest is judged few stood more (inr never) =
     let place : ℕ = head.start + length list in
-    fault_from wanted bytes place why.Syntax
+    text_fault_from wanted bytes place why.Syntax
     (exit_node wanted head list (Rejected place why.Syntax) nothing (Some bytes) (Some []) is judged few
     (refused (lines_of_head head ++ node_lines 0 list) (IsWrongNext place (IsNodeLine head (length list)) (IsBrokenNodeLine head (map position_of list))) place why.Syntax bytes
     (rest, stood, (refl, never))))
@@ -294,7 +298,7 @@ nodes_step (suc left) wanted head list bytes rest is judged number stood =
 count_step : (wanted : Wanted) (format : Format) (game : GameNumbers) (side : Side) (bytes rest : List ℕ) → IsGame game → IsWanted wanted side
     → StandFirst (first_line format ∷ game_line game ∷ side_line side ∷ []) bytes rest → Decided (HasNext IsCountLine rest) → Outcome wanted bytes
 count_step wanted format game side bytes rest of_game of_side stood (inr never) =
-    fault_from wanted bytes 4 why.Syntax
+    text_fault_from wanted bytes 4 why.Syntax
     (exit_count wanted format game side (Rejected 4 why.Syntax) nothing (Some bytes) (Some []) of_game of_side
     (refused (first_line format ∷ game_line game ∷ side_line side ∷ []) (IsWrongNext 4 IsCountLine NoRule) 4 why.Syntax bytes (rest, stood, (refl, never))))
 count_step wanted format game side bytes rest of_game of_side stood (inl next) =
@@ -310,7 +314,7 @@ wanted_step : (wanted : Wanted) (format : Format) (game : GameNumbers) (bytes re
     → StandFirst (first_line format ∷ game_line game ∷ []) bytes rest → (next : HasNext IsSideLine rest) → Decided (IsWanted wanted next.form.0)
     → Outcome wanted bytes
 wanted_step wanted format game bytes rest of_game stood next (inr other) =
-    fault_from wanted bytes 3 (why.Rule rules.Side)
+    text_fault_from wanted bytes 3 (why.Rule rules.Side)
     (exit_side wanted format game (Rejected 3 (why.Rule rules.Side)) nothing (Some bytes) (Some []) of_game
     (refused (first_line format ∷ game_line game ∷ []) (IsWrongNext 3 IsSideLine (BreaksSide wanted)) 3 (why.Rule rules.Side) bytes
     (rest, stood, (refl, record { line = next.line; rest = next.rest; whole = next.whole; split = next.split; form = (refl, (next.form.0, next.form.1, other)) }))))
@@ -323,7 +327,7 @@ wanted_step wanted format game bytes rest of_game stood next (inl of_side) =
 side_step : (wanted : Wanted) (format : Format) (game : GameNumbers) (bytes rest : List ℕ) → IsGame game
     → StandFirst (first_line format ∷ game_line game ∷ []) bytes rest → Decided (HasNext IsSideLine rest) → Outcome wanted bytes
 side_step wanted format game bytes rest of_game stood (inr never) =
-    fault_from wanted bytes 3 why.Syntax
+    text_fault_from wanted bytes 3 why.Syntax
     (exit_side wanted format game (Rejected 3 why.Syntax) nothing (Some bytes) (Some []) of_game
     (refused (first_line format ∷ game_line game ∷ []) (IsWrongNext 3 IsSideLine (BreaksSide wanted)) 3 why.Syntax bytes (rest, stood, (refl, never))))
 side_step wanted format game bytes rest of_game stood (inl next) = wanted_step wanted format game bytes rest of_game stood next (decided_wanted wanted next.form.0)
@@ -331,7 +335,7 @@ side_step wanted format game bytes rest of_game stood (inl next) = wanted_step w
 range_step : (wanted : Wanted) (format : Format) (bytes rest : List ℕ) → StandFirst (first_line format ∷ []) bytes rest
     → (next : HasNext IsGameLine rest) → Decided (IsGame next.form.0) → Outcome wanted bytes
 range_step wanted format bytes rest stood next (inr outside) =
-    fault_from wanted bytes 2 (why.Rule rules.Game)
+    text_fault_from wanted bytes 2 (why.Rule rules.Game)
     (exit_game wanted format (Rejected 2 (why.Rule rules.Game)) nothing (Some bytes) (Some [])
     (refused (first_line format ∷ []) (IsWrongNext 2 IsGameLine BreaksGame) 2 (why.Rule rules.Game) bytes
     (rest, stood, (refl, record { line = next.line; rest = next.rest; whole = next.whole; split = next.split; form = (refl, (next.form.0, next.form.1, outside)) }))))
@@ -343,14 +347,14 @@ range_step wanted format bytes rest stood next (inl of_game) =
 
 game_step : (wanted : Wanted) (format : Format) (bytes rest : List ℕ) → StandFirst (first_line format ∷ []) bytes rest → Decided (HasNext IsGameLine rest) → Outcome wanted bytes
 game_step wanted format bytes rest stood (inr never) =
-    fault_from wanted bytes 2 why.Syntax
+    text_fault_from wanted bytes 2 why.Syntax
     (exit_game wanted format (Rejected 2 why.Syntax) nothing (Some bytes) (Some [])
     (refused (first_line format ∷ []) (IsWrongNext 2 IsGameLine BreaksGame) 2 why.Syntax bytes (rest, stood, (refl, never))))
 game_step wanted format bytes rest stood (inl next) = range_step wanted format bytes rest stood next (decided_game next.form.0)
 
 first_step : (wanted : Wanted) (bytes : List ℕ) → Decided (HasNext IsFirstLine bytes) → Outcome wanted bytes
 first_step wanted bytes (inr never) =
-    fault_from wanted bytes 1 why.Syntax
+    text_fault_from wanted bytes 1 why.Syntax
     (exit_first wanted (Rejected 1 why.Syntax) nothing (Some bytes) (Some [])
     (refused [] (IsWrongNext 1 IsFirstLine NoRule) 1 why.Syntax bytes (bytes, record { whole = All-nil IsLine; split = refl }, (refl, never))))
 first_step wanted bytes (inl next) =

@@ -13,11 +13,12 @@ use Rattle.strategy_text.specs.Text.{AnyNode, node_line, node_lines, first_line,
 use Rattle.strategy_text.specs.declared.node.Format.{Format}
 use Rattle.strategy_text.specs.declared.node.Side.{Side}
 use Rattle.strategy_text.specs.declared.rule.Rule.{Rule}
-use Rattle.checker.specs.Accepted.{IsFaultOf}
+use Rattle.checker.specs.Accepted.{IsFaultOf, IsTextFaultOf, IsTextLine}
 use Rattle.checker.specs.FirstFault.{HasForm, HasWhole, HasBytesPast, HasPositions, IsWanted, IsFirstLine, IsGameLine, IsSideLine, IsCountLine}
 use Rattle.checker.specs.FirstFault.{HasHead, HeadFault, first_syntax, game_syntax, game_rule, side_syntax, side_rule, count_syntax, BodyFault}
 use Rattle.checker.specs.FirstFault.{node_syntax, node_rule, end_syntax, past_syntax, LineFault, in_head, in_body, FirstFault}
-use Rattle.checker.specs.Head.{Head, position_of, MeetsRules, EachMeetsRules, IsNodeLine, IsBrokenNodeLine}
+use Rattle.strategies.specs.AnyNode.{position_of, EachMeetsRules}
+use Rattle.checker.specs.Head.{Head, MeetsUnder, EachMeetsUnder, IsNodeLine, IsBrokenNodeLine}
 use Rattle.checker.specs.Progress.{StandFirst, IsWrongNext, IsWrongAfter, RefusesAfter, IsPastEnd, NoRule, BreaksGame, BreaksSide, IsHead, lines_of_head, AreJudged}
 use Rattle.checker.specs.declared.fault.CheckFault.{CheckFault}
 use Rattle.checker.specs.declared.fault.CheckFault.TheVariants.{Rejected, Read, Memory}
@@ -37,7 +38,7 @@ record FaultlessNode (bytes : List ℕ) (head : Head) (k : ℕ) : Type 0 where
   node : AnyNode
   at : slice_get nodes k ≡ Some node
   stand : HasNodes bytes head nodes
-  each : EachMeetsRules head nodes
+  each : EachMeetsUnder head nodes
 
 -- what the lines before line n are after a head, where none of them has a fault
 record FaultlessBody (bytes : List ℕ) (head : Head) (n : ℕ) : Type 0 where
@@ -62,8 +63,8 @@ no_head_fault wanted bytes n h line fault low (side_rule side form never) = let 
 no_head_fault wanted bytes n h line fault low (count_syntax never) = never (h.count low)
 
 -- a node of a list of which each meets every rule
-meets_at : (head : Head) (nodes : List AnyNode) (k : ℕ) (node : AnyNode) → EachMeetsRules head nodes → slice_get nodes k ≡ Some node
-    → MeetsRules head (map position_of (take k nodes)) (k + 1 == head.count) node
+meets_at : (head : Head) (nodes : List AnyNode) (k : ℕ) (node : AnyNode) → EachMeetsUnder head nodes → slice_get nodes k ≡ Some node
+    → MeetsUnder head (map position_of (take k nodes)) (k + 1 == head.count) node
 unfolding EachMeetsRules
 meets_at head nodes k node each at = each k node at
 
@@ -76,11 +77,11 @@ node_meets bytes head earlier rule high f few told form =
     let same : f.node ≡ broken.0 = node_same bytes head (head.start + length earlier) (length earlier) f.node broken.0 (omega arith) (f.stand (length earlier) f.node f.at)
     (form.0, form.1, broken.1) in
     let front : map position_of (take (length earlier) f.nodes) ≡ earlier = positions_front bytes head f.nodes earlier (omega arith) (omega arith) f.stand told in
-    let meets : MeetsRules head (map position_of (take (length earlier) f.nodes)) (length earlier + 1 == head.count) f.node = meets_at head f.nodes
+    let meets : MeetsUnder head (map position_of (take (length earlier) f.nodes)) (length earlier + 1 == head.count) f.node = meets_at head f.nodes
     (length earlier) f.node f.each f.at in
-    let here : MeetsRules head earlier (length earlier + 1 == head.count) broken.0 =
-    subst (λ (n : AnyNode). MeetsRules head earlier (length earlier + 1 == head.count) n) same
-    (subst (λ (ps : List Position). MeetsRules head ps (length earlier + 1 == head.count) f.node) front meets) in
+    let here : MeetsUnder head earlier (length earlier + 1 == head.count) broken.0 =
+    subst (λ (n : AnyNode). MeetsUnder head earlier (length earlier + 1 == head.count) n) same
+    (subst (λ (ps : List Position). MeetsUnder head ps (length earlier + 1 == head.count) f.node) front meets) in
     meets_excludes head earlier (length earlier + 1 == head.count) broken.0 rule here broken.2
 
 no_body_fault : (bytes : List ℕ) (head : Head) (n : ℕ) → head.count ≤ most_nodes → FaultlessBody bytes head n → (line : ℕ) (fault : Why) → line < n
@@ -125,7 +126,7 @@ slice_at (node ∷ nodes) k within = let at = get_or (node ∷ nodes) k node in 
 
 -- a head, nodes and maybe more
 pub Faultless-body : (wanted : Wanted) (bytes : List ℕ) (n : ℕ) (head : Head) (nodes : List AnyNode) → HasHead wanted bytes head → HasNodes bytes head nodes
-    → EachMeetsRules head nodes → ((k : ℕ) → k < head.count → head.start + k < n → k < length nodes)
+    → EachMeetsUnder head nodes → ((k : ℕ) → k < head.count → head.start + k < n → k < length nodes)
     → (head.start + head.count < n → HasForm bytes (head.start + head.count) (λ line. line ≡ end_line))
     → (head.start + head.count + 1 < n → HasBytesPast bytes (head.start + head.count) → ⊥) → Faultless wanted bytes n
 Faultless-body wanted bytes n head nodes has stand each reach end past = record {
@@ -183,6 +184,28 @@ conclude wanted given Wrong Read old left new_left clean wrong r =
     }
 conclude wanted given Wrong Memory old left new_left clean wrong r = (r.read, r.gone)
 
+-- Where the line that comes next is one of the text, the first fault is in a line of the text.
+conclude_text : (wanted : Wanted) (given : List (List ℕ)) (Wrong : CheckFault → List ℕ → Type 0) (fault : CheckFault) (old : ReaderState) (left new_left : Option (List ℕ))
+    → ((bytes rest : List ℕ) → StandFirst given bytes rest → Faultless wanted bytes (length given + 1))
+    → ((bytes rest : List ℕ) (line : ℕ) (cause : Why) → StandFirst given bytes rest → Wrong (Rejected line cause) rest → (line ≡ length given + 1)
+    × LineFault wanted bytes (length given + 1) cause)
+    → ((bytes rest : List ℕ) (head : Head) → StandFirst given bytes rest → HasHead wanted bytes head → length given + 1 ≤ head.start + head.count)
+    → RefusesAfter given Wrong fault old left new_left → IsTextFaultOf wanted old.held fault left new_left
+unfolding conclude
+conclude_text wanted given Wrong (Rejected line cause) old left new_left clean wrong high r =
+    let of_text : (bytes : List ℕ) → IsWrongAfter given Wrong (Rejected line cause) bytes → IsTextLine wanted bytes line = λ bytes w.
+    (let f = wrong bytes w.0 line cause w.1 w.2 in
+    let place : line ≡ length given + 1 = f.0 in
+    (omega (arith, place), λ head has. omega (arith, place, high bytes w.0 head w.1 has))) in
+    record {
+      rejects = conclude wanted given Wrong (Rejected line cause) old left new_left clean wrong r;
+      of_text = of_text (old.held ++ r.read) r.in_hand;
+      of_text_of_input = told_all (λ bytes. IsTextLine wanted (old.held ++ bytes) line) left
+          (λ bytes e. of_text (old.held ++ bytes) (told_at (λ bytes. IsWrongAfter given Wrong (Rejected line cause) (old.held ++ bytes)) left bytes r.in_all e));
+    }
+conclude_text wanted given Wrong Read old left new_left clean wrong high r = conclude wanted given Wrong Read old left new_left clean wrong r
+conclude_text wanted given Wrong Memory old left new_left clean wrong high r = (r.read, r.gone)
+
 -- what is wrong with line n
 abbrev RefusedAt : List ℕ → ℕ → (List ℕ → Type 0) → (Rule → List ℕ → Type 0) → Why → Type 0
 RefusedAt bytes n Form Breaking why.Syntax = HasForm bytes n Form → ⊥
@@ -216,41 +239,45 @@ count_fault wanted bytes (why.Rule rule) h = absurd h.2
 -- ---- where a head line was refused
 
 pub exit_first : (wanted : Wanted) (fault : CheckFault) (old : ReaderState) (left new_left : Option (List ℕ))
-    → RefusesAfter [] (IsWrongNext 1 IsFirstLine NoRule) fault old left new_left → IsFaultOf wanted old.held fault left new_left
+    → RefusesAfter [] (IsWrongNext 1 IsFirstLine NoRule) fault old left new_left → IsTextFaultOf wanted old.held fault left new_left
 exit_first wanted fault old left new_left r =
-    conclude wanted [] (IsWrongNext 1 IsFirstLine NoRule) fault old left new_left
+    conclude_text wanted [] (IsWrongNext 1 IsFirstLine NoRule) fault old left new_left
     (λ bytes rest stood. Faultless-head wanted bytes 1 (omega arith) (λ l. absurd (omega arith)) (λ l. absurd (omega arith)) (λ l. absurd (omega arith))
     (λ l. absurd (omega arith)))
     (λ bytes rest line cause stood w. let f = refused_at [] 1 IsFirstLine NoRule bytes rest line cause refl stood w in (f.0, first_fault wanted bytes cause f.1))
+    (λ bytes rest head stood has. omega (arith, has.start))
     r
 
 pub exit_game : (wanted : Wanted) (format : Format) (fault : CheckFault) (old : ReaderState) (left new_left : Option (List ℕ))
-    → RefusesAfter (first_line format ∷ []) (IsWrongNext 2 IsGameLine BreaksGame) fault old left new_left → IsFaultOf wanted old.held fault left new_left
+    → RefusesAfter (first_line format ∷ []) (IsWrongNext 2 IsGameLine BreaksGame) fault old left new_left → IsTextFaultOf wanted old.held fault left new_left
 exit_game wanted format fault old left new_left r =
-    conclude wanted (first_line format ∷ []) (IsWrongNext 2 IsGameLine BreaksGame) fault old left new_left
+    conclude_text wanted (first_line format ∷ []) (IsWrongNext 2 IsGameLine BreaksGame) fault old left new_left
     (λ bytes rest stood. let one = first_from format [] bytes rest stood in Faultless-head wanted bytes 2 (omega arith) (λ l. (one.0, one.1, (format, one.2)))
     (λ l. absurd (omega arith)) (λ l. absurd (omega arith)) (λ l. absurd (omega arith)))
     (λ bytes rest line cause stood w. let f = refused_at (first_line format ∷ []) 2 IsGameLine BreaksGame bytes rest line cause refl stood w in
     (f.0, game_fault wanted bytes cause f.1))
+    (λ bytes rest head stood has. omega (arith, has.start))
     r
 
 pub exit_side : (wanted : Wanted) (format : Format) (game : GameNumbers) (fault : CheckFault) (old : ReaderState) (left new_left : Option (List ℕ)) → IsGame game
-    → RefusesAfter (first_line format ∷ game_line game ∷ []) (IsWrongNext 3 IsSideLine (BreaksSide wanted)) fault old left new_left → IsFaultOf wanted old.held fault left new_left
+    → RefusesAfter (first_line format ∷ game_line game ∷ []) (IsWrongNext 3 IsSideLine (BreaksSide wanted)) fault old left new_left
+    → IsTextFaultOf wanted old.held fault left new_left
 exit_side wanted format game fault old left new_left of_game r =
-    conclude wanted (first_line format ∷ game_line game ∷ []) (IsWrongNext 3 IsSideLine (BreaksSide wanted)) fault old left new_left
+    conclude_text wanted (first_line format ∷ game_line game ∷ []) (IsWrongNext 3 IsSideLine (BreaksSide wanted)) fault old left new_left
     (λ bytes rest stood.
     let one = first_from format (game_line game ∷ []) bytes rest stood in
     Faultless-head wanted bytes 3 (omega arith) (λ l. (one.0, one.1, (format, one.2))) (λ l. (game, game_from (first_line format) game [] bytes rest of_game stood, of_game))
     (λ l. absurd (omega arith)) (λ l. absurd (omega arith)))
     (λ bytes rest line cause stood w. let f = refused_at (first_line format ∷ game_line game ∷ []) 3 IsSideLine (BreaksSide wanted) bytes rest line cause refl stood w in
     (f.0, side_fault wanted bytes cause f.1))
+    (λ bytes rest head stood has. omega (arith, has.start))
     r
 
 pub exit_count : (wanted : Wanted) (format : Format) (game : GameNumbers) (side : Side) (fault : CheckFault) (old : ReaderState) (left new_left : Option (List ℕ)) → IsGame game
     → IsWanted wanted side → RefusesAfter (first_line format ∷ game_line game ∷ side_line side ∷ []) (IsWrongNext 4 IsCountLine NoRule) fault old left new_left
-    → IsFaultOf wanted old.held fault left new_left
+    → IsTextFaultOf wanted old.held fault left new_left
 exit_count wanted format game side fault old left new_left of_game of_side r =
-    conclude wanted (first_line format ∷ game_line game ∷ side_line side ∷ []) (IsWrongNext 4 IsCountLine NoRule) fault old left new_left
+    conclude_text wanted (first_line format ∷ game_line game ∷ side_line side ∷ []) (IsWrongNext 4 IsCountLine NoRule) fault old left new_left
     (λ bytes rest stood.
     let one = first_from format (game_line game ∷ side_line side ∷ []) bytes rest stood in
     Faultless-head wanted bytes 4 (omega arith) (λ l. (one.0, one.1, (format, one.2)))
@@ -259,6 +286,7 @@ exit_count wanted format game side fault old left new_left of_game of_side r =
     (λ bytes rest line cause stood w.
     let f = refused_at (first_line format ∷ game_line game ∷ side_line side ∷ []) 4 IsCountLine NoRule bytes rest line cause refl stood w in
     (f.0, count_fault wanted bytes cause f.1))
+    (λ bytes rest head stood has. omega (arith, has.start))
     r
 
 -- ---- where a line after the head was refused
@@ -289,13 +317,13 @@ node_fault wanted head nodes bytes (why.Rule rule) s few h =
 pub exit_node : (wanted : Wanted) (head : Head) (nodes : List AnyNode) (fault : CheckFault) (old : ReaderState) (left new_left : Option (List ℕ)) → IsHead wanted head
     → AreJudged head nodes → length nodes < head.count
     → RefusesAfter (lines_of_head head ++ node_lines 0 nodes) (IsWrongNext (head.start + length nodes) (IsNodeLine head (length nodes))
-    (IsBrokenNodeLine head (map position_of nodes))) fault old left new_left → IsFaultOf wanted old.held fault left new_left
+    (IsBrokenNodeLine head (map position_of nodes))) fault old left new_left → IsTextFaultOf wanted old.held fault left new_left
 exit_node wanted head nodes fault old left new_left is judged few r =
     let given : List (List ℕ) = lines_of_head head ++ node_lines 0 nodes in
     let place : length given + 1 ≡ head.start + length nodes = omega (arith, length-append (lines_of_head head) (node_lines 0 nodes), length-node_lines 0 nodes, is.start) in
     let stands = λ (bytes rest : List ℕ) (stood : StandFirst given bytes rest). stands_from wanted head nodes [] bytes rest is judged
     (subst (λ (lines : List (List ℕ)). StandFirst (lines_of_head head ++ lines) bytes rest) (sym (append-nil (node_lines 0 nodes))) stood) in
-    conclude wanted given (IsWrongNext (head.start + length nodes) (IsNodeLine head (length nodes)) (IsBrokenNodeLine head (map position_of nodes))) fault old left new_left
+    conclude_text wanted given (IsWrongNext (head.start + length nodes) (IsNodeLine head (length nodes)) (IsBrokenNodeLine head (map position_of nodes))) fault old left new_left
     (λ bytes rest stood.
     let s = stands bytes rest stood in
     Faultless-body wanted bytes (length given + 1) head nodes s.has s.stand judged.each (λ k low past. omega (arith, place)) (λ past. absurd (omega (arith, place)))
@@ -303,6 +331,8 @@ exit_node wanted head nodes fault old left new_left is judged few r =
     (λ bytes rest line cause stood w.
     let f = refused_at given (head.start + length nodes) (IsNodeLine head (length nodes)) (IsBrokenNodeLine head (map position_of nodes)) bytes rest line cause place stood w in
     (f.0 ∙ sym place, subst (λ (i : ℕ). LineFault wanted bytes i cause) (sym place) (node_fault wanted head nodes bytes cause (stands bytes rest stood) few f.1)))
+    (λ bytes rest other stood told. subst (λ (h : Head). length given + 1 ≤ h.start + h.count) (head_same wanted bytes head other (stands bytes rest stood).has told)
+    (omega (arith, place, few)))
     r
 
 end_fault : (wanted : Wanted) (head : Head) (bytes : List ℕ) (cause : Why) → HasHead wanted bytes head
@@ -313,13 +343,13 @@ end_fault wanted head bytes (why.Rule rule) has h = absurd h.2
 pub exit_end : (wanted : Wanted) (head : Head) (nodes : List AnyNode) (fault : CheckFault) (old : ReaderState) (left new_left : Option (List ℕ)) → IsHead wanted head
     → AreJudged head nodes → length nodes ≡ head.count
     → RefusesAfter (lines_of_head head ++ node_lines 0 nodes) (IsWrongNext (head.start + head.count) (λ line. line ≡ end_line) NoRule) fault old left new_left
-    → IsFaultOf wanted old.held fault left new_left
+    → IsTextFaultOf wanted old.held fault left new_left
 exit_end wanted head nodes fault old left new_left is judged all r =
     let given : List (List ℕ) = lines_of_head head ++ node_lines 0 nodes in
     let place : length given + 1 ≡ head.start + head.count = omega (arith, length-append (lines_of_head head) (node_lines 0 nodes), length-node_lines 0 nodes, is.start, all) in
     let stands = λ (bytes rest : List ℕ) (stood : StandFirst given bytes rest). stands_from wanted head nodes [] bytes rest is judged
     (subst (λ (lines : List (List ℕ)). StandFirst (lines_of_head head ++ lines) bytes rest) (sym (append-nil (node_lines 0 nodes))) stood) in
-    conclude wanted given (IsWrongNext (head.start + head.count) (λ line. line ≡ end_line) NoRule) fault old left new_left
+    conclude_text wanted given (IsWrongNext (head.start + head.count) (λ line. line ≡ end_line) NoRule) fault old left new_left
     (λ bytes rest stood.
     let s = stands bytes rest stood in
     Faultless-body wanted bytes (length given + 1) head nodes s.has s.stand judged.each (λ k low past. omega (arith, all)) (λ past. absurd (omega (arith, place)))
@@ -327,6 +357,8 @@ exit_end wanted head nodes fault old left new_left is judged all r =
     (λ bytes rest line cause stood w.
     let f = refused_at given (head.start + head.count) (λ line. line ≡ end_line) NoRule bytes rest line cause place stood w in
     (f.0 ∙ sym place, subst (λ (i : ℕ). LineFault wanted bytes i cause) (sym place) (end_fault wanted head bytes cause (stands bytes rest stood).has f.1)))
+    (λ bytes rest other stood told. subst (λ (h : Head). length given + 1 ≤ h.start + h.count) (head_same wanted bytes head other (stands bytes rest stood).has told)
+    (omega (arith, place)))
     r
 
 past_fault : (n line : ℕ) (cause : Why) (rest : List ℕ) → IsPastEnd n (Rejected line cause) rest → (line ≡ n) × (cause ≡ why.Syntax) × (rest ≢ [])

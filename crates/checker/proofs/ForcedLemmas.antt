@@ -11,13 +11,11 @@ use Rattle.strategy_text.specs.declared.node.Nodes.TheVariants as nodes
 use Rattle.strategy_text.specs.declared.node.Side.TheVariants.{Adversary}
 use Rattle.strategy_text.specs.declared.node.Strategy.{Strategy}
 use Rattle.adversary_graph.proofs.WonLemmas.{legal_strategy_forces}
-use Rattle.checker.specs.Accepted.{Spells, Loads, Accepts}
-use Rattle.checker.specs.Head.{AreLegalNodes, IsLegal}
-use Rattle.checker.specs.Progress.{strategy_or, strategy_of_parts}
+use Rattle.checker.specs.Accepted.{Spells, IsLoaded, Accepts}
+use Rattle.strategies.specs.AnyNode.{AreLegalNodes, IsLegal}
 use Rattle.checker.specs.declared.fault.Accepted.{Accepted}
 use Rattle.checker.specs.declared.fault.CheckFault.{CheckFault}
 use Rattle.checker.specs.declared.fault.Wanted.{Wanted}
-use Rattle.checker.specs.declared.head.Head as declared
 
 nodes_force : (format : Format) (game : GameNumbers) (kept : Nodes) → AreLegalNodes format game (sizes_of game) kept → side_of kept ≡ Adversary → ForcesEvery game
 nodes_force format game (nodes.Adversary list) legal e = legal_strategy_forces format game list legal
@@ -29,17 +27,13 @@ legal_forces strategy legal e = nodes_force strategy.format strategy.game strate
 pub accepted_forces : (wanted : Wanted) (accepted : Accepted) (left new_left : Option (List ℕ)) → Accepts wanted accepted left new_left → accepted.side ≡ Adversary
     → ForcesEvery accepted.game
 accepted_forces wanted accepted left new_left stands e =
-    subst ForcesEvery (sym stands.game) (legal_forces stands.strategy stands.loads.spells.legal (sym stands.side ∙ e))
+    subst ForcesEvery (sym stands.game) (legal_forces stands.strategy stands.loaded.legal (sym stands.side ∙ e))
 
--- a strategy that was read whole, or up to its last line
-pub loaded_force : (wanted : Wanted) (read : Result declared.Head CheckFault) (result : Result Strategy CheckFault) (kept : Nodes) (left new_left : Option (List ℕ))
-    → result ≡ strategy_or read kept → IfOk read (λ head. Loads wanted (strategy_of_parts head kept) left new_left)
-    → IfOk result (λ strategy. side_of strategy.nodes ≡ Adversary → ForcesEvery strategy.game)
-loaded_force wanted (Ok head) result kept left new_left e loads =
-    subst (λ (x : Result Strategy CheckFault). IfOk x (λ strategy. side_of strategy.nodes ≡ Adversary → ForcesEvery strategy.game)) (sym e)
-    (legal_forces (strategy_of_parts head kept) loads.spells.legal)
-loaded_force wanted (Err fault) result kept left new_left e loads =
-    subst (λ (x : Result Strategy CheckFault). IfOk x (λ strategy. side_of strategy.nodes ≡ Adversary → ForcesEvery strategy.game)) (sym e) tt
+-- a strategy that was read to the end of the input, or up to its last line
+pub loaded_force : (wanted : Wanted) (result : Result Strategy CheckFault) (left new_left : Option (List ℕ))
+    → IfOk result (λ strategy. IsLoaded wanted strategy left new_left) → IfOk result (λ strategy. side_of strategy.nodes ≡ Adversary → ForcesEvery strategy.game)
+loaded_force wanted (Ok strategy) left new_left loaded = legal_forces strategy loaded.legal
+loaded_force wanted (Err fault) left new_left loaded = tt
 
 pub spelled_force : (wanted : Wanted) (result : Result Strategy CheckFault) (held new_held : List ℕ) (left new_left : Option (List ℕ))
     → IfOk result (λ strategy. Spells wanted strategy held new_held left new_left) → IfOk result (λ strategy. side_of strategy.nodes ≡ Adversary → ForcesEvery strategy.game)

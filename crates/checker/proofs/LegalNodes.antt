@@ -43,7 +43,7 @@ use Rattle.algorithm_graph.specs.Nodes.{entries_of}
 use Rattle.algorithm_graph.specs.Nodes as algorithm_nodes
 use Rattle.algorithm_graph.specs.Rules.{IsStrictlyAscending, RepliesIfSaid, NamesLoad, BigFinishesIfSaid}
 use Rattle.algorithm_graph.specs.Rules as algorithm
-use Rattle.checker.specs.Head.{Head, MeetsRules}
+use Rattle.checker.specs.Head.{Head, MeetsUnder}
 use Rattle.checker.proofs.ShortLines.{IsSmallPack, IsShort, IsSmallStep, IsShortEntry, IsSmallAct, IsSmallPosition, IsSmallNode}
 
 -- ---- numbers
@@ -329,7 +329,7 @@ IsFormed format (of_adversary node) = adversary_nodes.IsOfFormat format node.ste
 IsFormed format (of_algorithm node) = algorithm_nodes.IsOfFormat format node.act
 
 pub node_small : (head : Head) (earlier : List Position) (last : Bool) (node : AnyNode) → IsGame head.game → head.sizes ≡ sizes_of head.game
-    → length earlier ≤ most_nodes → MeetsRules head earlier last node → IsSmallNode node
+    → length earlier ≤ most_nodes → MeetsUnder head earlier last node → IsSmallNode node
 node_small head earlier last (of_adversary node) g e le m =
     let m' = subst (λ (sizes : List ℕ). adversary.MeetsRules head.format head.game sizes earlier last node) e m in (
       position_small head.game node.loads node.items g m'.0 m'.1.0,
@@ -344,7 +344,7 @@ node_small head earlier last (of_algorithm node) g e le m =
     )
 
 pub node_spellable : (head : Head) (earlier : List Position) (last : Bool) (node : AnyNode) → IsGame head.game → head.sizes ≡ sizes_of head.game
-    → length earlier ≤ most_nodes → IsFormed head.format node → MeetsRules head earlier last node → IsSpellableNode head.format node
+    → length earlier ≤ most_nodes → IsFormed head.format node → MeetsUnder head earlier last node → IsSpellableNode head.format node
 node_spellable head earlier last (of_adversary node) g e le formed m =
     let m' = subst (λ (sizes : List ℕ). adversary.MeetsRules head.format head.game sizes earlier last node) e m in
     record {

@@ -26,7 +26,8 @@ use Rattle.adversary_graph.specs.Legal.{EachMeetsRules as EachAdversary}
 use Rattle.algorithm_graph.specs.Nodes as algorithm_nodes
 use Rattle.algorithm_graph.specs.Legal.{EachMeetsRules as EachAlgorithm}
 use Rattle.checker.specs.declared.fault.Wanted.{Wanted}
-use Rattle.checker.specs.Head.{Head, head_of_game, position_of, side_of_node, MeetsRules, EachMeetsRules, AreLegalNodes, IsLegal}
+use Rattle.strategies.specs.AnyNode.{position_of, side_of_node, AreLegalNodes, IsLegal, EachMeetsRules}
+use Rattle.checker.specs.Head.{Head, head_of_game, MeetsUnder, EachMeetsUnder}
 use Rattle.checker.specs.FirstFault.{HasForm, HasBytesPast, LineFault, HasNoFault, IsWanted, LegalTextHasNoFault}
 use Rattle.checker.specs.Laws.{LegalIsSpellable, LegalLinesAreLines, LegalTextTellsStrategy, NoLegalTextBeginsAnother}
 use Rattle.checker.specs.Progress.{StandFirst, IsHead, lines_of_head, AreJudged}
@@ -53,26 +54,26 @@ positions f g same (suc k) [] = refl
 positions f g same (suc k) (x ∷ xs) = ap (λ (p : Position). p ∷ map g (take k xs)) (same x) ∙ ap (λ (ps : List Position). position_of (f x) ∷ ps) (positions f g same k xs)
 
 each_adversary : (format : Format) (game : GameNumbers) (list : List AdvNode) → EachAdversary format game (sizes_of game) (length list) list
-    → EachMeetsRules (head_of_game format game Adversary (length (map of_adversary list))) (map of_adversary list)
-unfolding EachAdversary EachMeetsRules
+    → EachMeetsUnder (head_of_game format game Adversary (length (map of_adversary list))) (map of_adversary list)
+unfolding EachMeetsRules
 each_adversary format game list each k node e =
     let head : Head = head_of_game format game Adversary (length (map of_adversary list)) in
     let m = mapped of_adversary list k node e in
     let front = positions of_adversary adversary_nodes.position_of (λ x. refl) k list in
-    subst (λ (x : AnyNode). MeetsRules head (map position_of (take k (map of_adversary list))) (k + 1 == length (map of_adversary list)) x) m.2
-    (subst (λ (ps : List Position). MeetsRules head ps (k + 1 == length (map of_adversary list)) (of_adversary m.0)) front
-    (subst (λ (c : ℕ). MeetsRules head (map adversary_nodes.position_of (take k list)) (k + 1 == c) (of_adversary m.0)) (sym (length-map list of_adversary)) (each k m.0 m.1)))
+    subst (λ (x : AnyNode). MeetsUnder head (map position_of (take k (map of_adversary list))) (k + 1 == length (map of_adversary list)) x) m.2
+    (subst (λ (ps : List Position). MeetsUnder head ps (k + 1 == length (map of_adversary list)) (of_adversary m.0)) front
+    (subst (λ (c : ℕ). MeetsUnder head (map adversary_nodes.position_of (take k list)) (k + 1 == c) (of_adversary m.0)) (sym (length-map list of_adversary)) (each k m.0 m.1)))
 
-each_algorithm : (format : Format) (game : GameNumbers) (list : List AlgNode) → EachAlgorithm game (sizes_of game) (length list) list
-    → EachMeetsRules (head_of_game format game Algorithm (length (map of_algorithm list))) (map of_algorithm list)
-unfolding EachAlgorithm EachMeetsRules
+each_algorithm : (format : Format) (game : GameNumbers) (list : List AlgNode) → EachAlgorithm format game (sizes_of game) (length list) list
+    → EachMeetsUnder (head_of_game format game Algorithm (length (map of_algorithm list))) (map of_algorithm list)
+unfolding EachMeetsRules
 each_algorithm format game list each k node e =
     let head : Head = head_of_game format game Algorithm (length (map of_algorithm list)) in
     let m = mapped of_algorithm list k node e in
     let front = positions of_algorithm algorithm_nodes.position_of (λ x. refl) k list in
-    subst (λ (x : AnyNode). MeetsRules head (map position_of (take k (map of_algorithm list))) (k + 1 == length (map of_algorithm list)) x) m.2
-    (subst (λ (ps : List Position). MeetsRules head ps (k + 1 == length (map of_algorithm list)) (of_algorithm m.0)) front
-    (subst (λ (c : ℕ). MeetsRules head (map algorithm_nodes.position_of (take k list)) (k + 1 == c) (of_algorithm m.0)) (sym (length-map list of_algorithm)) (each k m.0 m.1)))
+    subst (λ (x : AnyNode). MeetsUnder head (map position_of (take k (map of_algorithm list))) (k + 1 == length (map of_algorithm list)) x) m.2
+    (subst (λ (ps : List Position). MeetsUnder head ps (k + 1 == length (map of_algorithm list)) (of_algorithm m.0)) front
+    (subst (λ (c : ℕ). MeetsUnder head (map algorithm_nodes.position_of (take k list)) (k + 1 == c) (of_algorithm m.0)) (sym (length-map list of_algorithm)) (each k m.0 m.1)))
 
 -- the nodes of a legal strategy of either side
 record LegalNodes (head : Head) (list : List AnyNode) : Type 0 where
@@ -81,7 +82,7 @@ record LegalNodes (head : Head) (list : List AnyNode) : Type 0 where
   high : length list ≤ most_nodes
   formed : All (IsFormed head.format) list
   sides : All (λ node. side_of_node node ≡ head.side) list
-  each : EachMeetsRules head list
+  each : EachMeetsUnder head list
 
 legal_nodes : (format : Format) (game : GameNumbers) (list : Nodes) → AreLegalNodes format game (sizes_of game) list
     → LegalNodes (head_of_game format game (side_of list) (length (nodes_of list))) (nodes_of list)
@@ -103,7 +104,7 @@ legal_nodes format game (nodes.Algorithm list) h = record {
 }
 
 -- what the head lines of a strategy's text tell
-abbrev head_of : Strategy → Head
+abbrev pub head_of : Strategy → Head
 head_of strategy = head_of_game strategy.format strategy.game (side_of strategy.nodes) (length (nodes_of strategy.nodes))
 
 nodes_are_legal : (strategy : Strategy) → IsLegal strategy → LegalNodes (head_of strategy) (nodes_of strategy.nodes)
@@ -111,8 +112,8 @@ nodes_are_legal strategy h = legal_nodes strategy.format strategy.game strategy.
 
 -- ---- each node of a legal strategy
 
-meets_at : (head : Head) (list : List AnyNode) → EachMeetsRules head list → (k : ℕ) (node : AnyNode) → slice_get list k ≡ Some node
-    → MeetsRules head (map position_of (take k list)) (k + 1 == head.count) node
+meets_at : (head : Head) (list : List AnyNode) → EachMeetsUnder head list → (k : ℕ) (node : AnyNode) → slice_get list k ≡ Some node
+    → MeetsUnder head (map position_of (take k list)) (k + 1 == head.count) node
 unfolding EachMeetsRules
 meets_at head list each k node e = each k node e
 
@@ -216,7 +217,7 @@ legal_stands strategy legal = record { whole = legal_lines_are_lines strategy le
 formed_at : (P : AnyNode → Type 0) (list : List AnyNode) (k : ℕ) (node : AnyNode) → All P list → slice_get list k ≡ Some node → P node
 formed_at P list k node h e = subst P (get_or_from_slice_get list k node node e) (h k node (slice_get_within list k node e))
 
-legal_judged : (strategy : Strategy) → IsLegal strategy → AreJudged (head_of strategy) (nodes_of strategy.nodes)
+pub legal_judged : (strategy : Strategy) → IsLegal strategy → AreJudged (head_of strategy) (nodes_of strategy.nodes)
 legal_judged strategy legal =
     let h = nodes_are_legal strategy legal in
     let head = head_of strategy in
@@ -233,6 +234,11 @@ legal_judged strategy legal =
       each = h.each;
     }
 
+pub legal_is_head : (wanted : Wanted) (strategy : Strategy) → IsLegal strategy → IsWanted wanted (side_of strategy.nodes) → IsHead wanted (head_of strategy)
+legal_is_head wanted strategy legal of_side =
+    let h = nodes_are_legal strategy legal in
+    record { of_game = h.of_game; wanted_side = of_side; low = h.low; high = h.high; whole_game = refl; start = refl }
+
 pub legal_has_no_fault : (wanted : Wanted) (strategy : Strategy) → IsLegal strategy → IsWanted wanted (side_of strategy.nodes) → HasNoFault wanted (text_of strategy)
 legal_has_no_fault wanted strategy legal of_side line fault f =
     let h = nodes_are_legal strategy legal in
@@ -243,7 +249,7 @@ legal_has_no_fault wanted strategy legal of_side line fault f =
     let more = end_line ∷ [] in
     let stood = legal_stands strategy legal in
     let judged = legal_judged strategy legal in
-    let is : IsHead wanted head = record { of_game = h.of_game; wanted_side = of_side; low = h.low; high = h.high; whole_game = refl; start = refl } in
+    let is : IsHead wanted head = legal_is_head wanted strategy legal of_side in
     let has = head_from wanted head (node_lines 0 list ++ more) bytes [] is stood in
     let stand = HasNodes-from head list more bytes [] refl judged stood in
     let number : length (node_lines 0 list) ≡ length list = length-node_lines 0 list in

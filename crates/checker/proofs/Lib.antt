@@ -9,6 +9,7 @@ pub mod LegalNodes
 pub mod LegalText
 pub mod PrefixLemmas
 pub mod TextLemmas
+pub mod ExactLemmas
 pub mod DecideLemmas
 pub mod DecideRules
 pub mod DecideText

@@ -1,6 +1,7 @@
 -- Nodes in their lines, and the rules that they meet or break.
 use Rattle.std.proofs.Common.{◌≡◌, ◌==◌, inl, inr, Bool, ℕ, suc, zero, ◌+◌, ◌<◌, ◌≤◌, List, [], ◌∷◌, ◌++◌, length, take, map}
 use Rattle.std.proofs.Common.{get_or, All, Contains, Option, Some, None, ⊎_elim, sym, ap, ◌∙◌, subst, refl, arith, length-take}
+use Rattle.std.specs.Prelude.{Result, Ok, Err, OnOk}
 use Rattle.std.specs.List.{slice_get, range_with_len}
 use Rattle.std.proofs.lemmas.List.Elements.{All-weaker, All-contains_itself}
 use Rattle.std.proofs.Math.Seq.{take-length}
@@ -9,28 +10,35 @@ use Rattle.std.proofs.lemmas.Option.{slice_get_within, slice_get-get_or, get_or_
 use Rattle.std.proofs.lemmas.Bool.{cases_lt}
 use Rattle.port_io.specs.Lines.{ReaderState}
 use Rattle.items.specs.Game.{GameNumbers, IsGame}
-use Rattle.items.specs.Multiset.{IsMultiset, IsSize}
+use Rattle.items.specs.Multiset.{IsMultiset, IsSize, sizes_of}
 use Rattle.loads.proofs.LoadsLemmas.{multiset_from_items}
 use Rattle.items.proofs.SizesLemmas.{size_from_Contains}
 use Rattle.loads.specs.declared.position.Position.{Position}
 use Rattle.strategy_text.specs.Rules.{AllMet, IsFirstBroken}
 use Rattle.strategy_text.specs.Spelling.{most_child}
-use Rattle.strategy_text.specs.Text.{AnyNode, of_adversary, of_algorithm, items_of, node_line, node_lines}
+use Rattle.strategy_text.specs.Text.{AnyNode, of_adversary, of_algorithm, items_of, node_line, node_lines, nodes_of, side_of}
+use Rattle.strategy_text.specs.declared.node.Nodes.{Nodes}
+use Rattle.strategy_text.specs.declared.node.Side.{Side}
 use Rattle.strategy_text.specs.declared.rule.Rule.{Rule}
 use Rattle.strategy_text.proofs.NodesSame.{line_tells}
 use Rattle.adversary_graph.specs.NodeRules as adversary_rules
 use Rattle.adversary_graph.specs.Rules as adversary
 use Rattle.algorithm_graph.specs.Rules as algorithm
 use Rattle.checker.specs.FirstFault.{HasForm, HasPositions}
-use Rattle.checker.specs.Head.{Head, position_of, SpellsUnder, MeetsRules, Breaks, EachMeetsRules, IsNodeLine, IsNodeLineAt, IsBrokenNodeLine}
-use Rattle.checker.specs.Progress.{AreJudged, TakesNode, ReadsLines, RefusesNext, RefusesAfter, RefusesNode, IsWrongNext}
+use Rattle.strategies.specs.AnyNode.{position_of, EachMeetsRules}
+use Rattle.checker.specs.Head.{Head, SpellsUnder, MeetsUnder, BreaksUnder, EachMeetsUnder, IsNodeLine, IsNodeLineAt, IsBrokenNodeLine}
+use Rattle.checker.specs.Progress.{AreKept, AreJudged, TakesNode, ReadsLines, RefusesNext, RefusesAfter, RefusesNode, IsWrongNext}
 use Rattle.checker.specs.declared.fault.CheckFault.{CheckFault}
 use Rattle.checker.specs.declared.fault.CheckFault.TheVariants.{Memory}
 use Rattle.checker.proofs.ProgressLemmas.{ReadsLines-then, RefusesAfter-then, refuses_memory}
 use Rattle.checker.proofs.LineLemmas.{HasForm-both}
 
-pub sizes_are : (most : ℕ) → All (IsSize most) (range_with_len 1 most)
+sizes_are : (most : ℕ) → All (IsSize most) (range_with_len 1 most)
 sizes_are most = All-weaker (Contains (range_with_len 1 most)) (IsSize most) (size_from_Contains most) (range_with_len 1 most) (All-contains_itself (range_with_len 1 most))
+
+-- the sizes of a head over the whole game
+pub sizes_of_head : (head : Head) → head.sizes ≡ sizes_of head.game → All (IsSize head.game.capacity) head.sizes
+sizes_of_head head e = subst (All (IsSize head.game.capacity)) (sym e) (sizes_are head.game.capacity)
 
 -- ---- rules
 
@@ -47,13 +55,14 @@ first_broken_same IsMet (x ∷ xs) r s (inr h) (inl k) = absurd (k.1 h.0)
 first_broken_same IsMet (x ∷ xs) r s (inr h) (inr k) = first_broken_same IsMet xs r s h.1 k.1
 
 -- a node that meets every rule breaks none
-pub meets_excludes : (head : Head) (earlier : List Position) (last : Bool) (node : AnyNode) (rule : Rule) → MeetsRules head earlier last node → Breaks head earlier last node rule
-    → ⊥
+pub meets_excludes : (head : Head) (earlier : List Position) (last : Bool) (node : AnyNode) (rule : Rule) → MeetsUnder head earlier last node
+    → BreaksUnder head earlier last node rule → ⊥
 meets_excludes head earlier last (of_adversary node) rule m b = exclusive (adversary.Meets head.format head.game head.sizes earlier last node) adversary.node_rules b.0 m b.2
 meets_excludes head earlier last (of_algorithm node) rule m b = exclusive (algorithm.Meets head.game head.sizes earlier last node) algorithm.node_rules b.0 m b.2
 
 -- a node breaks one rule first
-pub broken_same : (head : Head) (earlier : List Position) (last : Bool) (node : AnyNode) (r s : Rule) → Breaks head earlier last node r → Breaks head earlier last node s → r ≡ s
+pub broken_same : (head : Head) (earlier : List Position) (last : Bool) (node : AnyNode) (r s : Rule) → BreaksUnder head earlier last node r
+    → BreaksUnder head earlier last node s → r ≡ s
 broken_same head earlier last (of_adversary node) r s a b =
     a.1 ∙ ap adversary_rules.rule_of (first_broken_same (adversary.Meets head.format head.game head.sizes earlier last node) adversary.node_rules a.0 b.0 a.2 b.2) ∙ sym b.1
 broken_same head earlier last (of_algorithm node) r s a b =
@@ -68,11 +77,19 @@ multiset_of_game game items g m = record {
 }
 
 pub items_are_a_multiset : (head : Head) (earlier : List Position) (last : Bool) (node : AnyNode) → IsGame head.game → All (IsSize head.game.capacity) head.sizes
-    → MeetsRules head earlier last node → IsMultiset 120 (items_of node)
+    → MeetsUnder head earlier last node → IsMultiset 120 (items_of node)
 items_are_a_multiset head earlier last (of_adversary node) g s m =
     multiset_of_game head.game node.items g (multiset_from_items head.game head.sizes node.loads node.items g s m.0 m.1.0)
 items_are_a_multiset head earlier last (of_algorithm node) g s m =
     multiset_of_game head.game node.items g (multiset_from_items head.game head.sizes node.loads node.items g s m.0 m.1.0)
+
+-- ---- nodes that are kept
+
+-- one more was put after them
+pub AreKept-push : {E : Type 0} (result : Result (Unit {0}) E) (old new : Nodes) (side : Side) (node : AnyNode) → OnOk result (nodes_of new ≡ nodes_of old ++ node ∷ [])
+    → side_of new ≡ side_of old → OnOk result ((nodes : List AnyNode) → AreKept old side nodes → AreKept new side (nodes ++ node ∷ []))
+AreKept-push (Ok done) old new side node put same = λ nodes kept. (put ∙ ap (λ (ns : List AnyNode). ns ++ node ∷ []) kept.0, same ∙ kept.1)
+AreKept-push (Err fault) old new side node put same = tt
 
 -- ---- nodes in their lines
 
@@ -155,8 +172,8 @@ node_lines_push number (first ∷ nodes) node =
 
 -- ---- one more node
 
-each_push : (head : Head) (nodes : List AnyNode) (node : AnyNode) → EachMeetsRules head nodes → MeetsRules head (map position_of nodes) (length nodes + 1 == head.count) node
-    → EachMeetsRules head (nodes ++ node ∷ [])
+each_push : (head : Head) (nodes : List AnyNode) (node : AnyNode) → EachMeetsUnder head nodes → MeetsUnder head (map position_of nodes) (length nodes + 1 == head.count) node
+    → EachMeetsUnder head (nodes ++ node ∷ [])
 unfolding EachMeetsRules
 each_push head nodes node each meets k other e =
     let within : k < length (nodes ++ node ∷ []) = slice_get_within (nodes ++ node ∷ []) k other e in
@@ -167,9 +184,9 @@ each_push head nodes node each meets k other e =
     (λ (past : length nodes ≤ k).
     let at : length nodes ≡ k = omega (arith, within, past, length_push nodes node) in
     let is : node ≡ other = sym (get_or_at nodes node [] other k at) ∙ here in
-    subst (λ (n : AnyNode). MeetsRules head (map position_of (take k (nodes ++ node ∷ []))) (k + 1 == head.count) n) is
-    (subst (λ (i : ℕ). MeetsRules head (map position_of (take i (nodes ++ node ∷ []))) (i + 1 == head.count) node) at
-    (subst (λ (front : List AnyNode). MeetsRules head (map position_of front) (length nodes + 1 == head.count) node) (sym (take_at nodes (node ∷ []) (length nodes) refl)) meets)))
+    subst (λ (n : AnyNode). MeetsUnder head (map position_of (take k (nodes ++ node ∷ []))) (k + 1 == head.count) n) is
+    (subst (λ (i : ℕ). MeetsUnder head (map position_of (take i (nodes ++ node ∷ []))) (i + 1 == head.count) node) at
+    (subst (λ (front : List AnyNode). MeetsUnder head (map position_of front) (length nodes + 1 == head.count) node) (sym (take_at nodes (node ∷ []) (length nodes) refl)) meets)))
     (cases_lt k (length nodes))
 
 spelled_push : (head : Head) (nodes : List AnyNode) (node : AnyNode) → ((k : ℕ) (n : AnyNode) → slice_get nodes k ≡ Some n → SpellsUnder head k (node_line k n) n)
@@ -198,8 +215,8 @@ AreJudged-push head nodes node earlier kept text e judged takes =
     (λ (t : List ℕ). SpellsUnder head (length earlier) t node) takes.under.spells.spelled takes.under in
     record {
       spelled = spelled_push head nodes node judged.spelled (subst (λ (i : ℕ). SpellsUnder head i (node_line i node) node) count under);
-      each = each_push head nodes node judged.each (subst (λ (i : ℕ). MeetsRules head (map position_of nodes) (i + 1 == head.count) node) count (subst
-          (λ (ps : List Position). MeetsRules head ps (length earlier + 1 == head.count) node) e takes.meets));
+      each = each_push head nodes node judged.each (subst (λ (i : ℕ). MeetsUnder head (map position_of nodes) (i + 1 == head.count) node) count (subst
+          (λ (ps : List Position). MeetsUnder head ps (length earlier + 1 == head.count) node) e takes.meets));
     }
 
 pub positions_push : (nodes : List AnyNode) (node : AnyNode) (earlier kept : List Position) → earlier ≡ map position_of nodes → kept ≡ earlier ++ position_of node ∷ []
@@ -218,11 +235,11 @@ lines_push nodes node number text old mid new left mid_left new_left count spell
 
 -- the node after these was refused
 pub RefusesNode-from : (head : Head) (nodes : List AnyNode) (earlier : List Position) (fault : CheckFault) (old mid : ReaderState) (left mid_left new_left : Option (List ℕ))
-    → head.start ≡ 5 → earlier ≡ map position_of nodes → length nodes < head.count → AreJudged head nodes → ReadsLines (node_lines 0 nodes) old mid left mid_left
-    → RefusesNext (5 + length earlier) (IsNodeLine head (length earlier)) (IsBrokenNodeLine head earlier) fault mid mid_left new_left → RefusesNode head fault old left new_left
-RefusesNode-from head nodes earlier fault old mid left mid_left new_left start e few judged reads refused =
+    → earlier ≡ map position_of nodes → length nodes < head.count → AreJudged head nodes → ReadsLines (node_lines 0 nodes) old mid left mid_left
+    → RefusesNext (head.start + length earlier) (IsNodeLine head (length earlier)) (IsBrokenNodeLine head earlier) fault mid mid_left new_left
+    → RefusesNode head fault old left new_left
+RefusesNode-from head nodes earlier fault old mid left mid_left new_left e few judged reads refused =
     let count : length earlier ≡ length nodes = ap length e ∙ length-map nodes position_of in
-    let place : 5 + length nodes ≡ head.start + length nodes = omega (arith, start) in
     record {
       nodes = nodes;
       few = few;
@@ -231,15 +248,16 @@ RefusesNode-from head nodes earlier fault old mid left mid_left new_left start e
           (IsBrokenNodeLine head (map position_of nodes))) fault old left new_left) (append-nil (node_lines 0 nodes))
           (RefusesAfter-then (node_lines 0 nodes) [] (IsWrongNext (head.start + length nodes) (IsNodeLine head (length nodes))
           (IsBrokenNodeLine head (map position_of nodes))) fault old mid left mid_left new_left reads
-          (subst (λ (n : ℕ). RefusesNext n (IsNodeLine head (length nodes)) (IsBrokenNodeLine head (map position_of nodes)) fault mid mid_left new_left) place
-          (subst (λ (i : ℕ). RefusesNext (5 + i) (IsNodeLine head i) (IsBrokenNodeLine head (map position_of nodes)) fault mid mid_left new_left) count
-          (subst (λ (ps : List Position). RefusesNext (5 + length earlier) (IsNodeLine head (length earlier)) (IsBrokenNodeLine head ps) fault mid mid_left new_left) e refused))));
+          (subst (λ (i : ℕ). RefusesNext (head.start + i) (IsNodeLine head i) (IsBrokenNodeLine head (map position_of nodes)) fault mid mid_left new_left) count
+          (subst (λ (ps : List Position). RefusesNext (head.start + length earlier) (IsNodeLine head (length earlier)) (IsBrokenNodeLine head ps) fault mid mid_left new_left) e
+          refused)));
     }
 
 -- a node was read, and memory was refused
 pub RefusesNode-memory : (head : Head) (nodes : List AnyNode) (earlier : List Position) (text : List ℕ) (old mid new : ReaderState) (left mid_left new_left : Option (List ℕ))
-    → head.start ≡ 5 → earlier ≡ map position_of nodes → length nodes < head.count → AreJudged head nodes → ReadsLines (node_lines 0 nodes) old mid left mid_left
+    → earlier ≡ map position_of nodes → length nodes < head.count → AreJudged head nodes → ReadsLines (node_lines 0 nodes) old mid left mid_left
     → ReadsLines (text ∷ []) mid new mid_left new_left → RefusesNode head Memory old left new_left
-RefusesNode-memory head nodes earlier text old mid new left mid_left new_left start e few judged reads more =
-    RefusesNode-from head nodes earlier Memory old mid left mid_left new_left start e few judged reads
-    (refuses_memory (IsWrongNext (5 + length earlier) (IsNodeLine head (length earlier)) (IsBrokenNodeLine head earlier)) (text ∷ []) mid new mid_left new_left more (λ bytes. tt))
+RefusesNode-memory head nodes earlier text old mid new left mid_left new_left e few judged reads more =
+    RefusesNode-from head nodes earlier Memory old mid left mid_left new_left e few judged reads
+    (refuses_memory (IsWrongNext (head.start + length earlier) (IsNodeLine head (length earlier)) (IsBrokenNodeLine head earlier)) (text ∷ []) mid new mid_left new_left more
+    (λ bytes. tt))

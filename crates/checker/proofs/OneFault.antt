@@ -12,7 +12,8 @@ use Rattle.strategy_text.proofs.NodesSame.{line_tells}
 use Rattle.checker.specs.declared.fault.Wanted.{Wanted}
 use Rattle.checker.specs.declared.fault.Why.{Why}
 use Rattle.checker.specs.declared.fault.Why.TheVariants as why
-use Rattle.checker.specs.Head.{Head, position_of, Breaks, IsNodeLine, IsNodeLineAt, IsBrokenNodeLine}
+use Rattle.strategies.specs.AnyNode.{position_of}
+use Rattle.checker.specs.Head.{Head, BreaksUnder, IsNodeLine, IsNodeLineAt, IsBrokenNodeLine}
 use Rattle.checker.specs.FirstFault.{HasForm, HasPositions, HeadFault, first_syntax, game_syntax, game_rule, side_syntax, side_rule, count_syntax, BodyFault, node_syntax}
 use Rattle.checker.specs.FirstFault.{node_rule, end_syntax, past_syntax, LineFault, in_head, in_body, FirstFault, OneFirstFault}
 use Rattle.checker.proofs.LineLemmas.{HasForm-both}
@@ -72,8 +73,8 @@ rules_told : (bytes : List ℕ) (head : Head) (n : ℕ) (earlier : List Position
 rules_told bytes head n earlier r s le x y =
     let both = HasForm-both bytes n (IsBrokenNodeLine head earlier r) (IsBrokenNodeLine head earlier s) x y in
     let same : both.1.0 ≡ both.2.0 = line_tells head.format (length earlier) both.0 both.1.0 both.2.0 le both.1.1.spells both.2.1.spells in
-    let moved : Breaks head earlier (length earlier + 1 == head.count) both.2.0 r =
-    subst (λ (node : AnyNode). Breaks head earlier (length earlier + 1 == head.count) node r) same both.1.2 in
+    let moved : BreaksUnder head earlier (length earlier + 1 == head.count) both.2.0 r =
+    subst (λ (node : AnyNode). BreaksUnder head earlier (length earlier + 1 == head.count) node r) same both.1.2 in
     broken_same head earlier (length earlier + 1 == head.count) both.2.0 r s moved both.2.2
 
 node_rules_same : (bytes : List ℕ) (head : Head) (earlier others : List Position) (r s : Rule) → head.count ≤ most_nodes

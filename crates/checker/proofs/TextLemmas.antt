@@ -1,7 +1,7 @@
 -- A whole text that was read is that of a legal strategy.
 use Rattle.std.proofs.Common.{◌≡◌, ◌==◌, ℕ, suc, zero, ◌+◌, List, [], ◌∷◌, ◌++◌, length, take, map, get_or}
 use Rattle.std.proofs.Common.{Option, Some, None, sym, ap, ◌∙◌, subst, refl, arith}
-use Rattle.std.specs.Prelude.{Result, Ok, Err, IfOk}
+use Rattle.std.specs.Prelude.{Result, Ok, Err, IfOk, IfErr, OnOk}
 use Rattle.std.specs.Io.KnownBytes.{prepend_known}
 use Rattle.std.specs.List.{slice_get}
 use Rattle.std.proofs.lemmas.List.{length-map, append-nil}
@@ -12,7 +12,7 @@ use Rattle.port_io.proofs.ToldLemmas.{prepend_known-prepend}
 use Rattle.items.specs.Multiset.{sizes_of}
 use Rattle.loads.specs.declared.position.Position.{Position}
 use Rattle.strategy_text.specs.Spelling.{IsStep, IsAct}
-use Rattle.strategy_text.specs.Text.{AnyNode, of_adversary, of_algorithm, node_lines, nodes_of, side_of, end_line, head_lines, text_of, text_of_lines}
+use Rattle.strategy_text.specs.Text.{AnyNode, of_adversary, of_algorithm, node_lines, nodes_of, side_of, end_line, head_lines, text_of_lines}
 use Rattle.strategy_text.specs.declared.node.Act.{Act}
 use Rattle.strategy_text.specs.declared.node.Act.TheVariants.{Finish, Big, Reply}
 use Rattle.strategy_text.specs.declared.node.AdvNode.{AdvNode}
@@ -30,14 +30,15 @@ use Rattle.adversary_graph.specs.Legal as adversary_legal
 use Rattle.adversary_graph.specs.Nodes as adversary_nodes
 use Rattle.algorithm_graph.specs.Legal as algorithm_legal
 use Rattle.algorithm_graph.specs.Nodes as algorithm_nodes
-use Rattle.checker.specs.Accepted.{Spells, Loads, Accepts, IsFaultOf}
+use Rattle.checker.specs.Accepted.{Spells, IsLoaded, Accepts, IsFaultOf, IsTextFaultOf}
 use Rattle.checker.specs.FirstFault.{IsWanted}
-use Rattle.checker.specs.Head.{Head, position_of, side_of_node, MeetsRules, EachMeetsRules, AreLegalNodes}
-use Rattle.checker.specs.Progress.{ReadsText, ReadsEnd, RefusesAfter, IsPastEnd, IsHead, AreJudged, strategy_or, told_by}
+use Rattle.strategies.specs.AnyNode.{position_of, side_of_node, AreLegalNodes, EachMeetsRules}
+use Rattle.checker.specs.Head.{Head, MeetsUnder, EachMeetsUnder}
+use Rattle.checker.specs.Progress.{ReadsText, ReadsWhole, ReadsEnd, AreKept, RefusesAfter, IsPastEnd, IsHead, AreJudged, strategy_or, strategy_of_parts, told_by}
 use Rattle.checker.specs.declared.fault.Accepted.{Accepted}
 use Rattle.checker.specs.declared.head.Head as declared
 use Rattle.checker.specs.declared.fault.CheckFault.{CheckFault}
-use Rattle.checker.specs.declared.fault.CheckFault.TheVariants.{Memory}
+use Rattle.checker.specs.declared.fault.CheckFault.TheVariants.{Rejected, Read, Memory}
 use Rattle.checker.specs.declared.fault.Wanted.{Wanted}
 use Rattle.checker.proofs.FaultLemmas.{exit_past, lines_of_text}
 use Rattle.checker.proofs.ProgressLemmas.{RefusesNext-after}
@@ -61,16 +62,16 @@ algorithm_positions zero (node ∷ list) = refl
 algorithm_positions (suc k) [] = refl
 algorithm_positions (suc k) (node ∷ list) = ap (λ ps. algorithm_nodes.position_of node ∷ ps) (algorithm_positions k list)
 
-adversary_each : (head : Head) (list : List AdvNode) → EachMeetsRules head (map of_adversary list) → adversary_legal.EachMeetsRules head.format head.game head.sizes head.count list
-unfolding EachMeetsRules adversary_legal.EachMeetsRules
+adversary_each : (head : Head) (list : List AdvNode) → EachMeetsUnder head (map of_adversary list) → adversary_legal.EachMeetsRules head.format head.game head.sizes head.count list
+unfolding EachMeetsRules
 adversary_each head list each k node e =
-    subst (λ (ps : List Position). MeetsRules head ps (k + 1 == head.count) (of_adversary node)) (adversary_positions k list)
+    subst (λ (ps : List Position). MeetsUnder head ps (k + 1 == head.count) (of_adversary node)) (adversary_positions k list)
     (each k (of_adversary node) (map_get of_adversary list k node e))
 
-algorithm_each : (head : Head) (list : List AlgNode) → EachMeetsRules head (map of_algorithm list) → algorithm_legal.EachMeetsRules head.game head.sizes head.count list
-unfolding EachMeetsRules algorithm_legal.EachMeetsRules
+algorithm_each : (head : Head) (list : List AlgNode) → EachMeetsUnder head (map of_algorithm list) → algorithm_legal.EachMeetsRules head.format head.game head.sizes head.count list
+unfolding EachMeetsRules
 algorithm_each head list each k node e =
-    subst (λ (ps : List Position). MeetsRules head ps (k + 1 == head.count) (of_algorithm node)) (algorithm_positions k list)
+    subst (λ (ps : List Position). MeetsUnder head ps (k + 1 == head.count) (of_algorithm node)) (algorithm_positions k list)
     (each k (of_algorithm node) (map_get of_algorithm list k node e))
 
 step_formed : (format : Format) (step : Step) → IsStep format step → adversary_nodes.IsOfFormat format step
@@ -106,8 +107,8 @@ legal_from wanted head (nodes.Algorithm list) is number judged =
       high = omega (arith, count, is.high);
       formed = λ k d within. act_formed head.format (get_or list k d).act
           (judged.spelled k (of_algorithm (get_or list k d)) (map_get of_algorithm list k (get_or list k d) (slice_get-get_or list k d within))).spells.spellable.act;
-      each = subst (λ (n : ℕ). algorithm_legal.EachMeetsRules head.game (sizes_of head.game) n list) (sym count)
-          (subst (λ (sizes : List ℕ). algorithm_legal.EachMeetsRules head.game sizes head.count list) is.whole_game (algorithm_each head list judged.each));
+      each = subst (λ (n : ℕ). algorithm_legal.EachMeetsRules head.format head.game (sizes_of head.game) n list) (sym count)
+          (subst (λ (sizes : List ℕ). algorithm_legal.EachMeetsRules head.format head.game sizes head.count list) is.whole_game (algorithm_each head list judged.each));
     }
 
 -- the nodes of a side, as a strategy keeps them
@@ -143,33 +144,42 @@ Spells-from wanted head kept old new left new_left side r = record {
       (sym r.number) r.reads.stand.split);
 }
 
--- a text that was read to the end of the input
-pub Loads-from : (wanted : Wanted) (head : Head) (kept : Nodes) (old mid : ReaderState) (left mid_left new_left : Option (List ℕ)) → old.held ≡ [] → side_of kept ≡ head.side
-    → ReadsText wanted head (nodes_of kept) old mid left mid_left → ReadsEnd mid mid_left new_left
-    → Loads wanted (record { format = head.format; game = head.game; nodes = kept }) left new_left
-Loads-from wanted head kept old mid left mid_left new_left fresh side text end =
-    let s = Spells-from wanted head kept old mid left mid_left side text in
+-- a text that was read, and then the end of the input
+pub ReadsWhole-from : (wanted : Wanted) (head : Head) (list : List AnyNode) (old mid : ReaderState) (left mid_left new_left : Option (List ℕ)) → old.held ≡ []
+    → ReadsText wanted head list old mid left mid_left → ReadsEnd mid mid_left new_left → ReadsWhole wanted head list left new_left
+ReadsWhole-from wanted head list old mid left mid_left new_left fresh r end =
+    let text : List ℕ = text_of_lines (lines_of_text head list) in
     record {
-      spells = record {
-        legal = s.legal;
-        wanted_side = s.wanted_side;
-        read = s.read;
-        gone = s.gone ∙ ap (prepend_known s.read) end.gone ∙ prepend_known-prepend s.read [] new_left ∙ ap (λ (read : List ℕ). prepend_known read new_left) (append-nil s.read);
-        spelled = ap (λ (held : List ℕ). held ++ s.read) (sym fresh) ∙ s.spelled
-            ∙ ap (λ (held : List ℕ). text_of (record { format = head.format; game = head.game; nodes = kept }) ++ held) end.held;
-      };
+      is_head = r.is_head;
+      number = r.number;
+      judged = r.judged;
+      read = r.reads.read;
+      gone = r.reads.gone ∙ ap (prepend_known r.reads.read) end.gone ∙ prepend_known-prepend r.reads.read [] new_left
+          ∙ ap (λ (read : List ℕ). prepend_known read new_left) (append-nil r.reads.read);
+      spelled = ap (λ (held : List ℕ). held ++ r.reads.read) (sym fresh) ∙ r.reads.stand.split ∙ ap (λ (held : List ℕ). text ++ held) end.held ∙ append-nil text;
       whole = end.whole;
     }
 
-pub Accepts-from : (wanted : Wanted) (head : Head) (list : List AnyNode) (accepted : Accepted) (old mid : ReaderState) (left mid_left new_left : Option (List ℕ)) → old.held ≡ []
-    → ReadsText wanted head list old mid left mid_left → ReadsEnd mid mid_left new_left → accepted.game ≡ head.game → accepted.side ≡ head.side → accepted.nodes ≡ head.count
-    → Accepts wanted accepted left new_left
-Accepts-from wanted head list accepted old mid left mid_left new_left fresh r end game side number =
+pub IsLoaded-from : (wanted : Wanted) (head : Head) (kept : Nodes) (left new_left : Option (List ℕ)) → side_of kept ≡ head.side
+    → ReadsWhole wanted head (nodes_of kept) left new_left → IsLoaded wanted (record { format = head.format; game = head.game; nodes = kept }) left new_left
+IsLoaded-from wanted head kept left new_left side r = record {
+  legal = legal_from wanted head kept r.is_head r.number r.judged;
+  wanted_side = subst (IsWanted wanted) (sym side) r.is_head.wanted_side;
+  read = r.read;
+  gone = r.gone;
+  spelled = subst (λ (s : Side). r.read ≡ text_of_lines (head_lines head.format head.game s (length (nodes_of kept)) ++ node_lines 0 (nodes_of kept) ++ end_line ∷ [])) (sym side)
+      (subst (λ (n : ℕ). r.read ≡ text_of_lines (head_lines head.format head.game head.side n ++ node_lines 0 (nodes_of kept) ++ end_line ∷ [])) (sym r.number) r.spelled);
+  whole = r.whole;
+}
+
+pub Accepts-from : (wanted : Wanted) (head : Head) (list : List AnyNode) (accepted : Accepted) (left new_left : Option (List ℕ))
+    → ReadsWhole wanted head list left new_left → accepted.game ≡ head.game → accepted.side ≡ head.side → accepted.nodes ≡ head.count → Accepts wanted accepted left new_left
+Accepts-from wanted head list accepted left new_left r game side number =
     let kept = nodes_kept head.side list (λ k node e. (r.judged.spelled k node e).side) in
-    let text : ReadsText wanted head (nodes_of kept.0) old mid left mid_left = subst (λ (ns : List AnyNode). ReadsText wanted head ns old mid left mid_left) (sym kept.1) r in
+    let text : ReadsWhole wanted head (nodes_of kept.0) left new_left = subst (λ (ns : List AnyNode). ReadsWhole wanted head ns left new_left) (sym kept.1) r in
     record {
       strategy = record { format = head.format; game = head.game; nodes = kept.0 };
-      loads = Loads-from wanted head kept.0 old mid left mid_left new_left fresh kept.2 text end;
+      loaded = IsLoaded-from wanted head kept.0 left new_left kept.2 text;
       game = game;
       side = side ∙ sym kept.2;
       number = number ∙ sym r.number ∙ ap length (sym kept.1);
@@ -177,10 +187,9 @@ Accepts-from wanted head list accepted old mid left mid_left new_left fresh r en
 
 -- bytes past the end of a text were refused
 pub past_fault_of : (wanted : Wanted) (head : Head) (list : List AnyNode) (number : ℕ) (fault : CheckFault) (old mid : ReaderState) (left mid_left new_left : Option (List ℕ))
-    → old.held ≡ [] → 6 + head.count ≡ number → ReadsText wanted head list old mid left mid_left → RefusesAfter [] (IsPastEnd number) fault mid mid_left new_left
+    → old.held ≡ [] → number ≡ head.start + head.count + 1 → ReadsText wanted head list old mid left mid_left → RefusesAfter [] (IsPastEnd number) fault mid mid_left new_left
     → IsFaultOf wanted [] fault left new_left
-past_fault_of wanted head list number fault old mid left mid_left new_left fresh place r refused =
-    let at : number ≡ head.start + head.count + 1 = omega (arith, place, r.is_head.start) in
+past_fault_of wanted head list number fault old mid left mid_left new_left fresh at r refused =
     subst (λ (held : List ℕ). IsFaultOf wanted held fault left new_left) fresh
     (exit_past wanted head list fault old left new_left r.is_head r.judged r.number
     (RefusesNext-after (lines_of_text head list) (IsPastEnd (head.start + head.count + 1)) fault old mid left mid_left new_left r.reads
@@ -189,12 +198,61 @@ past_fault_of wanted head list number fault old mid left mid_left new_left fresh
 pub no_memory : (wanted : Wanted) (left : Option (List ℕ)) → IsFaultOf wanted [] Memory left left
 no_memory wanted left = ([], sym (prepend_known-nil left))
 
--- the strategy of what was read
-pub loaded_from : (wanted : Wanted) (read : Result declared.Head CheckFault) (result : Result Strategy CheckFault) (kept : Nodes) (old new : ReaderState)
-    (left new_left : Option (List ℕ)) → result ≡ strategy_or read kept → IfOk read (λ head. ReadsText wanted (told_by head) (nodes_of kept) old new left new_left)
-    → IfOk read (λ head. side_of kept ≡ head.side) → IfOk result (λ strategy. Spells wanted strategy old.held new.held left new_left)
-loaded_from wanted (Ok head) result kept old new left new_left e r side =
+-- ---- the strategy of what was read
+
+-- some nodes were read, and are the nodes kept
+abbrev pub ReadsSome : Wanted → declared.Head → Nodes → ReaderState → ReaderState → Option (List ℕ) → Option (List ℕ) → Type 0
+ReadsSome wanted head kept old new left new_left =
+    (nodes : List AnyNode) × ReadsText wanted (told_by head) nodes old new left new_left × AreKept kept head.side nodes
+
+abbrev pub ReadsSomeWhole : Wanted → declared.Head → Nodes → Option (List ℕ) → Option (List ℕ) → Type 0
+ReadsSomeWhole wanted head kept left new_left = (nodes : List AnyNode) × ReadsWhole wanted (told_by head) nodes left new_left × AreKept kept head.side nodes
+
+pub spelled_from : (wanted : Wanted) (read : Result declared.Head CheckFault) (result : Result Strategy CheckFault) (kept : Nodes) (old new : ReaderState)
+    (left new_left : Option (List ℕ)) → result ≡ strategy_or read kept → IfOk read (λ head. ReadsSome wanted head kept old new left new_left)
+    → IfOk result (λ strategy. Spells wanted strategy old.held new.held left new_left)
+spelled_from wanted (Ok head) result kept old new left new_left e r =
     subst (λ (x : Result Strategy CheckFault). IfOk x (λ strategy. Spells wanted strategy old.held new.held left new_left)) (sym e)
-    (Spells-from wanted (told_by head) kept old new left new_left side r)
-loaded_from wanted (Err fault) result kept old new left new_left e r side =
+    (Spells-from wanted (told_by head) kept old new left new_left r.2.1
+    (subst (λ (ns : List AnyNode). ReadsText wanted (told_by head) ns old new left new_left) (sym r.2.0) r.1))
+spelled_from wanted (Err fault) result kept old new left new_left e r =
     subst (λ (x : Result Strategy CheckFault). IfOk x (λ strategy. Spells wanted strategy old.held new.held left new_left)) (sym e) tt
+
+pub open_from : (wanted : Wanted) (read : Result declared.Head CheckFault) (result : Result Strategy CheckFault) (kept : Nodes) (old new : ReaderState)
+    (left new_left : Option (List ℕ)) → result ≡ strategy_or read kept → IfOk read (λ head. ReadsSome wanted head kept old new left new_left)
+    → OnOk result (new.ending ≡ None)
+open_from wanted (Ok head) result kept old new left new_left e r =
+    subst (λ (x : Result Strategy CheckFault). OnOk x (new.ending ≡ None)) (sym e) r.1.reads.open_still
+open_from wanted (Err fault) result kept old new left new_left e r =
+    subst (λ (x : Result Strategy CheckFault). OnOk x (new.ending ≡ None)) (sym e) tt
+
+pub loaded_from : (wanted : Wanted) (read : Result declared.Head CheckFault) (result : Result Strategy CheckFault) (kept : Nodes) (left new_left : Option (List ℕ))
+    → result ≡ strategy_or read kept → IfOk read (λ head. ReadsSomeWhole wanted head kept left new_left)
+    → IfOk result (λ strategy. IsLoaded wanted strategy left new_left)
+loaded_from wanted (Ok head) result kept left new_left e r =
+    subst (λ (x : Result Strategy CheckFault). IfOk x (λ strategy. IsLoaded wanted strategy left new_left)) (sym e)
+    (IsLoaded-from wanted (told_by head) kept left new_left r.2.1
+    (subst (λ (ns : List AnyNode). ReadsWhole wanted (told_by head) ns left new_left) (sym r.2.0) r.1))
+loaded_from wanted (Err fault) result kept left new_left e r =
+    subst (λ (x : Result Strategy CheckFault). IfOk x (λ strategy. IsLoaded wanted strategy left new_left)) (sym e) tt
+
+-- why no head was read is why no strategy was
+pub refused_from : (read : Result declared.Head CheckFault) (result : Result Strategy CheckFault) (kept : Nodes) (P : CheckFault → Type 0) → result ≡ strategy_or read kept
+    → IfErr read P → IfErr result P
+refused_from (Ok head) result kept P e h = subst (λ (x : Result Strategy CheckFault). IfErr x P) (sym e) tt
+refused_from (Err fault) result kept P e h = subst (λ (x : Result Strategy CheckFault). IfErr x P) (sym e) h
+
+err_is : {X : Type 0} (result : Result X CheckFault) (fault other : CheckFault) → result ≡ Err fault → result ≡ Err other → fault ≡ other
+err_is result fault other a b = cc
+
+pub failed_from : (read : Result declared.Head CheckFault) (result : Result Strategy CheckFault) (kept : Nodes) (P : Type 0) → result ≡ strategy_or read kept
+    → (read ≡ Err Read → P) → result ≡ Err Read → P
+failed_from (Ok head) result kept P e h failed = let other : Ok (strategy_of_parts head kept) ≡ Err Read = sym e ∙ failed in absurd cc
+failed_from (Err fault) result kept P e h failed = h (ap Err (err_is result fault Read e failed))
+
+-- a fault in a line of the text is one of the input
+pub fault_of_text : (wanted : Wanted) (held : List ℕ) (fault : CheckFault) (left new_left : Option (List ℕ)) → IsTextFaultOf wanted held fault left new_left
+    → IsFaultOf wanted held fault left new_left
+fault_of_text wanted held (Rejected line cause) left new_left f = f.rejects
+fault_of_text wanted held Read left new_left f = f
+fault_of_text wanted held Memory left new_left f = f

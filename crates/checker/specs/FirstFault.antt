@@ -10,7 +10,8 @@ use Rattle.strategy_text.specs.declared.node.Side.{Side}
 use Rattle.strategy_text.specs.declared.node.Strategy.{Strategy}
 use Rattle.strategy_text.specs.declared.rule.Rule.{Rule}
 use Rattle.strategy_text.specs.declared.rule.Rule.TheVariants as rules
-use Rattle.checker.specs.Head.{Head, IsNodeLine, IsNodeLineAt, IsBrokenNodeLine, IsLegal}
+use Rattle.strategies.specs.AnyNode.{IsLegal}
+use Rattle.checker.specs.Head.{Head, IsNodeLine, IsNodeLineAt, IsBrokenNodeLine}
 use Rattle.checker.specs.declared.fault.Wanted.{Wanted}
 use Rattle.checker.specs.declared.fault.Wanted.TheVariants.{Either, Only}
 use Rattle.checker.specs.declared.fault.Why.{Why}

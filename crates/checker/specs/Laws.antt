@@ -5,7 +5,7 @@ use Rattle.strategy_text.specs.Spelling.{IsSpellable}
 use Rattle.strategy_text.specs.Text.{strategy_lines, text_of}
 use Rattle.strategy_text.specs.declared.node.Strategy.{Strategy}
 use Rattle.checker.specs.FirstFault.{FirstFault, HasNoFault, IsLegalText}
-use Rattle.checker.specs.Head.{IsLegal}
+use Rattle.strategies.specs.AnyNode.{IsLegal}
 use Rattle.checker.specs.declared.fault.Wanted.{Wanted}
 use Rattle.checker.specs.declared.fault.Why.{Why}
 

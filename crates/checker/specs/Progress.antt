@@ -7,17 +7,19 @@ use Rattle.items.specs.Multiset.{sizes_of}
 use Rattle.loads.specs.declared.position.Position.{Position}
 use Rattle.strategy_text.specs.Spelling.{SpellsGame, most_nodes}
 use Rattle.strategy_text.specs.Text.{AnyNode, of_adversary, of_algorithm, node_line, node_lines}
-use Rattle.strategy_text.specs.Text.{side_line, head_lines, end_line, text_of_lines}
+use Rattle.strategy_text.specs.Text.{side_line, head_lines, end_line, text_of_lines, nodes_of, side_of}
 use Rattle.strategy_text.specs.declared.node.Nodes.{Nodes}
 use Rattle.strategy_text.specs.declared.node.Side.{Side}
 use Rattle.strategy_text.specs.declared.node.Strategy.{Strategy}
 use Rattle.strategy_text.specs.declared.rule.Rule.{Rule}
 use Rattle.strategy_text.specs.declared.rule.Rule.TheVariants as rules
 use Rattle.checker.specs.declared.head.Head as declared
+use Rattle.checker.specs.declared.keeper.Nothing.{Nothing}
 use Rattle.checker.specs.declared.node.Node.{Node}
 use Rattle.checker.specs.declared.node.Node.TheVariants as read
-use Rattle.checker.specs.Head.{Head, head_of_game, position_of, SpellsUnder, MeetsRules}
-use Rattle.checker.specs.Head.{Breaks, EachMeetsRules, IsNodeLine, IsBrokenNodeLine}
+use Rattle.strategies.specs.AnyNode.{position_of}
+use Rattle.checker.specs.Head.{Head, SpellsUnder, MeetsUnder}
+use Rattle.checker.specs.Head.{BreaksUnder, EachMeetsUnder, IsNodeLine, IsBrokenNodeLine}
 use Rattle.checker.specs.Accepted.{IsGone, IsReadWhole}
 use Rattle.checker.specs.FirstFault.{IsWanted}
 use Rattle.checker.specs.declared.fault.CheckFault.{CheckFault}
@@ -111,7 +113,7 @@ lines_of_head head = head_lines head.format head.game head.side head.count
 -- nodes that lines spell under a head, numbered from 0, and that meet every rule
 pub record AreJudged (head : Head) (nodes : List AnyNode) : Type 0 where
   pub spelled : (k : ℕ) (node : AnyNode) → slice_get nodes k ≡ Some node → SpellsUnder head k (node_line k node) node
-  pub each : EachMeetsRules head nodes
+  pub each : EachMeetsUnder head nodes
 
 -- a line of this number was refused, which is to be of a form and to break no rule, or memory was
 abbrev pub IsRefusedLine : ℕ → (List ℕ → Type 0) → (Rule → List ℕ → Type 0) → CheckFault → List ℕ → Type 0
@@ -124,7 +126,7 @@ IsRefusedLine number Form Breaking Memory text = Unit {0}
 abbrev pub IsBrokenBy : Head → List Position → ℕ → AnyNode → CheckFault → Type 0
 IsBrokenBy head earlier number node (Rejected line why.Syntax) = ⊥
 IsBrokenBy head earlier number node (Rejected line (why.Rule rule)) =
-    (line ≡ number) × Breaks head earlier (length earlier + 1 == head.count) node rule
+    (line ≡ number) × BreaksUnder head earlier (length earlier + 1 == head.count) node rule
 IsBrokenBy head earlier number node Read = ⊥
 IsBrokenBy head earlier number node Memory = Unit {0}
 
@@ -132,7 +134,7 @@ IsBrokenBy head earlier number node Memory = Unit {0}
 -- theirs
 pub record TakesNode (head : Head) (earlier kept : List Position) (node : AnyNode) (text : List ℕ) : Type 0 where
   pub under : SpellsUnder head (length earlier) text node
-  pub meets : MeetsRules head earlier (length earlier + 1 == head.count) node
+  pub meets : MeetsUnder head earlier (length earlier + 1 == head.count) node
   pub put : kept ≡ earlier ++ position_of node ∷ []
 
 -- the node that stood next was read: it meets every rule as the one that follows the earlier ones, and its position was
@@ -167,14 +169,39 @@ pub record ReadsText (wanted : Wanted) (head : Head) (nodes : List AnyNode) (old
   pub judged : AreJudged head nodes
   pub reads : ReadsLines (lines_of_head head ++ node_lines 0 nodes ++ end_line ∷ []) old new left new_left
 
--- the head that the numbers read tell
+-- a whole text was read, and then the end of the input
+pub record ReadsWhole (wanted : Wanted) (head : Head) (nodes : List AnyNode) (left new_left : Option (List ℕ))
+    : Type 0 where
+  pub is_head : IsHead wanted head
+  pub number : length nodes ≡ head.count
+  pub judged : AreJudged head nodes
+  pub read : List ℕ
+  pub gone : IsGone read left new_left
+  pub spelled : read ≡ text_of_lines (lines_of_head head ++ node_lines 0 nodes ++ end_line ∷ [])
+  pub whole : IsReadWhole new_left
+
+-- the head that was read
 abbrev pub told_by : declared.Head → Head
-told_by head = head_of_game head.format head.game head.side head.count
+told_by head = record {
+  format = head.terms.format;
+  game = head.terms.game;
+  sizes = head.terms.sizes;
+  side = head.side;
+  count = head.count;
+  start = head.start;
+}
 
 -- a node of either side, as it was read
 abbrev pub any_node : Node → AnyNode
 any_node (read.Adversary node) = of_adversary node
 any_node (read.Algorithm node) = of_algorithm node
+
+-- the nodes that are kept of those that were given, which are of a side: all of them, or none
+abbrev pub AreKept : Nodes → Side → List AnyNode → Type 0
+AreKept kept side nodes = (nodes_of kept ≡ nodes) × (side_of kept ≡ side)
+
+abbrev pub NoneIsKept : Nothing → Side → List AnyNode → Type 0
+NoneIsKept kept side nodes = Unit {0}
 
 -- the input ended: nothing was held and nothing was read, and nothing is left, where the source tells what is left
 pub record ReadsEnd (old : ReaderState) (left new_left : Option (List ℕ)) : Type 0 where
@@ -184,7 +211,7 @@ pub record ReadsEnd (old : ReaderState) (left new_left : Option (List ℕ)) : Ty
 
 -- the strategy of a head that was read and of nodes
 abbrev pub strategy_of_parts : declared.Head → Nodes → Strategy
-strategy_of_parts head nodes = record { format = head.format; game = head.game; nodes = nodes }
+strategy_of_parts head nodes = record { format = head.terms.format; game = head.terms.game; nodes = nodes }
 
 -- the same, or why there is none
 abbrev pub strategy_or : Result declared.Head CheckFault → Nodes → Result Strategy CheckFault

@@ -1,13 +1,13 @@
 //! Reading the head lines.
 
-ghost use Rattle.std.specs.Prelude.{◌≡◌, ◌↔◌, ◌∷◌, [], ◌≤◌, IsTrue, None, Err, IfOk, IfErr, OnOk};
+ghost use Rattle.std.specs.Prelude.{◌≡◌, ◌↔◌, ◌∷◌, [], ◌+◌, ◌≤◌, IsTrue, None, Err, IfOk, IfErr, OnOk};
 ghost use Rattle.port_io.specs.Faults.{Rose};
-ghost use Rattle.port_io.specs.Lines.{IsLine};
+ghost use Rattle.port_io.specs.Lines.{IsLine, HasNoLf};
 ghost use Rattle.port_io.specs.declared.lines.Line.TheVariants.{Text};
 ghost use Rattle.items.specs.Game.{IsGame};
 ghost use Rattle.strategy_text.specs.Spelling.{most_nodes};
 ghost use Rattle.strategy_text.specs.Text.{first_line, game_line, side_line, count_line};
-ghost use Rattle.checker.specs.Accepted.{IsFaultOf};
+ghost use Rattle.checker.specs.Accepted.{IsTextFaultOf};
 ghost use Rattle.checker.specs.FirstFault.{IsWanted, IsFirstLine, IsGameLine, IsSideLine, IsCountLine};
 ghost use Rattle.checker.specs.Progress.{ReadsLines, RefusesNext, AnyLine, NoRule, BreaksGame};
 ghost use Rattle.checker.specs.Progress.{BreaksSide, IsHead, lines_of_head, told_by};
@@ -17,16 +17,27 @@ ghost use Rattle.checker.specs.declared.fault.Why.TheVariants as why;
 
 use crate::fault::{CheckFault, Wanted, Why};
 use items::Game;
+use node_pool::Terms;
 use port_io::{Line, LineReader, Source};
 use strategy_text::{Format, Rule, Side, parse_first, parse_game, parse_nodes, parse_side};
 
-// What the head lines tell.
-#[derive(Clone, Copy)]
+// What the head lines tell: what a node is judged by, the side, how many nodes there are, and the number of the line
+// of the first node.
+#[derive(Drop)]
 pub(crate) struct Head {
-    pub(crate) format: Format,
-    pub(crate) game: Game,
+    pub(crate) terms: Terms,
     pub(crate) side: Side,
     pub(crate) count: u32,
+    pub(crate) start: u32,
+}
+
+impl Head {
+    // The number of the line of the node of this number. That of the last line follows the last node's.
+    pub(crate) fn line_of(&self, number: u32) -> u64
+        ensures { result ≡ self.now.start + number }
+    {
+        u64::from(self.start) + u64::from(number)
+    }
 }
 
 pub(crate) fn syntax(line: u64) -> CheckFault
@@ -59,6 +70,7 @@ pub(crate) fn next_text<S: Source>(
         (S.left source.new)) }
     ensures line { OnOk result (IsLine lines.new.text) }
     ensures read { result ≡ Err Read → Rose (S.faults source.old) (S.faults source.new) }
+    ensures no_lf { result ≡ Err Read → HasNoLf lines.new.held }
     ensures refused { IfErr result (λ fault. RefusesNext line AnyLine NoRule fault lines.old (S.left source.old)
         (S.left source.new)) }
 {
@@ -85,6 +97,7 @@ fn read_first<S: Source>(lines: &mut LineReader, source: &mut S) -> Result<Forma
     ensures ok { IfOk result (λ format. ReadsLines (first_line format ∷ []) lines.old lines.new (S.left source.old)
         (S.left source.new)) }
     ensures read { result ≡ Err Read → Rose (S.faults source.old) (S.faults source.new) }
+    ensures no_lf { result ≡ Err Read → HasNoLf lines.new.held }
     ensures refused { IfErr result (λ fault. RefusesNext 1 IsFirstLine NoRule fault lines.old (S.left source.old)
         (S.left source.new)) }
 {
@@ -102,6 +115,7 @@ fn read_game<S: Source>(lines: &mut LineReader, source: &mut S) -> Result<Game, 
         (S.left source.new)) }
     ensures legal { IfOk result IsGame }
     ensures read { result ≡ Err Read → Rose (S.faults source.old) (S.faults source.new) }
+    ensures no_lf { result ≡ Err Read → HasNoLf lines.new.held }
     ensures refused { IfErr result (λ fault. RefusesNext 2 IsGameLine BreaksGame fault lines.old (S.left source.old)
         (S.left source.new)) }
 {
@@ -136,6 +150,7 @@ fn read_side<S: Source>(
         (S.left source.new)) }
     ensures wanted { IfOk result (IsWanted wanted) }
     ensures read { result ≡ Err Read → Rose (S.faults source.old) (S.faults source.new) }
+    ensures no_lf { result ≡ Err Read → HasNoLf lines.new.held }
     ensures refused { IfErr result (λ fault. RefusesNext 3 IsSideLine (BreaksSide wanted) fault lines.old
         (S.left source.old) (S.left source.new)) }
 {
@@ -156,6 +171,7 @@ fn read_count<S: Source>(lines: &mut LineReader, source: &mut S) -> Result<u32, 
         (S.left source.new)) }
     ensures range { IfOk result (λ nodes. (1 ≤ nodes) × (nodes ≤ most_nodes)) }
     ensures read { result ≡ Err Read → Rose (S.faults source.old) (S.faults source.new) }
+    ensures no_lf { result ≡ Err Read → HasNoLf lines.new.held }
     ensures refused { IfErr result (λ fault. RefusesNext 4 IsCountLine NoRule fault lines.old (S.left source.old)
         (S.left source.new)) }
 {
@@ -178,7 +194,8 @@ pub(crate) fn read_head<S: Source>(
         (S.left source.new)) }
     ensures legal { IfOk result (λ head. IsHead wanted (told_by head)) }
     ensures read { result ≡ Err Read → Rose (S.faults source.old) (S.faults source.new) }
-    ensures refused { IfErr result (λ fault. IsFaultOf wanted lines.old.held fault (S.left source.old)
+    ensures no_lf { result ≡ Err Read → HasNoLf lines.new.held }
+    ensures refused { IfErr result (λ fault. IsTextFaultOf wanted lines.old.held fault (S.left source.old)
         (S.left source.new)) }
 {
     let format = read_first(lines, source)?;
@@ -186,9 +203,9 @@ pub(crate) fn read_head<S: Source>(
     let side = read_side(lines, source, wanted)?;
     let count = read_count(lines, source)?;
     Ok(Head {
-        format,
-        game,
+        terms: Terms::of_game(format, &game),
         side,
         count,
+        start: 5,
     })
 }

@@ -3,6 +3,7 @@
 
 mod fault;
 mod head;
+mod keeper;
 pub mod laws;
 mod node;
 mod reading;

@@ -4,10 +4,11 @@ ghost use Rattle.std.specs.Prelude.{◌≡◌, ◌==◌, ◌<◌, ◌≤◌, ◌
 ghost use Rattle.std.specs.Prelude.{MatchOption, OnOk, length, map};
 ghost use Rattle.std.specs.Bool.{OnTrue, OnFalse};
 ghost use Rattle.port_io.specs.Faults.{Rose};
-ghost use Rattle.items.specs.Multiset.{sizes_of};
+ghost use Rattle.port_io.specs.Lines.{HasNoLf};
 ghost use Rattle.strategy_text.specs.Spelling.{IsSpellableNode, most_nodes};
 ghost use Rattle.strategy_text.specs.Text.{AnyNode, end_line, items_of, loads_of};
-ghost use Rattle.checker.specs.Head.{SpellsUnder, MeetsRules, Breaks, position_of, side_of_node};
+ghost use Rattle.strategies.specs.AnyNode.{position_of, side_of_node};
+ghost use Rattle.checker.specs.Head.{SpellsUnder, MeetsUnder, BreaksUnder};
 ghost use Rattle.checker.specs.Head.{IsNodeLine, IsBrokenNodeLine};
 ghost use Rattle.checker.specs.Progress.{ReadsNode, TakesNode, IsRefusedLine, IsBrokenBy};
 ghost use Rattle.checker.specs.Progress.{RefusesNext, NoRule, told_by, any_node};
@@ -17,7 +18,6 @@ use crate::fault::CheckFault;
 use crate::head::{Head, broken, next_text, syntax};
 use adversary_graph as adversary;
 use algorithm_graph as algorithm;
-use items::laws::game_is_legal;
 use loads::PackedPositions;
 use port_io::{LineReader, Source};
 use std::alloc::{AllocError, Global};
@@ -57,8 +57,8 @@ fn read_spelled(
         (told_by head.now) number line.now other → ⊥)) }
 {
     match node {
-        Node::Adversary(node) => read_adversary(alloc, head.format, line, number, node),
-        Node::Algorithm(node) => read_algorithm(alloc, head.format, line, number, node),
+        Node::Adversary(node) => read_adversary(alloc, head.terms.format(), line, number, node),
+        Node::Algorithm(node) => read_algorithm(alloc, head.terms.format(), line, number, node),
     }
 }
 
@@ -81,18 +81,14 @@ fn judge_node(
     last: bool,
     node: &Node,
 ) -> Result<Option<Rule>, AllocError>
-    requires spellable { IsSpellableNode head.now.format (any_node node.now) }
+    requires spellable { IsSpellableNode head.now.terms.format (any_node node.now) }
     ensures exact { IfOk result (λ judged. MatchOption judged
-        (MeetsRules (told_by head.now) earlier.now last (any_node node.now))
-        (Breaks (told_by head.now) earlier.now last (any_node node.now))) }
+        (MeetsUnder (told_by head.now) earlier.now last (any_node node.now))
+        (BreaksUnder (told_by head.now) earlier.now last (any_node node.now))) }
 {
-    let game = head.game;
     match node {
-        Node::Adversary(node) => {
-            let judged = adversary::node_fault(&game, head.format, earlier, last, node);
-            Ok(judged)
-        }
-        Node::Algorithm(node) => algorithm::node_fault(alloc, &game, earlier, last, node),
+        Node::Adversary(node) => Ok(adversary::judge(&head.terms, earlier, last, node)),
+        Node::Algorithm(node) => algorithm::judge(alloc, &head.terms, earlier, last, node),
     }
 }
 
@@ -106,13 +102,13 @@ fn next_node(
 ) -> Result<(), CheckFault>
     requires { side_of_node (any_node node.old) ≡ head.now.side }
     ensures ok { OnOk result (SpellsUnder (told_by head.now) number text.now (any_node node.new)) }
-    ensures err { IfErr result (λ fault. IsRefusedLine (5 + number) (IsNodeLine
+    ensures err { IfErr result (λ fault. IsRefusedLine (head.now.start + number) (IsNodeLine
         (told_by head.now) number) NoRule fault text.now) }
 {
     if read_spelled(alloc, head, text, number, node)? {
         return Ok(());
     }
-    Err(syntax(5 + u64::from(number)))
+    Err(syntax(head.line_of(number)))
 }
 
 // Sees that a node follows the earlier ones; one that breaks a rule is refused.
@@ -125,13 +121,14 @@ fn see_follows(
 ) -> Result<(), CheckFault>
     requires number { number ≡ length earlier.now }
     requires most { number < most_nodes }
-    requires spellable { IsSpellableNode head.now.format (any_node node.now) }
-    ensures ok { OnOk result (MeetsRules (told_by head.now) earlier.now (length earlier.now + 1 == head.now.count)
+    requires spellable { IsSpellableNode head.now.terms.format (any_node node.now) }
+    ensures ok { OnOk result (MeetsUnder (told_by head.now) earlier.now (length earlier.now + 1 == head.now.count)
         (any_node node.now)) }
-    ensures err { IfErr result (IsBrokenBy (told_by head.now) earlier.now (5 + number) (any_node node.now)) }
+    ensures err { IfErr result (IsBrokenBy (told_by head.now) earlier.now (head.now.start + number)
+        (any_node node.now)) }
 {
     match judge_node(alloc, head, earlier, number + 1 == head.count, node)? {
-        Some(rule) => Err(broken(5 + u64::from(number), rule)),
+        Some(rule) => Err(broken(head.line_of(number), rule)),
         None => Ok(()),
     }
 }
@@ -148,13 +145,14 @@ fn take_node(
     requires few { length earlier.old < head.now.count }
     requires most { head.now.count ≤ most_nodes }
     ensures ok { OnOk result (TakesNode (told_by head.now) earlier.old earlier.new (any_node node.new) text.now) }
-    ensures err { IfErr result (λ fault. IsRefusedLine (5 + length earlier.old) (IsNodeLine (told_by head.now)
-        (length earlier.old)) (IsBrokenNodeLine (told_by head.now) earlier.old) fault text.now) }
+    ensures err { IfErr result (λ fault. IsRefusedLine (head.now.start + length earlier.old)
+        (IsNodeLine (told_by head.now) (length earlier.old)) (IsBrokenNodeLine (told_by head.now) earlier.old) fault
+        text.now) }
 {
     let number = earlier.len() as u32;
     next_node(alloc, head, text, number, node)?;
     see_follows(alloc, head, earlier, number, node)?;
-    game_is_legal(&head.game);
+    let _game = head.terms.game();
     let (loads, items) = lists_of(node);
     earlier.push_lists(loads, items)?;
     Ok(())
@@ -177,10 +175,11 @@ pub(crate) fn read_node<S: Source>(
     ensures ok { OnOk result (ReadsNode (told_by head.now) earlier.old earlier.new
         (any_node node.new) lines.old lines.new (S.left source.old) (S.left source.new)) }
     ensures read { result ≡ Err Read → Rose (S.faults source.old) (S.faults source.new) }
-    ensures refused { IfErr result (λ fault. RefusesNext (5 + length earlier.old) (IsNodeLine (told_by head.now)
-        (length earlier.old)) (IsBrokenNodeLine (told_by head.now) earlier.old) fault lines.old (S.left source.old)
-        (S.left source.new)) }
+    ensures no_lf { result ≡ Err Read → HasNoLf lines.new.held }
+    ensures refused { IfErr result (λ fault. RefusesNext (head.now.start + length earlier.old)
+        (IsNodeLine (told_by head.now) (length earlier.old)) (IsBrokenNodeLine (told_by head.now) earlier.old) fault
+        lines.old (S.left source.old) (S.left source.new)) }
 {
-    next_text(lines, source, 5 + earlier.len() as u64)?;
+    next_text(lines, source, head.line_of(earlier.len() as u32))?;
     take_node(alloc, head, earlier, lines.text(), node)
 }

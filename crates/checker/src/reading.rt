@@ -1,101 +1,54 @@
 //! Reading with judgement.
 
-ghost use Rattle.std.specs.Prelude.{◌≡◌, ◌↔◌, ◌∷◌, [], ◌++◌, ◌≤◌, IsTrue, None, Err, IfOk, IfErr, OnOk, List};
+ghost use Rattle.std.specs.Prelude.{◌≡◌, ◌↔◌, ◌∷◌, [], ◌++◌, ◌≤◌, IsTrue, None, Err, IfOk, IfErr, OnOk, IsOk, IfSome};
+ghost use Rattle.std.specs.Prelude.{List};
 ghost use Rattle.port_io.specs.Faults.{Rose};
+ghost use Rattle.port_io.specs.Lines.{HasNoLf};
 ghost use Rattle.port_io.specs.declared.lines.Line.TheVariants.{End};
 ghost use Rattle.online_play.specs.Algorithm.{ForcesEvery};
 ghost use Rattle.strategy_text.specs.declared.node.Side.TheVariants.{Adversary};
 ghost use Rattle.strategy_text.specs.Spelling.{most_nodes};
-ghost use Rattle.strategy_text.specs.Text.{AnyNode, end_line, nodes_of, side_of};
-ghost use Rattle.checker.specs.Accepted.{Accepts, Loads, Spells, IsFaultOf};
-ghost use Rattle.checker.specs.Head.{side_of_node};
-ghost use Rattle.checker.specs.Progress.{any_node, ReadsLines, ReadsNodes, ReadsText, ReadsEnd};
+ghost use Rattle.strategy_text.specs.Text.{AnyNode, end_line, side_of};
+ghost use Rattle.checker.specs.Accepted.{Accepts, IsLoaded, Spells, IsFaultOf, IsTextFaultOf, BeginsWithLegalText};
+ghost use Rattle.checker.specs.Progress.{ReadsLines, ReadsNodes, ReadsText, ReadsWhole, ReadsEnd};
 ghost use Rattle.checker.specs.Progress.{RefusesNext, RefusesAfter, RefusesNode, IsPastEnd};
-ghost use Rattle.checker.specs.Progress.{NoRule, told_by, strategy_or, strategy_of_parts};
-ghost use Rattle.checker.specs.declared.fault.CheckFault.TheVariants.{Read};
+ghost use Rattle.checker.specs.Progress.{NoRule, told_by, strategy_or};
+ghost use Rattle.checker.specs.declared.fault.CheckFault.TheVariants.{Read, Memory};
 ghost use Rattle.checker.specs.declared.fault.Wanted.TheVariants.{Either};
 
 use crate::fault::{Accepted, CheckFault, Wanted};
 use crate::head::{Head, next_text, read_head, syntax};
+use crate::keeper::{Keeper, Nothing};
 use crate::node::{Node, read_node};
 use loads::PackedPositions;
 use port_io::{Line, LineReader, Source};
-use std::alloc::{AllocError, Global};
-use strategy_text::{AdvNodes, AlgNodes, Nodes, Side, Strategy, parse_end};
+use std::alloc::Global;
+use strategy_text::{AdvNodes, Nodes, Strategy, parse_end};
 
-// Reads and judges all nodes. Only their positions are kept.
-fn judge_nodes<S: Source>(
+// Reads and judges all nodes. Their positions are kept, and of the nodes what the keeper keeps.
+fn read_nodes<S: Source, K: Keeper>(
     alloc: Global,
     lines: &mut LineReader,
     source: &mut S,
     head: &Head,
+    kept: &mut K,
 ) -> Result<(), CheckFault>
     requires open_still { lines.old.ending ≡ None }
     requires most { head.now.count ≤ most_nodes }
     ensures count { S.faults source.old ≤ S.faults source.new }
     ensures ok { OnOk result ((nodes : List AnyNode) × ReadsNodes (told_by head.now) nodes lines.old lines.new
-        (S.left source.old) (S.left source.new)) }
+        (S.left source.old) (S.left source.new) × K.holds kept.new head.now.side nodes) }
     ensures read { result ≡ Err Read → Rose (S.faults source.old) (S.faults source.new) }
+    ensures no_lf { result ≡ Err Read → HasNoLf lines.new.held }
     ensures refused { IfErr result (λ fault. RefusesNode (told_by head.now) fault lines.old (S.left source.old)
         (S.left source.new)) }
 {
+    kept.begin(alloc, head.side);
     let mut positions = PackedPositions::new(alloc);
     let mut node = Node::empty(alloc, head.side);
     for k in 0..head.count {
         read_node(alloc, lines, source, head, &mut positions, &mut node)?;
-    }
-    Ok(())
-}
-
-// Takes the nodes away, and begins with none of a side.
-fn begin(nodes: &mut Nodes, alloc: Global, side: Side)
-    ensures none { nodes_of nodes.new ≡ [] }
-    ensures side { side_of nodes.new ≡ side }
-{
-    *nodes = match side {
-        Side::Adversary => Nodes::Adversary(AdvNodes::new(alloc)),
-        Side::Algorithm => Nodes::Algorithm(AlgNodes::new(alloc)),
-    };
-}
-
-// Puts a node of the same side after the others.
-fn keep(nodes: &mut Nodes, node: Node) -> Result<(), AllocError>
-    requires side { side_of_node (any_node node) ≡ side_of nodes.old }
-    ensures ok { OnOk result (nodes_of nodes.new ≡ nodes_of nodes.old ++ any_node node ∷ []) }
-    ensures side { side_of nodes.new ≡ side_of nodes.old }
-{
-    match (nodes, node) {
-        (Nodes::Adversary(list), Node::Adversary(node)) => list.push(node),
-        (Nodes::Algorithm(list), Node::Algorithm(node)) => list.push(node),
-        _ => unreachable!(),
-    }
-}
-
-// Reads and judges all nodes, and keeps them.
-fn keep_nodes<S: Source>(
-    alloc: Global,
-    lines: &mut LineReader,
-    source: &mut S,
-    head: &Head,
-    nodes: &mut Nodes,
-) -> Result<(), CheckFault>
-    requires open_still { lines.old.ending ≡ None }
-    requires most { head.now.count ≤ most_nodes }
-    requires none { nodes_of nodes.old ≡ [] }
-    requires side { side_of nodes.old ≡ head.now.side }
-    ensures count { S.faults source.old ≤ S.faults source.new }
-    ensures ok { OnOk result (ReadsNodes (told_by head.now) (nodes_of nodes.new) lines.old lines.new (S.left source.old)
-        (S.left source.new)) }
-    ensures side { OnOk result (side_of nodes.new ≡ head.now.side) }
-    ensures read { result ≡ Err Read → Rose (S.faults source.old) (S.faults source.new) }
-    ensures refused { IfErr result (λ fault. RefusesNode (told_by head.now) fault lines.old (S.left source.old)
-        (S.left source.new)) }
-{
-    let mut positions = PackedPositions::new(alloc);
-    for k in 0..head.count {
-        let mut node = Node::empty(alloc, head.side);
-        read_node(alloc, lines, source, head, &mut positions, &mut node)?;
-        keep(nodes, node)?;
+        kept.keep(alloc, &mut node)?;
     }
     Ok(())
 }
@@ -106,6 +59,7 @@ fn read_end<S: Source>(lines: &mut LineReader, source: &mut S, line: u64) -> Res
     ensures count { S.faults source.old ≤ S.faults source.new }
     ensures ok { OnOk result (ReadsLines (end_line ∷ []) lines.old lines.new (S.left source.old) (S.left source.new)) }
     ensures read { result ≡ Err Read → Rose (S.faults source.old) (S.faults source.new) }
+    ensures no_lf { result ≡ Err Read → HasNoLf lines.new.held }
     ensures refused { IfErr result (λ fault. RefusesNext line (λ text. text ≡ end_line) NoRule fault lines.old
         (S.left source.old) (S.left source.new)) }
 {
@@ -142,48 +96,45 @@ fn read_past<S: Source>(lines: &mut LineReader, source: &mut S, line: u64) -> Re
     }
 }
 
-// Reads and judges a text up to its last line. Only the positions of its nodes are kept.
-fn judge_text<S: Source>(
+// Reads and judges a text up to its last line, and looks no further.
+fn read_text<S: Source, K: Keeper>(
     alloc: Global,
     lines: &mut LineReader,
     source: &mut S,
     wanted: Wanted,
+    kept: &mut K,
 ) -> Result<Head, CheckFault>
     requires { lines.old.ending ≡ None }
     ensures count { S.faults source.old ≤ S.faults source.new }
     ensures ok { IfOk result (λ head. (nodes : List AnyNode) × ReadsText wanted (told_by head) nodes lines.old lines.new
-        (S.left source.old) (S.left source.new)) }
+        (S.left source.old) (S.left source.new) × K.holds kept.new head.side nodes) }
     ensures read { result ≡ Err Read → Rose (S.faults source.old) (S.faults source.new) }
-    ensures refused { IfErr result (λ fault. IsFaultOf wanted lines.old.held fault (S.left source.old)
+    ensures no_lf { result ≡ Err Read → HasNoLf lines.new.held }
+    ensures refused { IfErr result (λ fault. IsTextFaultOf wanted lines.old.held fault (S.left source.old)
         (S.left source.new)) }
 {
     let head = read_head(lines, source, wanted)?;
-    judge_nodes(alloc, lines, source, &head)?;
-    read_end(lines, source, 5 + u64::from(head.count))?;
+    read_nodes(alloc, lines, source, &head, kept)?;
+    read_end(lines, source, head.line_of(head.count))?;
     Ok(head)
 }
 
-// Reads and judges a text up to its last line, and keeps its nodes.
-fn keep_text<S: Source>(
+// Reads and judges a text, and sees that the input ends after its last line.
+fn read_whole<S: Source, K: Keeper>(
     alloc: Global,
-    lines: &mut LineReader,
     source: &mut S,
     wanted: Wanted,
-    nodes: &mut Nodes,
+    kept: &mut K,
 ) -> Result<Head, CheckFault>
-    requires { lines.old.ending ≡ None }
     ensures count { S.faults source.old ≤ S.faults source.new }
-    ensures ok { IfOk result (λ head. ReadsText wanted (told_by head) (nodes_of nodes.new) lines.old lines.new
-        (S.left source.old) (S.left source.new)) }
-    ensures side { IfOk result (λ head. side_of nodes.new ≡ head.side) }
+    ensures ok { IfOk result (λ head. (nodes : List AnyNode) × ReadsWhole wanted (told_by head) nodes
+        (S.left source.old) (S.left source.new) × K.holds kept.new head.side nodes) }
     ensures read { result ≡ Err Read → Rose (S.faults source.old) (S.faults source.new) }
-    ensures refused { IfErr result (λ fault. IsFaultOf wanted lines.old.held fault (S.left source.old)
-        (S.left source.new)) }
+    ensures fault { IfErr result (λ fault. IsFaultOf wanted [] fault (S.left source.old) (S.left source.new)) }
 {
-    let head = read_head(lines, source, wanted)?;
-    begin(nodes, alloc, head.side);
-    keep_nodes(alloc, lines, source, &head, nodes)?;
-    read_end(lines, source, 5 + u64::from(head.count))?;
+    let mut lines = LineReader::new(alloc)?;
+    let head = read_text(alloc, &mut lines, source, wanted, kept)?;
+    read_past(&mut lines, source, head.line_of(head.count) + 1)?;
     Ok(head)
 }
 
@@ -193,8 +144,8 @@ fn strategy_of(read: Result<Head, CheckFault>, nodes: Nodes) -> Result<Strategy,
 {
     match read {
         Ok(head) => Ok(Strategy {
-            format: head.format,
-            game: head.game,
+            format: head.terms.format(),
+            game: head.terms.game(),
             nodes,
         }),
         Err(fault) => Err(fault),
@@ -206,7 +157,8 @@ fn strategy_of(read: Result<Head, CheckFault>, nodes: Nodes) -> Result<Strategy,
 ///
 /// # Errors
 ///
-/// The first fault of the bytes in hand, at the least line that has one; a failed read; or memory that was refused.
+/// The first fault of the bytes in hand, in a line from 1 to the text's last, which is line 5 + N where there are N
+/// nodes; a failed read; or memory that was refused. What stands after the text is no fault.
 pub fn load_from<S: Source>(
     alloc: Global,
     lines: &mut LineReader,
@@ -220,37 +172,23 @@ pub fn load_from<S: Source>(
     ensures open { OnOk result (lines.new.ending ≡ None) }
     ensures forced { IfOk result (λ strategy. side_of strategy.nodes ≡ Adversary → ForcesEvery strategy.game) }
     ensures read { result ≡ Err Read → Rose (S.faults source.old) (S.faults source.new) }
-    ensures fault { IfErr result (λ fault. IsFaultOf wanted lines.old.held fault (S.left source.old)
+    ensures no_lf { result ≡ Err Read → HasNoLf lines.new.held }
+    ensures fault { IfErr result (λ fault. IsTextFaultOf wanted lines.old.held fault (S.left source.old)
         (S.left source.new)) }
+    // Where memory was not refused and the count did not rise, a strategy is given exactly where all bytes, those held
+    // and those left, begin with the text of one.
+    ensures exact { IfSome (S.left source.old) (λ left. (result ≡ Err Memory → ⊥)
+        → (Rose (S.faults source.old) (S.faults source.new) → ⊥)
+        → (IsOk result ↔ BeginsWithLegalText wanted (lines.old.held ++ left))) }
 {
     let mut nodes = Nodes::Adversary(AdvNodes::new(alloc));
-    let read = keep_text(alloc, lines, source, wanted, &mut nodes);
+    let read = read_text(alloc, lines, source, wanted, &mut nodes);
     strategy_of(read, nodes)
 }
 
-// Reads and judges a text up to its last line, sees that the input ends there, and keeps its nodes.
-fn load_text<S: Source>(
-    alloc: Global,
-    lines: &mut LineReader,
-    source: &mut S,
-    wanted: Wanted,
-    nodes: &mut Nodes,
-) -> Result<Head, CheckFault>
-    requires open_still { lines.old.ending ≡ None }
-    requires fresh { lines.old.held ≡ [] }
-    ensures count { S.faults source.old ≤ S.faults source.new }
-    ensures ok { IfOk result (λ head. Loads wanted (strategy_of_parts head nodes.new) (S.left source.old)
-        (S.left source.new)) }
-    ensures read { result ≡ Err Read → Rose (S.faults source.old) (S.faults source.new) }
-    ensures fault { IfErr result (λ fault. IsFaultOf wanted [] fault (S.left source.old) (S.left source.new)) }
-{
-    let head = keep_text(alloc, lines, source, wanted, nodes)?;
-    read_past(lines, source, 6 + u64::from(head.count))?;
-    Ok(head)
-}
-
 /// Reads the text of a strategy of a wanted side to its end, judges each node as soon as its line is whole, and
-/// gives the strategy. The cost is that of [`check`], and the nodes are kept.
+/// gives the strategy: what [`load_from`] reads, and then the end of the input. The cost is that of [`check`], and
+/// the nodes are kept.
 ///
 /// # Errors
 ///
@@ -261,14 +199,13 @@ pub fn load<S: Source>(
     wanted: Wanted,
 ) -> Result<Strategy, CheckFault>
     ensures count { S.faults source.old ≤ S.faults source.new }
-    ensures loaded { IfOk result (λ strategy. Loads wanted strategy (S.left source.old) (S.left source.new)) }
+    ensures loaded { IfOk result (λ strategy. IsLoaded wanted strategy (S.left source.old) (S.left source.new)) }
     ensures forced { IfOk result (λ strategy. side_of strategy.nodes ≡ Adversary → ForcesEvery strategy.game) }
     ensures read { result ≡ Err Read → Rose (S.faults source.old) (S.faults source.new) }
     ensures fault { IfErr result (λ fault. IsFaultOf wanted [] fault (S.left source.old) (S.left source.new)) }
 {
-    let mut lines = LineReader::new(alloc)?;
     let mut nodes = Nodes::Adversary(AdvNodes::new(alloc));
-    let read = load_text(alloc, &mut lines, source, wanted, &mut nodes);
+    let read = read_whole(alloc, source, wanted, &mut nodes);
     strategy_of(read, nodes)
 }
 
@@ -286,11 +223,9 @@ pub fn check<S: Source>(alloc: Global, source: &mut S) -> Result<Accepted, Check
     ensures read { result ≡ Err Read → Rose (S.faults source.old) (S.faults source.new) }
     ensures fault { IfErr result (λ fault. IsFaultOf Either [] fault (S.left source.old) (S.left source.new)) }
 {
-    let mut lines = LineReader::new(alloc)?;
-    let head = judge_text(alloc, &mut lines, source, Wanted::Either)?;
-    read_past(&mut lines, source, 6 + u64::from(head.count))?;
+    let head = read_whole(alloc, source, Wanted::Either, &mut Nothing {})?;
     Ok(Accepted {
-        game: head.game,
+        game: head.terms.game(),
         side: head.side,
         nodes: head.count,
     })

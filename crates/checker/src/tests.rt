@@ -1,7 +1,8 @@
-//! A check at a concrete source.
+//! Checks and loads at concrete sources.
 
-use crate::{CheckFault, Wanted, Why, check, load};
-use port_io::{CalmSource, MemSource, Source};
+use crate::{CheckFault, Wanted, Why, check, load, load_from};
+use port_io::{CalmSource, LineReader, MemSource, Source};
+use std::alloc::{AllocError, Global};
 use std::test::Fail;
 use strategy_text::{Nodes, Rule, Side};
 
@@ -20,6 +21,65 @@ const OVER_NOT_SAID: &str = "stretch 1\ngame 2 3 4\nside adversary\nnodes 5\n\
 // A legal strategy of the algorithm in format 2, which keeps no bin for big items at its one node.
 const OF_ALGORITHM: &str =
     "stretch 2\ngame 2 3 5\nside algorithm\nnodes 1\n0 loads 0 0 items - finish\nend\n";
+
+// The same before a line that is no part of it, and with less than its last line.
+const FOLLOWED: &str =
+    "stretch 2\ngame 2 3 5\nside algorithm\nnodes 1\n0 loads 0 0 items - finish\nend\n7\n";
+
+const WITHOUT_END: &str =
+    "stretch 2\ngame 2 3 5\nside algorithm\nnodes 1\n0 loads 0 0 items - finish\n";
+
+const UNFINISHED: &str =
+    "stretch 2\ngame 2 3 5\nside algorithm\nnodes 1\n0 loads 0 0 items - finish\nend";
+
+// A text, whether it is to be the whole input, and the line at which it is refused, or 0.
+const ENDS: [(&str, bool, u64); 6] = [
+    (OF_ALGORITHM, true, 0),
+    (FOLLOWED, false, 0),
+    (FOLLOWED, true, 7),
+    (WITHOUT_END, false, 6),
+    (UNFINISHED, false, 6),
+    (UNFINISHED, true, 6),
+];
+
+fn refused_line(alloc: Global, text: &str, whole: bool) -> Result<u64, AllocError> {
+    let mut source = CalmSource::new(text.as_bytes());
+    let loaded = if whole {
+        load(alloc, &mut source, Wanted::Either)
+    } else {
+        let mut lines = LineReader::new(alloc)?;
+        load_from(alloc, &mut lines, &mut source, Wanted::Either)
+    };
+    match loaded {
+        Err(CheckFault::Rejected { line, .. }) => Ok(line),
+        Err(_) => Ok(1),
+        Ok(_) => Ok(0),
+    }
+}
+
+#[test]
+fn a_text_ends_with_its_last_line(rt: HostRuntime) {
+    for row in &ENDS {
+        assert!(rt;
+            refused_line(rt.alloc(), row.0, row.1).is_ok_and(|line| line == row.2),
+            "{}",
+            row.0
+        );
+    }
+}
+
+// A source of single bytes shows that no byte after the last line is asked for.
+#[test]
+fn what_follows_a_text_is_left(rt: HostRuntime) -> Result<(), Fail> {
+    let mut source = MemSource::new(rt.alloc(), FOLLOWED.as_bytes(), 1, &[])?;
+    let mut lines = LineReader::new(rt.alloc())?;
+    let loaded = load_from(rt.alloc(), &mut lines, &mut source, Wanted::Either)?;
+    assert!(rt; matches!(&loaded.nodes, Nodes::Algorithm(nodes) if nodes.len() == 1));
+    let mut byte = [0u8; 1];
+    assert_eq!(rt; source.read(&mut byte).ok(), Some(1));
+    assert_eq!(rt; byte[0], b'7');
+    Ok(())
+}
 
 #[test]
 fn a_strategy_of_a_wanted_side_is_loaded(rt: HostRuntime) -> Result<(), Fail> {

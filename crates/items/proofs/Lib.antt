@@ -5,3 +5,4 @@ pub mod MemberLemmas
 pub mod SizesLemmas
 pub mod AssignmentLemmas
 pub mod ListLemmas
+pub mod SizeBitsLemmas

@@ -3,3 +3,4 @@ pub mod GameFaults
 pub mod Multiset
 pub mod Packable
 pub mod Counters
+pub mod SizeBits

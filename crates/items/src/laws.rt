@@ -4,11 +4,12 @@ ghost use Rattle.std.specs.Prelude.{◌≡◌, ◌==◌, ◌↔◌, IsTrue, ℕ,
 ghost use Rattle.std.specs.Prelude.{length, replicate, sum};
 ghost use Rattle.std.specs.List.Sorted.{IsNonDecreasing};
 ghost use Rattle.items.specs.Game.{IsGame};
-ghost use Rattle.items.specs.Multiset.{IsMultiset, Same, count, put_ascending, put_times};
+ghost use Rattle.items.specs.Multiset.{AreSizes, IsMultiset, Same, count, put_ascending, put_times};
 
 use crate::game::Game;
 use crate::items::Items;
 use crate::limits::MOST_SIZE;
+use crate::sizes::Sizes;
 use std::hash::Hash;
 
 /// The numbers of a game are within their ranges.
@@ -23,6 +24,13 @@ pub fn items_are_a_multiset(items: &Items)
     ensures { IsMultiset MOST_SIZE items.now }
 {
     let _volume = items.volume();
+}
+
+/// The sizes that items may have are a list of sizes: at least one, strictly ascending, each from 1 to 120.
+pub fn sizes_are_sizes(sizes: &Sizes)
+    ensures { AreSizes MOST_SIZE sizes.now }
+{
+    let _first = sizes.least_above(0);
 }
 
 /// Ascending lists with the same numbers, each as often, are equal.

@@ -1,6 +1,6 @@
 //! Lists that grow at their end.
 
-ghost use Rattle.std.specs.Prelude.{◌≡◌, ◌↔◌, [], ◌∷◌, ◌++◌, length, slice_get, take, IsTrue, IfOk, OnOk, OnErr};
+ghost use Rattle.std.specs.Prelude.{◌≡◌, ◌↔◌, [], ◌∷◌, ◌++◌, length, replicate, slice_get, take, IsTrue, IfOk, OnOk, OnErr};
 ghost use Rattle.std.specs.Option.{option_copied};
 
 use std::alloc::{AllocError, Global};
@@ -85,9 +85,9 @@ impl<T: Drop> Sequence<T> {
     }
 }
 
-impl Sequence<u16> {
-    /// The list of these numbers.
-    pub fn from_slice(alloc: Global, list: &[u16]) -> Result<Self, AllocError>
+impl<T: Copy + Drop> Sequence<T> {
+    /// The list of these elements.
+    pub fn from_slice(alloc: Global, list: &[T]) -> Result<Self, AllocError>
         ensures ok { IfOk result (λ made. made ≡ list.now) }
     {
         Ok(Sequence {
@@ -95,12 +95,22 @@ impl Sequence<u16> {
         })
     }
 
-    /// A list of the same numbers.
+    /// A list of the same elements.
     pub fn copy(&self) -> Result<Self, AllocError>
         ensures ok { IfOk result (λ made. made ≡ self.now) }
     {
         Ok(Sequence {
             elements: Vec::from_slice(*self.elements.allocator(), self.elements.as_slice())?,
         })
+    }
+
+    /// Puts an element at the end `n` times.
+    pub fn push_times(&mut self, element: T, n: u16) -> Result<(), AllocError>
+        ensures ok { OnOk result (self.new ≡ self.old ++ replicate n element) }
+    {
+        for _i in 0..n {
+            self.elements.push(element)?;
+        }
+        Ok(())
     }
 }

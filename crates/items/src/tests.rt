@@ -2,6 +2,7 @@ use crate::game::{Game, GameFault};
 use crate::items::Items;
 use crate::limits::{MOST_SIZE, MOST_VOLUME};
 use crate::list::{Nums, Sequence};
+use crate::sizes::Sizes;
 use std::alloc::{AllocError, Global};
 use std::hash::{DefaultHasher, Hash, Hasher};
 
@@ -167,10 +168,61 @@ fn equal_multisets_hash_alike(rt: HostRuntime) {
     }
 }
 
+// Whether these are the sizes that a loop by `least_above` comes to, and the only ones among small numbers.
+fn are_sizes(sizes: &Sizes, list: &[u16]) -> bool {
+    let mut last = 0;
+    for s in list {
+        if sizes.least_above(last) != Some(*s) {
+            return false;
+        }
+        last = *s;
+    }
+    for s in 0..130u16 {
+        if sizes.contains(s) != list.contains(&s) {
+            return false;
+        }
+    }
+    sizes.least_above(last).is_none()
+}
+
+// Whether a list is refused, or gives its sizes.
+fn gives_sizes(game: (u16, u16, u16), list: &[u16], whole: bool, taken: bool) -> bool {
+    let (m, g, t) = game;
+    match Game::new(m, g, t) {
+        Ok(game) => match Sizes::from_slice(&game, list) {
+            Some(sizes) => {
+                taken
+                    && are_sizes(&sizes.copy(), list)
+                    && are_sizes(&Sizes::of_game(&game), list) == whole
+            }
+            None => !taken,
+        },
+        Err(_) => false,
+    }
+}
+
+#[test]
+fn lists_of_sizes_are_taken_or_refused(rt: HostRuntime) {
+    let cases: [((u16, u16, u16), &[u16], bool, bool); 9] = [
+        ((2, 3, 4), &[1, 2, 3], true, true),
+        ((2, 3, 4), &[1, 3], false, true),
+        ((2, 3, 4), &[], false, false),
+        ((2, 3, 4), &[0, 1], false, false),
+        ((2, 3, 4), &[1, 1], false, false),
+        ((2, 3, 4), &[3, 2], false, false),
+        ((2, 3, 4), &[4], false, false),
+        ((2, 120, 200), &[1, 63, 64, 120], false, true),
+        ((2, 120, 200), &[120, 65535], false, false),
+    ];
+    for (game, list, whole, taken) in cases {
+        assert!(rt; gives_sizes(game, list, whole, taken));
+    }
+}
+
 // Whether a list grows so.
 fn grows(alloc: Global, first: &[u16], more: u16, wanted: &[u16]) -> Result<bool, AllocError> {
     let mut nums = Nums::from_slice(alloc, first)?;
-    nums.push(more)?;
+    nums.push_times(more, 2)?;
     let copy = nums.copy()?;
     Ok(copy.as_slice() == wanted)
 }
@@ -188,6 +240,6 @@ fn holds(alloc: Global, word: u64) -> Result<bool, AllocError> {
 
 #[test]
 fn lists_hold_what_was_put_in(rt: HostRuntime) {
-    assert!(rt; grows(rt.alloc(), &[5, 2], 7, &[5, 2, 7]) == Ok(true));
+    assert!(rt; grows(rt.alloc(), &[5, 2], 7, &[5, 2, 7, 7]) == Ok(true));
     assert!(rt; holds(rt.alloc(), 70000) == Ok(true));
 }

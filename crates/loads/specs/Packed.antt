@@ -1,7 +1,6 @@
 -- Serves private contracts: how packed positions lie in memory.
-use Rattle.std.specs.Prelude.{◌≡◌, ◌==◌, ◌&&◌, Bool, ℕ, ◌<◌, ◌≤◌, List, [], ◌∷◌, ◌++◌, length, take}
+use Rattle.std.specs.Prelude.{◌≡◌, ℕ, ◌<◌, ◌≤◌, List, [], ◌∷◌, ◌++◌, length, take}
 use Rattle.std.specs.Prelude.{drop, slice_index}
-use Rattle.std.specs.Cmp.Lexicographic.{pointwise}
 use Rattle.items.specs.declared.limits.TheConstants.{MOST_SIZE}
 use Rattle.items.specs.Multiset.{IsMultiset}
 use Rattle.loads.specs.Loads.{AreLoads}
@@ -22,10 +21,6 @@ pub record ArePositionBytes (bytes : List ℕ) : Type 0 where
   pub kept : bytes_of (position_in bytes) ≡ bytes
   pub loads : AreLoads (position_in bytes).loads
   pub items : IsMultiset MOST_SIZE (position_in bytes).items
-
--- whether two positions have the same loads and the same items
-abbrev pub are_equal : Position → Position → Bool
-are_equal first second = pointwise ◌==◌ first.loads second.loads && pointwise ◌==◌ first.items second.items
 
 -- the place at which a number is put into an ascending list
 pub record IsPlaceOf (x : ℕ) (xs : List ℕ) (place : ℕ) : Type 0 where

@@ -1,10 +1,15 @@
-use Rattle.std.specs.Prelude.{◌≡◌, ℕ, List, [], Some, sum, All, Contains, slice_get}
+use Rattle.std.specs.Prelude.{◌≡◌, ◌==◌, ◌&&◌, Bool, ℕ, List, [], Some, sum, All, Contains, slice_get}
+use Rattle.std.specs.Cmp.Lexicographic.{pointwise}
 use Rattle.std.specs.List.Sorted.{IsNonDecreasing}
 use Rattle.loads.specs.declared.position.Position.{Position}
 
 -- the position of these loads and items
 abbrev pub position : List ℕ → List ℕ → Position
 position loads items = record { loads = loads; items = items }
+
+-- whether two positions have the same loads and the same items
+abbrev pub are_equal : Position → Position → Bool
+are_equal first second = pointwise ◌==◌ first.loads second.loads && pointwise ◌==◌ first.items second.items
 
 -- the items ascend, each is one of the sizes, and their sum is the sum of the loads
 pub record AreItemsOf (sizes loads items : List ℕ) : Type 0 where

@@ -1,11 +1,11 @@
 //! Loads by bin number against loads without it.
 
-ghost use Rattle.std.specs.Prelude.{◌≡◌, ◌≤◌, ◌↔◌, IsTrue, All, Contains, MatchOption, length};
+ghost use Rattle.std.specs.Prelude.{◌≡◌, ◌≤◌, ◌<◌, ◌-◌, ◌/◌, ◌↔◌, IsTrue, All, Contains, MatchOption, length};
 ghost use Rattle.items.specs.Multiset.{Same, count};
 ghost use Rattle.loads.specs.Loads.{IsLowestBin};
 
 use crate::sorted_loads::Loads;
-use items::MOST_BINS;
+use items::{Game, MOST_BINS};
 
 /// The lowest number of a bin with this load, the bins being numbered from 0; None exactly where no bin has it.
 pub fn bin_with(actual: &[u16], load: u16) -> Option<u8>
@@ -25,6 +25,16 @@ pub fn same_up_to_renaming(actual: &[u16], loads: &Loads) -> bool
         return false;
     }
     all_as_often(actual, actual, loads) && all_as_often(loads, actual, loads)
+}
+
+/// How many items of this size can come to a bin of this load that stays below the target.
+pub fn most_on_load(game: &Game, size: u16, load: u16) -> u16
+    requires below { load < game.now.target }
+    requires size { 1 ≤ size }
+    ensures value { result ≡ (game.now.target - 1 - load) / size }
+    ensures small { result ≤ 239 }
+{
+    (game.t() - 1 - load) / size
 }
 
 // The first place that has this load.

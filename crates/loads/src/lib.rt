@@ -13,7 +13,7 @@ mod packed_list;
 mod position;
 mod sorted_loads;
 
-pub use bins::{bin_with, same_up_to_renaming};
+pub use bins::{bin_with, most_on_load, same_up_to_renaming};
 pub use earlier::EarlierPositions;
 pub use from_bytes::loads_from_bytes;
 pub use item_list::are_items_of;

@@ -1,4 +1,4 @@
-//! Positions that are kept in number, packed into about 30 bytes each.
+//! Positions that are kept in number, packed into at most 40 bytes each where they are short.
 
 ghost use Rattle.std.specs.Prelude.{◌≡◌, IfOk};
 ghost use Rattle.loads.specs.Position.{position};
@@ -72,7 +72,7 @@ impl PackedPosition {
 }
 
 impl PartialEq for PackedPosition {
-    ghost use Rattle.loads.specs.Packed.{are_equal};
+    ghost use Rattle.loads.specs.Position.{are_equal};
     ghost use Rattle.std.specs.Cmp.Rules.{comparing};
     ghost use Rattle.std.proofs.Common.{rules};
 

@@ -1,4 +1,4 @@
--- How many positions are still to be visited, and what is left of a budget where the table has room for all ends.
+-- How many positions are still to be visited, and what is left of a budget where the table has room for all reachable positions.
 use Rattle.std.proofs.Common.{◌≡◌, ◌≢◌, ℕ, zero, suc, ◌+◌, ◌-◌, ◌*◌, ◌<◌, ◌≤◌, Bool, true, false, cond, not, ◌&&◌, eqb, Option, Some, None}
 use Rattle.std.proofs.Common.{List, [], ◌∷◌, ◌++◌, length, refl, sym, ap, ◌∙◌, subst, inl, inr, arith, rules}
 use Rattle.std.specs.Prelude.{AllPairs, Contains, IsSome, count_by, if◌then◌else◌, sum, sum_by, ◌==◌}
@@ -15,7 +15,7 @@ use Rattle.items.specs.Multiset.{sizes_of}
 use Rattle.items.specs.Packable.{Packable}
 use Rattle.items.proofs.MultisetLemmas.{sum-put_ascending}
 use Rattle.loads.specs.After.{after}
-use Rattle.loads.specs.Packed.{are_equal}
+use Rattle.loads.specs.Position.{are_equal}
 use Rattle.loads.specs.Position.{position as position_with}
 use Rattle.loads.specs.Wins.{empty_position}
 use Rattle.loads.specs.declared.position.Position.{Position}
@@ -24,12 +24,12 @@ use Rattle.good_situations.specs.Finish.{Finishes}
 use Rattle.minimax.specs.declared.replies.Reply.{Reply}
 use Rattle.minimax.specs.declared.wins.Win.{Win}
 use Rattle.monotone.specs.Paths.{IsLegalFrom}
-use Rattle.monotone.specs.Positions.{CountsAllEnds, CountsEndsOfPass, IsEnd}
+use Rattle.monotone.specs.Positions.{CountsAllReachable, CountsReachableOfPass, IsReachable}
 use Rattle.monotone.specs.Visits.{Metered, counted, unused, visit}
 use Rattle.monotone.specs.declared.meter.VisitFault.{VisitFault}
 use Rattle.monotone.specs.declared.meter.VisitFault.TheVariants.{Memory, Spent}
 use Rattle.monotone.specs.declared.path.PathMove.{PathMove}
-use Rattle.monotone.proofs.EndsLemmas.{ends_are_counted, last_pass_has_most}
+use Rattle.monotone.proofs.ReachableLemmas.{reachable_positions_are_counted, last_pass_has_most}
 use Rattle.monotone.proofs.ListLemmas.{AllPairs-first, AllPairs-tail, Contains-first, Contains-later, Contains-nothing, Contains-split, all_range}
 use Rattle.monotone.proofs.PassLemmas.{allowed_later, both_true}
 use Rattle.transposition.specs.Bounded.{IsBoundedMap, Puts, SameEntries, bounded}
@@ -40,8 +40,8 @@ use Rattle.transposition.proofs.RoomLemmas.{new_positions_find_room}
 use Rattle.minimax.specs.Answers.{IsAnswer, IsDecided}
 use Rattle.minimax.specs.declared.answer.Answer.{Answer}
 use Rattle.minimax.specs.declared.answer.Answer.TheVariants as Answers
-use Rattle.minimax.specs.Budgets.{AreNumbersOfEnds, HasRoom, IsOfAdversary, ends_before}
-use Rattle.minimax.specs.Fresh.{AreOfEnds, CountsFresh, IsLessThanEnds, IsShort, IsWithin, IsWithinEnds, Looks, Progress, but, counted_and_fresh}
+use Rattle.minimax.specs.Budgets.{AreNumbersOfReachable, HasRoom, IsOfAdversary, reachable_before}
+use Rattle.minimax.specs.Fresh.{AreOfReachable, CountsFresh, IsLessThanReachable, IsShort, IsWithin, IsWithinReachable, Looks, Progress, but, counted_and_fresh}
 use Rattle.minimax.specs.Fresh.{is_fresh, number_fresh, progress}
 use Rattle.minimax.specs.State.{AreKnown, IsOfPass, IsTold, IsWonIn, StandsAtPath, allowed_by}
 use Rattle.minimax.specs.declared.table.Told.{Told}
@@ -175,7 +175,7 @@ none_for_finish game pass wins replies entries position known finishes fresh = b
     by_entry (Some (Algorithm number)) e h = let no : false ≡ true = h in cc
     by_entry (Some (Held held)) e h = absurd ((known position (Held held) e).unfinished finishes)
 
--- ---- a table with room for all ends drops nothing
+-- ---- a table with room for all reachable positions drops nothing
 
 legal_later : (game : GameNumbers) (pass later : ℕ) → pass ≤ later → (start : Position) (path : List PathMove)
     → IsLegalFrom game (allowed_by game pass) start path → IsLegalFrom game (allowed_by game later) start path
@@ -190,22 +190,22 @@ legal_later game pass later l start (step ∷ path) h = (
   legal_later game pass later l (after start step.load step.item) path h.1,
 )
 
-pub IsEnd-stands : (game : GameNumbers) (pass : ℕ) (path : List PathMove) (position : Position) → StandsAtPath game pass path position
-    → IsEnd game (allowed_by game pass) position
-IsEnd-stands game pass path position s = (path, s.legal, s.here)
+pub IsReachable-stands : (game : GameNumbers) (pass : ℕ) (path : List PathMove) (position : Position) → StandsAtPath game pass path position
+    → IsReachable game (allowed_by game pass) position
+IsReachable-stands game pass path position s = (path, s.legal, s.here)
 
--- where a path of a pass ends, one of the last pass does
-pub IsEnd-last : (game : GameNumbers) (pass : ℕ) (path : List PathMove) (position : Position) → StandsAtPath game pass path position
-    → IsEnd game (allowed_by game (game.capacity - 1)) position
-IsEnd-last game pass path position s =
+-- what is reachable in a pass is so in the last pass
+pub IsReachable-last : (game : GameNumbers) (pass : ℕ) (path : List PathMove) (position : Position) → StandsAtPath game pass path position
+    → IsReachable game (allowed_by game (game.capacity - 1)) position
+IsReachable-last game pass path position s =
     (path, legal_later game pass (game.capacity - 1) (omega (arith, s.of_game)) (empty_position game) path s.legal, s.here)
 
--- a new entry of an end finds room
-pub room_for_end : (game : GameNumbers) (entries : List (Position × Verdict)) (room : ℕ) (position : Position) → HasRoom game room → AreOfEnds game entries
-    → IsBoundedMap are_equal (bounded entries room) → IsEnd game (allowed_by game (game.capacity - 1)) position → verdict_of entries position ≡ None
+-- a new entry of a reachable position finds room
+pub room_for_reachable : (game : GameNumbers) (entries : List (Position × Verdict)) (room : ℕ) (position : Position) → HasRoom game room → AreOfReachable game entries
+    → IsBoundedMap are_equal (bounded entries room) → IsReachable game (allowed_by game (game.capacity - 1)) position → verdict_of entries position ≡ None
     → length entries < room
-room_for_end game entries room position (all, (positions, ends, long), l) of_ends valid is none =
-    let few = new_positions_find_room entries room positions position valid (λ one some. (ends.exact one).1 (of_ends one some)) ((ends.exact position).1 is) none in
+room_for_reachable game entries room position (all, (positions, reachable, long), l) of_reachable valid is none =
+    let few = new_positions_find_room entries room positions position valid (λ one some. (reachable.exact one).1 (of_reachable one some)) ((reachable.exact position).1 is) none in
     omega (arith, few, long, l)
 
 put_by : (old new : List (Position × Verdict)) (key : Position) (verdict : Verdict) (room : ℕ) (o : Option Verdict) → verdict_of old key ≡ o
@@ -222,19 +222,19 @@ pub put_in_room : (old new : List (Position × Verdict)) (key : Position) (verdi
     → (verdict_of old key ≡ None → length old < room) → (more : ℕ) × Puts are_equal old new key verdict more
 put_in_room old new key verdict room present below left = put_by old new key verdict room (verdict_of old key) refl present below left
 
-end_or_old : (game : GameNumbers) (old : List (Position × Verdict)) (key p : Position) (verdict : Verdict) (b : Bool) (o : Option Verdict) → are_equal key p ≡ b
-    → o ≡ (if b then Some verdict else verdict_of old p) → AreOfEnds game old → IsEnd game (allowed_by game (game.capacity - 1)) key → IsSome o
-    → IsEnd game (allowed_by game (game.capacity - 1)) p
-end_or_old game old key p verdict true o same e of_ends is some = subst (IsEnd game (allowed_by game (game.capacity - 1))) (are_equal-told key p same) is
-end_or_old game old key p verdict false o same e of_ends is some = of_ends p (subst IsSome e some)
+reachable_or_old : (game : GameNumbers) (old : List (Position × Verdict)) (key p : Position) (verdict : Verdict) (b : Bool) (o : Option Verdict) → are_equal key p ≡ b
+    → o ≡ (if b then Some verdict else verdict_of old p) → AreOfReachable game old → IsReachable game (allowed_by game (game.capacity - 1)) key → IsSome o
+    → IsReachable game (allowed_by game (game.capacity - 1)) p
+reachable_or_old game old key p verdict true o same e of_reachable is some = subst (IsReachable game (allowed_by game (game.capacity - 1))) (are_equal-told key p same) is
+reachable_or_old game old key p verdict false o same e of_reachable is some = of_reachable p (subst IsSome e some)
 
-pub AreOfEnds-put : (game : GameNumbers) (more : ℕ) (old new : List (Position × Verdict)) (key : Position) (verdict : Verdict) → Puts are_equal old new key verdict more
-    → AreOfEnds game old → IsEnd game (allowed_by game (game.capacity - 1)) key → AreOfEnds game new
-AreOfEnds-put game more old new key verdict puts of_ends is = λ p some.
-    end_or_old game old key p verdict (are_equal key p) (verdict_of new p) refl (puts.values p) of_ends is some
+pub AreOfReachable-put : (game : GameNumbers) (more : ℕ) (old new : List (Position × Verdict)) (key : Position) (verdict : Verdict) → Puts are_equal old new key verdict more
+    → AreOfReachable game old → IsReachable game (allowed_by game (game.capacity - 1)) key → AreOfReachable game new
+AreOfReachable-put game more old new key verdict puts of_reachable is = λ p some.
+    reachable_or_old game old key p verdict (are_equal key p) (verdict_of new p) refl (puts.values p) of_reachable is some
 
-AreOfEnds-same : (game : GameNumbers) (old new : List (Position × Verdict)) → SameEntries are_equal old new → AreOfEnds game old → AreOfEnds game new
-AreOfEnds-same game old new same of_ends = λ p some. of_ends p (subst IsSome (same.values p) some)
+AreOfReachable-same : (game : GameNumbers) (old new : List (Position × Verdict)) → SameEntries are_equal old new → AreOfReachable game old → AreOfReachable game new
+AreOfReachable-same game old new same of_reachable = λ p some. of_reachable p (subst IsSome (same.values p) some)
 
 -- ---- steps of a search
 
@@ -243,18 +243,18 @@ module _ (game : GameNumbers) (pass : ℕ) where
       → Looks game pass volume looked positions a → Looks game pass volume looked positions b
   Looks-after volume looked positions a b g l = record {
     has_room = subst (HasRoom game) (sym g.room) l.has_room;
-    of_ends = g.of_ends l.has_room l.of_ends;
-    ends = l.ends;
+    of_reachable = g.of_reachable l.has_room l.of_reachable;
+    reachable = l.reachable;
     looks = l.looks;
   }
 
   Looks-above : (volume more : ℕ) (looked : Position → Bool) (positions : List Position) (a : Progress) → volume ≤ more
       → Looks game pass volume looked positions a → Looks game pass more looked positions a
   Looks-above volume more looked positions a up l =
-      record { has_room = l.has_room; of_ends = l.of_ends; ends = l.ends; looks = λ p m. l.looks p (omega (arith, m, up)) }
+      record { has_room = l.has_room; of_reachable = l.of_reachable; reachable = l.reachable; looks = λ p m. l.looks p (omega (arith, m, up)) }
 
   pub CountsFresh-refl : (volume : ℕ) (a : Progress) → CountsFresh game pass volume a a
-  CountsFresh-refl volume a = record { room = refl; budget = refl; of_ends = λ r e. e; fresh = λ looked positions l. omega arith }
+  CountsFresh-refl volume a = record { room = refl; budget = refl; of_reachable = λ r e. e; fresh = λ looked positions l. omega arith }
 
   -- the table was asked
   pub CountsFresh-same : (volume : ℕ) (meter : Metered) (old new : List (Position × Verdict)) (room more : ℕ) → SameEntries are_equal old new → more ≡ room
@@ -262,7 +262,7 @@ module _ (game : GameNumbers) (pass : ℕ) where
   CountsFresh-same volume meter old new room more same e = record {
     room = e;
     budget = refl;
-    of_ends = λ r of_ends. AreOfEnds-same game old new same of_ends;
+    of_reachable = λ r of_reachable. AreOfReachable-same game old new same of_reachable;
     fresh = λ looked positions l. omega (arith, number_fresh-same pass looked old new positions same);
   }
 
@@ -270,7 +270,7 @@ module _ (game : GameNumbers) (pass : ℕ) where
   CountsFresh-trans volume a b c g h = record {
     room = h.room ∙ g.room;
     budget = h.budget ∙ g.budget;
-    of_ends = λ r e. h.of_ends (subst (HasRoom game) (sym g.room) r) (g.of_ends r e);
+    of_reachable = λ r e. h.of_reachable (subst (HasRoom game) (sym g.room) r) (g.of_reachable r e);
     fresh = λ looked positions l. omega (arith, g.fresh looked positions l, h.fresh looked positions (Looks-after volume looked positions a b g l));
   }
 
@@ -279,7 +279,7 @@ module _ (game : GameNumbers) (pass : ℕ) where
   CountsFresh-above volume more a b up g = record {
     room = g.room;
     budget = g.budget;
-    of_ends = g.of_ends;
+    of_reachable = g.of_reachable;
     fresh = λ looked positions l. g.fresh looked positions (Looks-above volume more looked positions a up l);
   }
 
@@ -311,7 +311,7 @@ module _ (game : GameNumbers) (pass : ℕ) where
       → Looks game pass (sum position.items) looked positions a → StandsAtPath game pass path position → is_fresh pass (verdict_of a.entries position) ≡ true
       → number_fresh pass looked a.entries positions ≡ number_fresh pass (but looked position) a.entries positions + 1
   fresh_here looked positions position path a l stands fresh =
-      number_fresh-visit pass looked a.entries positions position l.ends.once ((l.ends.exact position).1 (IsEnd-stands game pass path position stands))
+      number_fresh-visit pass looked a.entries positions position l.reachable.once ((l.reachable.exact position).1 (IsReachable-stands game pass path position stands))
       (l.looks position (omega arith)) fresh
 
   -- the budget has ended where a fresh position was due
@@ -334,8 +334,8 @@ module _ (game : GameNumbers) (pass : ℕ) where
       → Looks game pass (sum position.items) looked positions a → Looks game pass (sum position.items + 1) (but looked position) positions b
   Looks-visited position path a b looked positions v l = record {
     has_room = subst (HasRoom game) (sym v.room) l.has_room;
-    of_ends = AreOfEnds-same game a.entries b.entries v.same l.of_ends;
-    ends = l.ends;
+    of_reachable = AreOfReachable-same game a.entries b.entries v.same l.of_reachable;
+    reachable = l.reachable;
     looks = λ q m. but-keeps looked position q (l.looks q (omega (arith, m))) (larger_apart position q m);
   }
 
@@ -364,59 +364,59 @@ module _ (game : GameNumbers) (pass : ℕ) where
   CountsFresh-visited position path a b c entries room verdict v g of_pass valid put e = record {
     room = e ∙ g.room ∙ v.room;
     budget = g.budget ∙ ap (λ m. m.budget) v.meter;
-    of_ends = λ r of_ends. let p = puts r of_ends in
-        AreOfEnds-put game p.0 c.entries entries position verdict p.1 (ends_decided r of_ends) (IsEnd-last game pass path position v.stands);
+    of_reachable = λ r of_reachable. let p = puts r of_reachable in
+        AreOfReachable-put game p.0 c.entries entries position verdict p.1 (reachable_decided r of_reachable) (IsReachable-last game pass path position v.stands);
     fresh = λ looked positions l.
-        let p = puts l.has_room l.of_ends in
+        let p = puts l.has_room l.of_reachable in
         let all = number_fresh-put pass p.0 looked c.entries entries positions position verdict p.1 (is_fresh-of_pass pass verdict of_pass) in
         let kept = g.fresh (but looked position) positions (Looks-visited position path a b looked positions v l) in
         omega (arith, all, kept, total_visited position path a b looked positions v l);
   }
     where
-      ends_decided : HasRoom game a.room → AreOfEnds game a.entries → AreOfEnds game c.entries
-      ends_decided r of_ends = g.of_ends (subst (HasRoom game) (sym v.room) r) (AreOfEnds-same game a.entries b.entries v.same of_ends)
+      reachable_decided : HasRoom game a.room → AreOfReachable game a.entries → AreOfReachable game c.entries
+      reachable_decided r of_reachable = g.of_reachable (subst (HasRoom game) (sym v.room) r) (AreOfReachable-same game a.entries b.entries v.same of_reachable)
 
-      puts : HasRoom game a.room → AreOfEnds game a.entries → (more : ℕ) × Puts are_equal c.entries entries position verdict more
-      puts r of_ends = put (λ none. room_for_end game c.entries c.room position (subst (HasRoom game) (sym (g.room ∙ v.room)) r) (ends_decided r of_ends) valid
-          (IsEnd-last game pass path position v.stands) none)
+      puts : HasRoom game a.room → AreOfReachable game a.entries → (more : ℕ) × Puts are_equal c.entries entries position verdict more
+      puts r of_reachable = put (λ none. room_for_reachable game c.entries c.room position (subst (HasRoom game) (sym (g.room ∙ v.room)) r) (reachable_decided r of_reachable) valid
+          (IsReachable-last game pass path position v.stands) none)
 
--- ---- sums of the numbers of ends
+-- ---- sums of the numbers of reachable positions
 
-pub numbers_of_ends : (game : GameNumbers) → ℕ → ℕ
-numbers_of_ends game pass = (ends_are_counted game (allowed_by game pass)).0
+pub numbers_of_reachable : (game : GameNumbers) → ℕ → ℕ
+numbers_of_reachable game pass = (reachable_positions_are_counted game (allowed_by game pass)).0
 
-pub AreNumbersOfEnds-numbers : (game : GameNumbers) → AreNumbersOfEnds game (numbers_of_ends game)
-unfolding numbers_of_ends
-AreNumbersOfEnds-numbers game pass = (ends_are_counted game (allowed_by game pass)).1
+pub AreNumbersOfReachable-numbers : (game : GameNumbers) → AreNumbersOfReachable game (numbers_of_reachable game)
+unfolding numbers_of_reachable
+AreNumbersOfReachable-numbers game pass = (reachable_positions_are_counted game (allowed_by game pass)).1
 
-pub ends_before-more : (numbers : ℕ → ℕ) (pass : ℕ) → ends_before numbers (pass + 1) ≡ ends_before numbers pass + numbers pass
-ends_before-more numbers pass = sum_by-map-range_with_len_more (λ x. x) numbers 0 pass pass (omega arith)
+pub reachable_before-more : (numbers : ℕ → ℕ) (pass : ℕ) → reachable_before numbers (pass + 1) ≡ reachable_before numbers pass + numbers pass
+reachable_before-more numbers pass = sum_by-map-range_with_len_more (λ x. x) numbers 0 pass pass (omega arith)
 
-ends_before-later : (numbers : ℕ → ℕ) (pass k later : ℕ) → later ≡ pass + k → ends_before numbers pass ≤ ends_before numbers later
-ends_before-later numbers pass zero later e =
+reachable_before-later : (numbers : ℕ → ℕ) (pass k later : ℕ) → later ≡ pass + k → reachable_before numbers pass ≤ reachable_before numbers later
+reachable_before-later numbers pass zero later e =
     let same : later ≡ pass = omega (arith, e) in
-    subst (λ n. ends_before numbers pass ≤ ends_before numbers n) (sym same) (omega arith)
-ends_before-later numbers pass (suc k) later e =
+    subst (λ n. reachable_before numbers pass ≤ reachable_before numbers n) (sym same) (omega arith)
+reachable_before-later numbers pass (suc k) later e =
     let next : later ≡ (pass + k) + 1 = omega (arith, e) in
-    let rest = ends_before-later numbers pass k (pass + k) refl in
-    subst (λ n. ends_before numbers pass ≤ ends_before numbers n) (sym next) (omega (arith, rest, ends_before-more numbers (pass + k)))
+    let rest = reachable_before-later numbers pass k (pass + k) refl in
+    subst (λ n. reachable_before numbers pass ≤ reachable_before numbers n) (sym next) (omega (arith, rest, reachable_before-more numbers (pass + k)))
 
 -- a sum of more of them is no less
-pub ends_before-le : (numbers : ℕ → ℕ) (pass later : ℕ) → pass ≤ later → ends_before numbers pass ≤ ends_before numbers later
-ends_before-le numbers pass later l = ends_before-later numbers pass (later - pass) later (omega (arith, l))
+pub reachable_before-le : (numbers : ℕ → ℕ) (pass later : ℕ) → pass ≤ later → reachable_before numbers pass ≤ reachable_before numbers later
+reachable_before-le numbers pass later l = reachable_before-later numbers pass (later - pass) later (omega (arith, l))
 
 -- so many numbers of at most this much each
-pub ends_before-bound : (numbers : ℕ → ℕ) (most passes : ℕ) → ((pass : ℕ) → pass < passes → numbers pass ≤ most) → ends_before numbers passes ≤ passes * most
-ends_before-bound numbers most passes h =
+pub reachable_before-bound : (numbers : ℕ → ℕ) (most passes : ℕ) → ((pass : ℕ) → pass < passes → numbers pass ≤ most) → reachable_before numbers passes ≤ passes * most
+reachable_before-bound numbers most passes h =
     let few = sum_by-le numbers most (range_with_len 0 passes) (all_range (λ pass. numbers pass ≤ most) passes h) in
     subst (λ total. total ≤ passes * most) (sym (sum-map numbers (range_with_len 0 passes)))
     (subst (λ count. sum_by numbers (range_with_len 0 passes) ≤ count * most) (length-range_with_len 0 passes) few)
 
--- the passes before one have at most so many ends as the last pass, each
-pub ends_before-all : (game : GameNumbers) (all passes : ℕ) (numbers : ℕ → ℕ) → passes ≤ game.capacity → CountsAllEnds game all → AreNumbersOfEnds game numbers
-    → ends_before numbers passes ≤ passes * all
-ends_before-all game all passes numbers l counts are =
-    ends_before-bound numbers all passes (λ pass m. last_pass_has_most game pass (numbers pass) all (omega (arith, l, m)) (are pass) counts)
+-- the passes before one have at most so many reachable positions as the last pass, each
+pub reachable_before-all : (game : GameNumbers) (all passes : ℕ) (numbers : ℕ → ℕ) → passes ≤ game.capacity → CountsAllReachable game all → AreNumbersOfReachable game numbers
+    → reachable_before numbers passes ≤ passes * all
+reachable_before-all game all passes numbers l counts are =
+    reachable_before-bound numbers all passes (λ pass m. last_pass_has_most game pass (numbers pass) all (omega (arith, l, m)) (are pass) counts)
 
 -- one more pass: what was counted before it, and its fresh positions
 pub counted_after_pass : (before after fresh left number sum more : ℕ) → after + left ≤ before + fresh → fresh ≤ number → before ≤ sum → more ≡ sum + number
@@ -426,78 +426,78 @@ counted_after_pass before after fresh left number sum more g few counted e = ome
 -- ---- passes of a search
 
 module _ (game : GameNumbers) (room budget : ℕ) where
-  pub IsWithinEnds-start : (meter : Metered) (entries : List (Position × Verdict)) → meter ≡ unused game budget → entries ≡ []
-      → IsWithinEnds game room budget 0 (progress meter entries room)
-  IsWithinEnds-start meter entries e none = record {
+  pub IsWithinReachable-start : (meter : Metered) (entries : List (Position × Verdict)) → meter ≡ unused game budget → entries ≡ []
+      → IsWithinReachable game room budget 0 (progress meter entries room)
+  IsWithinReachable-start meter entries e none = record {
     same_room = refl;
     same_budget = ap (λ m. m.budget) e;
-    of_ends = λ r p some. let no_entry : false ≡ true = subst (λ es. IsSome (verdict_of es p)) none some in cc;
+    of_reachable = λ r p some. let no_entry : false ≡ true = subst (λ es. IsSome (verdict_of es p)) none some in cc;
     counted = λ r numbers are. let zero_count : meter.count ≡ 0 = ap (λ m. m.count) e in omega (arith, zero_count);
   }
 
   -- all positions are looked at
-  whole_pass : (pass volume number : ℕ) (a : Progress) → IsWithinEnds game room budget pass a → HasRoom game room → (counts : CountsEndsOfPass game pass number)
+  whole_pass : (pass volume number : ℕ) (a : Progress) → IsWithinReachable game room budget pass a → HasRoom game room → (counts : CountsReachableOfPass game pass number)
       → Looks game pass volume (λ p. true) counts.0 a
   whole_pass pass volume number a w r counts = record {
     has_room = subst (HasRoom game) (sym w.same_room) r;
-    of_ends = w.of_ends r;
-    ends = counts.1;
+    of_reachable = w.of_reachable r;
+    reachable = counts.1;
     looks = λ p l. refl;
   }
 
-  pub IsWithinEnds-next : (pass volume : ℕ) (a b : Progress) → IsWithinEnds game room budget pass a → CountsFresh game pass volume a b
-      → IsWithinEnds game room budget (pass + 1) b
-  IsWithinEnds-next pass volume a b w g = record {
+  pub IsWithinReachable-next : (pass volume : ℕ) (a b : Progress) → IsWithinReachable game room budget pass a → CountsFresh game pass volume a b
+      → IsWithinReachable game room budget (pass + 1) b
+  IsWithinReachable-next pass volume a b w g = record {
     same_room = g.room ∙ w.same_room;
     same_budget = g.budget ∙ w.same_budget;
-    of_ends = λ r. g.of_ends (subst (HasRoom game) (sym w.same_room) r) (w.of_ends r);
+    of_reachable = λ r. g.of_reachable (subst (HasRoom game) (sym w.same_room) r) (w.of_reachable r);
     counted = λ r numbers are.
         let counts = are pass in
         let all : Position → Bool = λ p. true in
         counted_after_pass a.meter.count b.meter.count (number_fresh pass all a.entries counts.0) (number_fresh pass all b.entries counts.0) (numbers pass)
-        (ends_before numbers pass) (ends_before numbers (pass + 1)) (g.fresh all counts.0 (whole_pass pass volume (numbers pass) a w r counts))
-        (omega (arith, number_fresh-le pass all a.entries counts.0, counts.2)) (w.counted r numbers are) (ends_before-more numbers pass);
+        (reachable_before numbers pass) (reachable_before numbers (pass + 1)) (g.fresh all counts.0 (whole_pass pass volume (numbers pass) a w r counts))
+        (omega (arith, number_fresh-le pass all a.entries counts.0, counts.2)) (w.counted r numbers are) (reachable_before-more numbers pass);
   }
 
   -- where the budget ended in a pass
-  pub IsLessThanEnds-short : (pass volume : ℕ) (a : Progress) → IsWithinEnds game room budget pass a → IsShort game pass volume a Spent
-      → IsLessThanEnds game room budget pass
-  IsLessThanEnds-short pass volume a w h = λ r numbers are.
+  pub IsLessThanReachable-short : (pass volume : ℕ) (a : Progress) → IsWithinReachable game room budget pass a → IsShort game pass volume a Spent
+      → IsLessThanReachable game room budget pass
+  IsLessThanReachable-short pass volume a w h = λ r numbers are.
       let counts = are pass in
       let all : Position → Bool = λ p. true in
       let short = h all counts.0 (whole_pass pass volume (numbers pass) a w r counts) in
       let few = number_fresh-le pass all a.entries counts.0 in
-      omega (arith, short, few, counts.2, w.same_budget, w.counted r numbers are, ends_before-more numbers pass)
+      omega (arith, short, few, counts.2, w.same_budget, w.counted r numbers are, reachable_before-more numbers pass)
 
   -- ---- what was promised of an answer
 
-  -- with room for all ends, and a budget of all ends for each pass
-  pub decided_by_all : (answer : Answer) → IsAnswer game budget answer → IsWithin game room budget answer → (all : ℕ) → CountsAllEnds game all → all ≤ room
+  -- with room for all reachable positions, and a budget of all of them for each pass
+  pub decided_by_all : (answer : Answer) → IsAnswer game budget answer → IsWithin game room budget answer → (all : ℕ) → CountsAllReachable game all → all ≤ room
       → game.capacity * all ≤ budget → IsDecided answer
   decided_by_all (Answers.Adversary strategy) is within all counts l enough = tt
   decided_by_all (Answers.Algorithm strategy) is within all counts l enough = tt
   decided_by_all (Answers.Undecided visits pass path) is within all counts l enough =
-      let numbers = numbers_of_ends game in
-      let less = within (all, counts, l) numbers (AreNumbersOfEnds-numbers game) in
-      let up = ends_before-le numbers (pass + 1) game.capacity (omega (arith, is.1.is_visit.to_last)) in
-      let most = ends_before-all game all game.capacity numbers (omega arith) counts (AreNumbersOfEnds-numbers game) in
+      let numbers = numbers_of_reachable game in
+      let less = within (all, counts, l) numbers (AreNumbersOfReachable-numbers game) in
+      let up = reachable_before-le numbers (pass + 1) game.capacity (omega (arith, is.1.is_visit.to_last)) in
+      let most = reachable_before-all game all game.capacity numbers (omega arith) counts (AreNumbersOfReachable-numbers game) in
       absurd (omega (arith, less, up, most, enough))
 
-  -- with room for all ends, and a budget of the ends of each pass
+  -- with room for all reachable positions, and a budget of those of each pass
   pub decided_by_passes : (answer : Answer) → IsAnswer game budget answer → IsWithin game room budget answer → HasRoom game room → (numbers : ℕ → ℕ)
-      → AreNumbersOfEnds game numbers → ends_before numbers game.capacity ≤ budget → IsDecided answer
+      → AreNumbersOfReachable game numbers → reachable_before numbers game.capacity ≤ budget → IsDecided answer
   decided_by_passes (Answers.Adversary strategy) is within r numbers are enough = tt
   decided_by_passes (Answers.Algorithm strategy) is within r numbers are enough = tt
   decided_by_passes (Answers.Undecided visits pass path) is within r numbers are enough =
-      let up = ends_before-le numbers (pass + 1) game.capacity (omega (arith, is.1.is_visit.to_last)) in
+      let up = reachable_before-le numbers (pass + 1) game.capacity (omega (arith, is.1.is_visit.to_last)) in
       absurd (omega (arith, within r numbers are, up, enough))
 
-  -- where the adversary wins a pass, and the budget is that of the ends of the passes up to it
+  -- where the adversary wins a pass, and the budget is that of the reachable positions of the passes up to it
   pub won_by_pass : (answer : Answer) → IsAnswer game budget answer → IsWithin game room budget answer → HasRoom game room → (numbers : ℕ → ℕ)
-      → AreNumbersOfEnds game numbers → (won : ℕ) → IsWonIn game won (empty_position game) → ends_before numbers (won + 1) ≤ budget → IsOfAdversary answer
+      → AreNumbersOfReachable game numbers → (won : ℕ) → IsWonIn game won (empty_position game) → reachable_before numbers (won + 1) ≤ budget → IsOfAdversary answer
   won_by_pass (Answers.Adversary strategy) is within r numbers are won wins enough = tt
   won_by_pass (Answers.Algorithm strategy) is within r numbers are won wins enough = within (allowed_by game won) wins
   won_by_pass (Answers.Undecided visits pass path) is within r numbers are won wins enough = elim (cases_lt won pass) [
     | inl before ↦ is.1.settled.earlier_passes won (omega arith) before wins
-    | inr from ↦ let up = ends_before-le numbers (pass + 1) (won + 1) (omega (arith, from)) in omega (arith, within r numbers are, up, enough)
+    | inr from ↦ let up = reachable_before-le numbers (pass + 1) (won + 1) (omega (arith, from)) in omega (arith, within r numbers are, up, enough)
   ]

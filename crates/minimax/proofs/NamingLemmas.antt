@@ -7,7 +7,7 @@ use Rattle.std.proofs.lemmas.List.{length_push, map-append, take_more}
 use Rattle.std.proofs.lemmas.List.Elements.{All-push, All-weaker, All-contains}
 use Rattle.items.specs.Game.{GameNumbers}
 use Rattle.loads.specs.After.{after}
-use Rattle.loads.specs.Packed.{are_equal}
+use Rattle.loads.specs.Position.{are_equal}
 use Rattle.loads.specs.Position.{StandsAt}
 use Rattle.loads.specs.declared.position.Position.{Position}
 use Rattle.strategy_text.specs.declared.node.Entry.{Entry}
@@ -16,29 +16,30 @@ use Rattle.monotone.proofs.ListLemmas.{Contains-first, Contains-later, Contains-
 use Rattle.minimax.specs.Naming.{AreNumbered, HasReplies, IsEntryPlaced, IsNamed, IsPlaced, LeavesRoom, MayName, MayNameAll, Names, NamesAll, NamesNew}
 use Rattle.minimax.specs.Naming.{Numbers, PutsNamed, none_named, number_of, one_named}
 use Rattle.minimax.specs.Serving.{led_to}
+use Rattle.node_pool.specs.Pools.{terms_in}
 use Rattle.minimax.specs.State.{GoesOn, IsPending, IsReply, PutsReply}
 use Rattle.minimax.specs.declared.replies.Reply.{Reply}
 use Rattle.minimax.specs.declared.writing.Written.{Written}
 use Rattle.minimax.proofs.FreshLemmas.{are_equal-told, equal_positions}
 use Rattle.minimax.proofs.PlayableLemmas.{IsPlayable-after}
-use Rattle.minimax.proofs.StateLemmas.{GoesOn-refl, GoesOn-trans, IsReply-goes, StandsAt-goes, StandsAt-last}
+use Rattle.minimax.proofs.StateLemmas.{GoesOn-refl, IsPlain-same, GoesOn-trans, IsReply-goes, StandsAt-goes, StandsAt-last}
 
 -- what stays where nodes that finish are put
 pub record Stays (before next : Written) : Type 0 where
   pub nodes : GoesOn before.pool.nodes next.pool.nodes
   pub of_game : next.pool.game ≡ before.pool.game
-  pub of_format : next.pool.format ≡ before.pool.format
+  pub of_terms : terms_in next.pool ≡ terms_in before.pool
   pub numbers : next.numbers ≡ before.numbers
 
 pub Stays-refl : (w : Written) → Stays w w
-Stays-refl w = record { nodes = GoesOn-refl w.pool.nodes; of_game = refl; of_format = refl; numbers = refl }
+Stays-refl w = record { nodes = GoesOn-refl w.pool.nodes; of_game = refl; of_terms = refl; numbers = refl }
 
 pub Stays-names : (w next : Written) (position : Position) (number : ℕ) → Names w next position number → Stays w next
 Stays-names w next position number (inl (e, told)) = subst (Stays w) (sym e) (Stays-refl w)
 Stays-names w next position number (inr new) = record {
   nodes = (new.puts.node ∷ [], ap (λ p. p.nodes) new.puts.pool);
   of_game = ap (λ p. p.game) new.puts.pool;
-  of_format = ap (λ p. p.format) new.puts.pool;
+  of_terms = ap (λ p. terms_in p) new.puts.pool;
   numbers = ap (λ (t : Written). t.numbers) new.same;
 }
 
@@ -46,7 +47,7 @@ pub Stays-trans : (a b c : Written) → Stays a b → Stays b c → Stays a c
 Stays-trans a b c g h = record {
   nodes = GoesOn-trans a.pool.nodes b.pool.nodes c.pool.nodes g.nodes h.nodes;
   of_game = h.of_game ∙ g.of_game;
-  of_format = h.of_format ∙ g.of_format;
+  of_terms = h.of_terms ∙ g.of_terms;
   numbers = h.numbers ∙ g.numbers;
 }
 
@@ -60,7 +61,7 @@ Stays-numbers w next position told number (inl (e, h)) = subst (Stays w) (sym e)
 Stays-numbers w next position told number (inr (e, names)) = Stays-names w next position number names
 
 pub HasReplies-stays : (game : GameNumbers) (w next : Written) → Stays w next → HasReplies game w → HasReplies game next
-HasReplies-stays game w next s h = record { of_game = s.of_game ∙ h.of_game; of_format = s.of_format ∙ h.of_format }
+HasReplies-stays game w next s h = record { of_game = s.of_game ∙ h.of_game; of_format = IsPlain-same w.pool next.pool s.of_terms h.of_format }
 
 pub AreNumbered-stays : (earlier : List Reply) (w next : Written) → Stays w next → AreNumbered earlier w → AreNumbered earlier next
 AreNumbered-stays earlier w next s n = record {

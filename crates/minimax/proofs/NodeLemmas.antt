@@ -28,14 +28,15 @@ use Rattle.strategy_text.specs.declared.node.Placement.{Placement}
 use Rattle.strategy_text.specs.declared.node.Step.{Step}
 use Rattle.strategy_text.specs.declared.node.Step.TheVariants.{Send}
 use Rattle.adversary_graph.specs.Nodes as adversary
+use Rattle.node_pool.specs.Terms.{Terms}
 use Rattle.adversary_graph.specs.Pools as adversary_pools
 use Rattle.adversary_graph.specs.Rules as adversary_rules
 use Rattle.algorithm_graph.specs.Nodes as algorithm
 use Rattle.algorithm_graph.specs.Pools as algorithm_pools
 use Rattle.algorithm_graph.specs.Judging.{node_at}
-use Rattle.algorithm_graph.specs.Rules.{NamesLoad, ReplyToEach}
+use Rattle.algorithm_graph.specs.Rules.{MeetsRules, NamesLoad, ReplyToEach}
 use Rattle.good_situations.specs.Finish.{Finishes}
-use Rattle.minimax.specs.State.{IsPlayable, IsReply, MayAct, PlacesAll, ReplyToAll, numbers_down}
+use Rattle.minimax.specs.State.{IsPlain, IsPlayable, IsReply, MayAct, PlacesAll, ReplyToAll, numbers_down}
 
 -- ---- the algorithm's nodes
 
@@ -89,17 +90,17 @@ replies_to_each game items room entries is_room sizes =
       );
     }
 
-pub MayAct-reply : (pool : algorithm_pools.Pool) (position : Position) (room : ℕ) (entries made : List Entry) → IsPlayable pool.game position → pool.format ≡ One
+pub MayAct-reply : (pool : algorithm_pools.Pool) (position : Position) (room : ℕ) (entries made : List Entry) → IsPlayable pool.game position → IsPlain pool
     → length pool.nodes < most_nodes → ReplyToAll pool.game pool.nodes position room entries → made ≡ reverse entries → MayAct pool position (Reply made)
-MayAct-reply pool position room entries made p format few replies e =
+MayAct-reply pool position room entries made p plain few replies e =
     let names = All-reverse (NamesLoad pool.game position.loads) entries (All-weaker (IsReply pool.game pool.nodes position) _ (λ entry r. r.names) entries replies.each) in
     let leads = All-reverse (λ (entry : Entry). StandsAt (map algorithm.position_of pool.nodes) entry.to (after position entry.load entry.size)) entries
     (All-weaker (IsReply pool.game pool.nodes position) _ (λ entry r. r.leads) entries replies.each) in
     subst (λ xs. MayAct pool position (Reply xs)) (sym e) (record {
       playable = p;
       room = few;
-      formed = subst (λ f. algorithm.IsOfFormat f (Reply (reverse entries))) (sym format) tt;
-      follows = (
+      formed = subst (λ (t : Terms). algorithm.IsOfFormat t.format (Reply (reverse entries))) (sym plain) tt;
+      follows = subst (λ (t : Terms). MeetsRules t.game t.sizes (map algorithm.position_of pool.nodes) false (node_at position (Reply (reverse entries)))) (sym plain) (
         p.loads,
         (
           p.items,
@@ -127,13 +128,13 @@ MayAct-reply pool position room entries made p format few replies e =
       );
     })
 
-pub MayAct-finish : (pool : algorithm_pools.Pool) (position : Position) → IsPlayable pool.game position → pool.format ≡ One
+pub MayAct-finish : (pool : algorithm_pools.Pool) (position : Position) → IsPlayable pool.game position → IsPlain pool
     → length pool.nodes < most_nodes → Finishes pool.game position.loads → MayAct pool position Finish
-MayAct-finish pool position p format few finishes = record {
+MayAct-finish pool position p plain few finishes = record {
   playable = p;
   room = few;
-  formed = subst (λ f. algorithm.IsOfFormat f Finish) (sym format) tt;
-  follows = (
+  formed = subst (λ (t : Terms). algorithm.IsOfFormat t.format Finish) (sym plain) tt;
+  follows = subst (λ (t : Terms). MeetsRules t.game t.sizes (map algorithm.position_of pool.nodes) false (node_at position Finish)) (sym plain) (
     p.loads,
     (
       p.items,
@@ -190,11 +191,11 @@ some_packing game items size (Some bins) p h = h
 
 pub MayComeNext-win : (pool : adversary_pools.Pool) (position : Position) (size : ℕ) (pack : Option (List (List ℕ))) (placements : List Placement)
     (loads items : List ℕ) → loads ≡ position.loads → items ≡ position.items → IsPlayable pool.game position
-    → Packable pool.game (position.items ++ size ∷ []) → pool.format ≡ One → length pool.nodes < most_nodes
+    → Packable pool.game (position.items ++ size ∷ []) → IsPlain pool → length pool.nodes < most_nodes
     → PlacesAll pool.game (map adversary.position_of pool.nodes) position size placements
     → MatchOption pack (Packable pool.game (put_ascending size position.items) → ⊥) (λ bins. IsPacking pool.game bins (put_ascending size position.items))
     → adversary_pools.MayComeNext pool (adversary_node loads items (Send size pack placements))
-MayComeNext-win pool position size pack placements loads items l i p may format few places packing =
+MayComeNext-win pool position size pack placements loads items l i p may plain few places packing =
     let step : Step = Send size pack placements in
     let e : adversary_node loads items step ≡ adversary_node position.loads position.items step =
     ap (λ xs. adversary_node xs items step) l ∙ ap (λ xs. adversary_node position.loads xs step) i in
@@ -202,9 +203,9 @@ MayComeNext-win pool position size pack placements loads items l i p may format 
     let sent = Contains_from_size pool.game.capacity size (size_of_last pool.game position.items size may) in
     subst (adversary_pools.MayComeNext pool) (sym e) (record {
       room = few;
-      formed = subst (λ f. adversary.IsOfFormat f step) (sym format) tt;
-      follows = subst (λ f. adversary_rules.MeetsRules f pool.game (sizes_of pool.game) (map adversary.position_of pool.nodes) false
-          (adversary_node position.loads position.items step)) (sym format) (
+      formed = subst (λ (t : Terms). adversary.IsOfFormat t.format step) (sym plain) tt;
+      follows = subst (λ (t : Terms). adversary_rules.MeetsRules t.format t.game t.sizes (map adversary.position_of pool.nodes) false
+          (adversary_node position.loads position.items step)) (sym plain) (
             p.loads,
             (
               p.items,

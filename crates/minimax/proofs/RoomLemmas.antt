@@ -4,7 +4,7 @@ use Rattle.std.specs.Prelude.{IsSome, if◌then◌else◌}
 use Rattle.std.proofs.lemmas.Bool.{cases_lt}
 use Rattle.items.specs.Game.{GameNumbers}
 use Rattle.items.specs.Packable.{IsRoom}
-use Rattle.loads.specs.Packed.{are_equal}
+use Rattle.loads.specs.Position.{are_equal}
 use Rattle.loads.specs.declared.position.Position.{Position}
 use Rattle.transposition.specs.Bounded.{Puts, PutsForOther, SameEntries, found}
 use Rattle.minimax.specs.Rooms.{AreRooms}

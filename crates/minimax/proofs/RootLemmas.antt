@@ -20,10 +20,9 @@ use Rattle.strategy_text.specs.declared.node.AlgNode.{AlgNode}
 use Rattle.strategy_text.specs.declared.node.Strategy.{Strategy}
 use Rattle.adversary_graph.specs.Nodes as adversary
 use Rattle.adversary_graph.specs.Pools as adversary_pools
-use Rattle.adversary_graph.proofs.PoolLemmas as adversary_lemmas
+use Rattle.node_pool.proofs.PoolLemmas.{root_from_position}
 use Rattle.algorithm_graph.specs.Nodes as algorithm
 use Rattle.algorithm_graph.specs.Pools as algorithm_pools
-use Rattle.algorithm_graph.proofs.PoolLemmas as algorithm_lemmas
 use Rattle.monotone.specs.Passes.{whole_game, allowed_in}
 use Rattle.monotone.specs.Visits.{HasVisitsBefore, IsLater, Metered, most_visits, unused, visit}
 use Rattle.monotone.specs.declared.path.PathMove.{PathMove}
@@ -123,12 +122,12 @@ module _ (game : GameNumbers) (pass : ℕ) where
   pub root_of_win : (nodes : List AdvNode) (number : ℕ) (root : Position) → root ≡ empty_position game → StandsAt (map adversary.position_of nodes) number root
       → adversary_pools.IsRoot nodes number
   root_of_win nodes number root is stands =
-      adversary_lemmas.root_from_position nodes number root stands (subst IsEmptyPosition (sym is) empty_is)
+      root_from_position adversary.position_of nodes number root stands (subst IsEmptyPosition (sym is) empty_is)
 
   pub root_of_reply : (nodes : List AlgNode) (number : ℕ) (root : Position) → root ≡ empty_position game → StandsAt (map algorithm.position_of nodes) number root
       → algorithm_pools.IsRoot nodes number
   root_of_reply nodes number root is stands =
-      algorithm_lemmas.root_from_position nodes number root stands (subst IsEmptyPosition (sym is) empty_is)
+      root_from_position algorithm.position_of nodes number root stands (subst IsEmptyPosition (sym is) empty_is)
 
   -- there are no more wins than visits were made
   pub few_wins : (budget : ℕ) (s : Search) (entries : List (Position × Verdict)) → IsSound game pass s entries → HasSpare game 0 s entries → s.meter.budget ≡ budget

@@ -4,7 +4,7 @@ use Rattle.std.specs.Prelude.{All, Contains}
 use Rattle.std.proofs.lemmas.List.Elements.{All-weaker}
 use Rattle.items.specs.Game.{GameNumbers}
 use Rattle.loads.specs.After.{after}
-use Rattle.loads.specs.Packed.{are_equal}
+use Rattle.loads.specs.Position.{are_equal}
 use Rattle.loads.specs.declared.position.Position.{Position}
 use Rattle.strategy_text.specs.declared.node.Entry.{Entry}
 use Rattle.monotone.proofs.ListLemmas.{Contains-first, Contains-later, Contains-nothing, Contains-split}

@@ -24,7 +24,10 @@ use Rattle.monotone.proofs.VisitLemmas.{CountsVisits-counted}
 use Rattle.transposition.specs.declared.verdict.Verdict.{Verdict}
 use Rattle.transposition.specs.declared.verdict.Verdict.TheVariants.{Adversary, Algorithm, Held}
 use Rattle.minimax.specs.State.{AreKnown, AreSound, EachOver, FollowsUp, GoesOn, IsLed, IsNeverWon, IsNoWin}
-use Rattle.minimax.specs.State.{IsPending, IsReady, IsReadyWin, IsReply, IsSound, IsWonIn, KeepsReply, KeepsWin}
+use Rattle.strategy_text.specs.declared.node.Format.TheVariants.{One}
+use Rattle.node_pool.specs.Pools.{Pool, terms_in}
+use Rattle.node_pool.specs.Terms.{Terms, whole_game as whole_terms}
+use Rattle.minimax.specs.State.{IsPending, IsPlain, IsReady, IsReadyWin, IsReply, IsSound, IsWonIn, KeepsReply, KeepsWin}
 use Rattle.minimax.specs.State.{PutsOnly, Says, Tells, allowed_by, position_of_reply, position_of_win}
 use Rattle.minimax.specs.declared.expanding.Search.{Search}
 use Rattle.minimax.specs.declared.replies.Reply.{Reply}
@@ -238,3 +241,9 @@ module _ (game : GameNumbers) (pass : ℕ) (meter : Metered) (wins : List Win) (
     lost = s.lost;
     known = s.known;
   }
+
+-- ---- pools
+
+-- a pool of format 1 for the whole game is one still where its terms stay
+pub IsPlain-same : {Node : Type 0} (before next : Pool Node) → terms_in next ≡ terms_in before → IsPlain before → IsPlain next
+IsPlain-same before next same plain = same ∙ plain ∙ ap (whole_terms One) (sym (ap (λ (t : Terms). t.game) same))

@@ -11,7 +11,7 @@ use Rattle.items.proofs.MultisetLemmas.{count-append, count-put_ascending}
 use Rattle.packing_witness.proofs.PackableLemmas.{Packable-part}
 use Rattle.loads.specs.After.{after}
 use Rattle.loads.specs.Wins.{empty_position}
-use Rattle.loads.specs.Packed.{are_equal}
+use Rattle.loads.specs.Position.{are_equal}
 use Rattle.loads.specs.declared.position.Position.{Position}
 use Rattle.packing_witness.proofs.PackingLemmas.{le_room}
 use Rattle.good_situations.specs.Finish.{Finishes}

@@ -11,7 +11,12 @@ use Rattle.loads.specs.After.{after}
 use Rattle.loads.specs.Position.{StandsAt}
 use Rattle.loads.specs.Wins.{empty_position}
 use Rattle.loads.specs.declared.position.Position.{Position}
-use Rattle.strategy_text.specs.Text.{of_adversary}
+use Rattle.strategy_text.specs.Text.{nodes_of, of_adversary}
+use Rattle.strategy_text.specs.declared.node.Format.TheVariants.{One}
+use Rattle.strategy_text.specs.declared.node.Nodes.TheVariants.{Adversary}
+use Rattle.node_pool.specs.Pools as pools
+use Rattle.node_pool.specs.Pools.{nodes_up_to, terms_in}
+use Rattle.node_pool.specs.Terms.{Terms, whole_game}
 use Rattle.strategy_text.specs.declared.node.Placement.{Placement}
 use Rattle.strategy_text.specs.declared.node.Strategy.{Strategy}
 use Rattle.strategy_text.specs.declared.node.Then.{Then}
@@ -26,7 +31,7 @@ use Rattle.minimax.specs.WinsWriting.{AreWritten, MayPutWin, MayWriteWins, Write
 use Rattle.minimax.specs.declared.wins.Win.{Win}
 use Rattle.minimax.proofs.ReachedLemmas.{leads_below, win_below, all_below}
 use Rattle.minimax.proofs.RootLemmas.{length-take-short, root_of_win}
-use Rattle.minimax.proofs.StateLemmas.{GoesOn-refl, StandsAt-goes, StandsAt-last}
+use Rattle.minimax.proofs.StateLemmas.{GoesOn-refl, IsPlain-same, StandsAt-goes, StandsAt-last}
 
 -- ---- placements with the numbers of the nodes
 
@@ -81,10 +86,10 @@ may_put_win game wins root k marks pool numbers win may reached w e m =
     let earlier = map position_of_win (take k wins) in
     let nodes = map adversary.position_of pool.nodes in
     let marked = reached.follow k win (omega arith) e m in
-    subst (λ g. MayPutWin (adversary_pools.pool_of pool.format g pool.nodes) numbers win) (sym w.of_game) (record {
+    subst (λ (t : Terms). MayPutWin (pools.pool_of t pool.nodes) numbers win) (sym (w.of_format ∙ ap (whole_game One) w.of_game)) (record {
       playable = ready.playable;
       may_come = ready.may_come;
-      of_format = w.of_format;
+      of_format = refl;
       room = omega (arith, w.few, slice_get_within wins k win e, may.few);
       below = all_below k (length numbers) win.placements (omega (arith, w.one_each)) (win_below game wins k win may.ready e);
       places = record {
@@ -99,14 +104,14 @@ may_put_win game wins root k marks pool numbers win may reached w e m =
     })
 
 put_goes : (before next : adversary_pools.Pool) (win : Win) (reached : Bool) (number : ℕ) → WritesWin before next win reached number
-    → GoesOn before.nodes next.nodes × (next.game ≡ before.game) × (next.format ≡ before.format) × (length next.nodes ≤ length before.nodes + 1)
+    → GoesOn before.nodes next.nodes × (next.game ≡ before.game) × (terms_in next ≡ terms_in before) × (length next.nodes ≤ length before.nodes + 1)
 put_goes before next win reached number (inl (unreached, same)) =
-    subst (λ (p : adversary_pools.Pool). GoesOn before.nodes p.nodes × (p.game ≡ before.game) × (p.format ≡ before.format) × (length p.nodes ≤ length before.nodes + 1))
+    subst (λ (p : adversary_pools.Pool). GoesOn before.nodes p.nodes × (p.game ≡ before.game) × (terms_in p ≡ terms_in before) × (length p.nodes ≤ length before.nodes + 1))
     (sym same) (GoesOn-refl before.nodes, refl, refl, omega arith)
 put_goes before next win reached number (inr puts) = (
   (puts.node ∷ [], ap (λ (p : adversary_pools.Pool). p.nodes) puts.pool),
   ap (λ (p : adversary_pools.Pool). p.game) puts.pool,
-  ap (λ (p : adversary_pools.Pool). p.format) puts.pool,
+  ap (λ (p : adversary_pools.Pool). terms_in p) puts.pool,
   omega (arith, ap (λ (p : adversary_pools.Pool). length p.nodes) puts.pool, length_push before.nodes puts.node),
 )
 
@@ -124,7 +129,7 @@ wins_more game wins marks k pool next numbers more win reached number w e m writ
     let nodes = map adversary.position_of next.nodes in
     subst (AreWritten game wins marks (k + 1) next) (sym is) (record {
       of_game = goes.1 ∙ w.of_game;
-      of_format = goes.2 ∙ w.of_format;
+      of_format = IsPlain-same pool next goes.2 w.of_format;
       few = omega (arith, goes.3, w.few);
       one_each = length_push numbers number ∙ ap (λ n. n + 1) w.one_each;
       stand = λ j other l f marked. elim (cases_lt j k) [
@@ -151,12 +156,12 @@ root_written game wins root k marks pool numbers may reached w l =
 
 pub IsFor-wins : (game : GameNumbers) (wins : List Win) (marks : List Bool) (k root : ℕ) (pool : adversary_pools.Pool) (numbers : List ℕ) (strategy : Strategy)
     → AreWritten game wins marks k pool numbers → k ≤ length wins
-    → strategy ≡ adversary_pools.strategy_of (adversary_pools.pool_of pool.format pool.game (adversary_pools.nodes_up_to root pool.nodes)) → IsFor game (length wins) strategy
-IsFor-wins game wins marks k root pool numbers strategy w l is = subst (IsFor game (length wins)) (sym is) (record {
-  of_game = w.of_game;
-  of_format = w.of_format;
-  few = omega (arith, w.few, l, length-map (take (root + 1) pool.nodes) of_adversary, length-take-short (root + 1) pool.nodes);
-})
+    → strategy.format ≡ pool.format → strategy.game ≡ pool.game → strategy.nodes ≡ Adversary (nodes_up_to root pool.nodes) → IsFor game (length wins) strategy
+IsFor-wins game wins marks k root pool numbers strategy w l format of_game is = record {
+  of_game = of_game ∙ w.of_game;
+  of_format = format ∙ ap (λ (t : Terms). t.format) w.of_format;
+  few = omega (arith, w.few, l, ap (λ n. length (nodes_of n)) is, length-map (take (root + 1) pool.nodes) of_adversary, length-take-short (root + 1) pool.nodes);
+}
 
 -- the root is the number of a win
 pub number_within : (game : GameNumbers) (wins : List Win) (root : ℕ) → MayWriteWins game wins root → root < length wins

@@ -9,22 +9,24 @@ use Rattle.std.proofs.lemmas.Option.{none-some}
 use Rattle.items.specs.Game.{GameNumbers}
 use Rattle.loads.specs.Position.{StandsAt}
 use Rattle.loads.specs.declared.position.Position.{Position}
-use Rattle.strategy_text.specs.Text.{of_algorithm}
+use Rattle.strategy_text.specs.Text.{nodes_of, of_algorithm}
+use Rattle.strategy_text.specs.declared.node.Nodes.TheVariants.{Algorithm}
+use Rattle.node_pool.specs.Pools.{nodes_up_to, terms_in}
+use Rattle.node_pool.specs.Terms.{Terms}
 use Rattle.strategy_text.specs.declared.node.Entry.{Entry}
-use Rattle.strategy_text.specs.declared.node.Format.TheVariants.{One}
 use Rattle.strategy_text.specs.declared.node.Strategy.{Strategy}
 use Rattle.algorithm_graph.specs.Nodes as algorithm
 use Rattle.algorithm_graph.specs.Pools as algorithm_pools
 use Rattle.minimax.specs.Answers.{IsFor}
 use Rattle.minimax.specs.Naming.{AreNumbered, HasReplies, IsEntryPlaced, IsPlaced, Numbers, PutsNamed, number_of}
 use Rattle.minimax.specs.Serving.{led_to}
-use Rattle.minimax.specs.State.{AreOfAll, GoesOn, position_of_reply}
+use Rattle.minimax.specs.State.{AreOfAll, GoesOn, IsPlain, position_of_reply}
 use Rattle.minimax.specs.Writing.{IsWrittenUpTo, MayPut, MayWrite, Puts}
 use Rattle.minimax.specs.declared.replies.Reply.{Reply}
 use Rattle.minimax.specs.declared.writing.Written.{Written}
 use Rattle.minimax.proofs.NamingLemmas.{Stays-all, Stays-numbers, leaves_all, leaves_number, numbers_stand}
 use Rattle.minimax.proofs.RootLemmas.{length-take-short}
-use Rattle.minimax.proofs.StateLemmas.{StandsAt-goes, StandsAt-last}
+use Rattle.minimax.proofs.StateLemmas.{IsPlain-same, StandsAt-goes, StandsAt-last}
 
 -- there are as many entries as sizes
 pub entries_long : (game : GameNumbers) (position : Position) (room : ℕ) (entries : List Entry) → AreOfAll game position room entries → length entries ≡ room
@@ -127,7 +129,7 @@ written_more game replies root told budget k w next reply d up l e puts =
     record {
       has = record {
         of_game = ap (λ (t : Written). t.pool.game) puts.same ∙ ap (λ p. p.game) named.puts.pool ∙ stays.of_game ∙ up.has.of_game;
-        of_format = ap (λ (t : Written). t.pool.format) puts.same ∙ ap (λ p. p.format) named.puts.pool ∙ stays.of_format ∙ up.has.of_format;
+        of_format = IsPlain-same w.pool next.pool (ap (λ (t : Written). terms_in t.pool) puts.same ∙ ap (λ p. terms_in p) named.puts.pool ∙ stays.of_terms) up.has.of_format;
       };
       numbered = subst (λ xs. AreNumbered xs next) (ap (λ x. take k replies ++ x ∷ []) e ∙ sym (take_more replies k d l))
           (numbered_more game (take k replies) w next reply puts up.numbered);
@@ -149,7 +151,7 @@ pub written_root : (game : GameNumbers) (replies : List Reply) (root : Position)
 written_root game replies root told budget k number w next may up is =
     let stays = Stays-numbers w next root told number is in (
       numbers_stand w next root told number budget (length replies - k) up.left is up.under,
-      record { of_game = stays.of_game ∙ up.has.of_game; of_format = stays.of_format ∙ up.has.of_format },
+      record { of_game = stays.of_game ∙ up.has.of_game; of_format = IsPlain-same w.pool next.pool stays.of_terms up.has.of_format },
       few_nodes is,
     )
   where
@@ -158,14 +160,14 @@ written_root game replies root told budget k number w next may up is =
     few_nodes (inr (e, names)) = let left = leaves_number w next root number budget (length replies - k) up.left names up.under (up.root_placed e) in
         omega (arith, left.room.few)
 
-pub IsFor-written : (game : GameNumbers) (budget root : ℕ) (pool : algorithm_pools.Pool) (strategy : Strategy) → pool.game ≡ game → pool.format ≡ One
+pub IsFor-written : (game : GameNumbers) (budget root : ℕ) (pool : algorithm_pools.Pool) (strategy : Strategy) → pool.game ≡ game → IsPlain pool
     → length pool.nodes ≤ budget
-    → strategy ≡ algorithm_pools.strategy_of (algorithm_pools.pool_of pool.format pool.game (algorithm_pools.nodes_up_to root pool.nodes)) → IsFor game budget strategy
-IsFor-written game budget root pool strategy of_game of_format few is = subst (IsFor game budget) (sym is) (record {
-  of_game = of_game;
-  of_format = of_format;
-  few = omega (arith, few, length-map (take (root + 1) pool.nodes) of_algorithm, length-take-short (root + 1) pool.nodes);
-})
+    → strategy.format ≡ pool.format → strategy.game ≡ pool.game → strategy.nodes ≡ Algorithm (nodes_up_to root pool.nodes) → IsFor game budget strategy
+IsFor-written game budget root pool strategy of_game plain few same_format same_game is = record {
+  of_game = same_game ∙ of_game;
+  of_format = same_format ∙ ap (λ (t : Terms). t.format) plain;
+  few = omega (arith, few, ap (λ n. length (nodes_of n)) is, length-map (take (root + 1) pool.nodes) of_algorithm, length-take-short (root + 1) pool.nodes);
+}
 
 -- the numbers of the replies stay where nodes are put
 pub numbers_stay : (game : GameNumbers) (w next : Written) (position : Position) (entries : List Entry) (number : ℕ) → PutsNamed game w next position entries number

@@ -3,25 +3,24 @@ use Rattle.std.specs.Prelude.{◌≡◌, ℕ, ◌+◌, ◌<◌, ◌≤◌, ◌�
 use Rattle.std.specs.Prelude.{slice_index_or, if◌then◌else◌}
 use Rattle.std.specs.Prelude.{All, Contains}
 use Rattle.items.specs.Game.{GameNumbers}
-use Rattle.loads.specs.Packed.{are_equal}
+use Rattle.loads.specs.Position.{are_equal}
 use Rattle.loads.specs.Position.{StandsAt}
 use Rattle.loads.specs.declared.position.Position.{Position}
 use Rattle.good_situations.specs.Finish.{Finishes}
 use Rattle.strategy_text.specs.Spelling.{most_nodes}
 use Rattle.strategy_text.specs.declared.node.Entry.{Entry}
-use Rattle.strategy_text.specs.declared.node.Format.TheVariants.{One}
 use Rattle.algorithm_graph.specs.Nodes as algorithm
 use Rattle.transposition.specs.Bounded.{found}
 use Rattle.minimax.specs.Serving.{led_to}
-use Rattle.minimax.specs.State.{IsLed, IsPending, IsPlayable, IsReply, PutsReply, position_of_reply}
+use Rattle.minimax.specs.State.{IsLed, IsPending, IsPlain, IsPlayable, IsReply, PutsReply, position_of_reply}
 use Rattle.minimax.specs.declared.replies.Reply.{Reply}
 use Rattle.minimax.specs.declared.writing.Written.{Written}
 use Rattle.minimax.specs.declared.finish_nodes.TheConstants.{FINISHES}
 
--- the algorithm's pool is of the game and of format 1
+-- the algorithm's pool is of the whole game and of format 1
 pub record HasReplies (game : GameNumbers) (written : Written) : Type 0 where
   pub of_game : written.pool.game ≡ game
-  pub of_format : written.pool.format ≡ One
+  pub of_format : IsPlain written.pool
 
 -- the number of the node that finishes at a position, where it was put
 abbrev pub number_of : List (Position × ℕ) → Position → Option ℕ

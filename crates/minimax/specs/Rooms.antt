@@ -2,7 +2,7 @@
 use Rattle.std.specs.Prelude.{◌≡◌, ℕ, List, Some}
 use Rattle.items.specs.Game.{GameNumbers}
 use Rattle.items.specs.Packable.{IsRoom}
-use Rattle.loads.specs.Packed.{are_equal}
+use Rattle.loads.specs.Position.{are_equal}
 use Rattle.loads.specs.declared.position.Position.{Position}
 use Rattle.transposition.specs.Bounded.{found}
 

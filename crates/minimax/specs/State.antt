@@ -18,8 +18,11 @@ use Rattle.strategy_text.specs.declared.node.Act.{Act}
 use Rattle.strategy_text.specs.declared.node.AdvNode.{AdvNode}
 use Rattle.strategy_text.specs.declared.node.AlgNode.{AlgNode}
 use Rattle.strategy_text.specs.declared.node.Entry.{Entry}
+use Rattle.strategy_text.specs.declared.node.Format.TheVariants.{One}
 use Rattle.strategy_text.specs.declared.node.Placement.{Placement}
 use Rattle.strategy_text.specs.declared.node.Then.TheVariants.{To}
+use Rattle.node_pool.specs.Pools.{Pool, terms_in, with_node}
+use Rattle.node_pool.specs.Terms.{whole_game as whole_terms}
 use Rattle.adversary_graph.specs.Nodes as adversary
 use Rattle.adversary_graph.specs.Pools as adversary_pools
 use Rattle.adversary_graph.specs.Rules.{IsOverAtTarget, LeadsTo}
@@ -371,18 +374,22 @@ kept_of size load (Held held) = NoReply
 
 -- ---- nodes
 
+-- a pool of format 1 for the whole game
+abbrev pub IsPlain : {Node : Type 0} → Pool Node → Type 0
+IsPlain pool = terms_in pool ≡ whole_terms One pool.game
+
 -- a node of the adversary at this position was put at the end of a pool
 pub record PutsWin (before after : adversary_pools.Pool) (position : Position) (number : ℕ) : Type 0 where
   pub node : AdvNode
   pub stands : adversary.position_of node ≡ position
-  pub pool : after ≡ adversary_pools.pool_of before.format before.game (before.nodes ++ node ∷ [])
+  pub pool : after ≡ with_node before node
   pub is_last : number ≡ length before.nodes
 
 -- a node of the algorithm at this position was put at the end of a pool
 pub record PutsReply (before after : algorithm_pools.Pool) (position : Position) (number : ℕ) : Type 0 where
   pub node : AlgNode
   pub stands : algorithm.position_of node ≡ position
-  pub pool : after ≡ algorithm_pools.pool_of before.format before.game (before.nodes ++ node ∷ [])
+  pub pool : after ≡ with_node before node
   pub is_last : number ≡ length before.nodes
 
 -- a win at this position was put at the end of a list
@@ -409,7 +416,7 @@ pub record MayAct (pool : algorithm_pools.Pool) (position : Position) (act : Act
   pub playable : IsPlayable pool.game position
   pub room : length pool.nodes < most_nodes
   pub formed : algorithm.IsOfFormat pool.format act
-  pub follows : MeetsRules pool.game (sizes_of pool.game) (map algorithm.position_of pool.nodes) false
+  pub follows : MeetsRules pool.game pool.sizes (map algorithm.position_of pool.nodes) false
       (node_at position act)
 
 -- the entries reply to each size up to the room, from the largest on

@@ -6,14 +6,13 @@ use Rattle.items.specs.Packable.{Packable}
 use Rattle.loads.specs.Position.{StandsAt}
 use Rattle.loads.specs.Wins.{empty_position}
 use Rattle.strategy_text.specs.Spelling.{most_nodes}
-use Rattle.strategy_text.specs.declared.node.Format.TheVariants.{One}
 use Rattle.strategy_text.specs.declared.node.Placement.{Placement}
 use Rattle.strategy_text.specs.declared.node.Then.{Then}
 use Rattle.strategy_text.specs.declared.node.Then.TheVariants.{Over, To}
 use Rattle.adversary_graph.specs.Nodes as adversary
 use Rattle.adversary_graph.specs.Pools as adversary_pools
 use Rattle.minimax.specs.Reached.{IsMarked, LeadsBelow}
-use Rattle.minimax.specs.State.{AreReadyWins, IsPlayable, PlacesAll, PutsWin, position_of_win}
+use Rattle.minimax.specs.State.{AreReadyWins, IsPlain, IsPlayable, PlacesAll, PutsWin, position_of_win}
 use Rattle.minimax.specs.declared.wins.Win.{Win}
 
 -- the wins lead to one another, and the root stands among them
@@ -34,7 +33,7 @@ renumbered numbers placement = record { load = placement.load; next = renumbered
 pub record MayPutWin (pool : adversary_pools.Pool) (numbers : List ℕ) (win : Win) : Type 0 where
   pub playable : IsPlayable pool.game win.position
   pub may_come : Packable pool.game (win.position.items ++ win.size ∷ [])
-  pub of_format : pool.format ≡ One
+  pub of_format : IsPlain pool
   pub room : length pool.nodes < most_nodes
   pub below : All (λ placement. LeadsBelow (length numbers) placement.next) win.placements
   pub places : PlacesAll pool.game (map adversary.position_of pool.nodes) win.position win.size
@@ -49,7 +48,7 @@ WritesWin before after win reached number =
 pub record AreWritten (game : GameNumbers) (wins : List Win) (marks : List Bool) (k : ℕ) (pool : adversary_pools.Pool)
     (numbers : List ℕ) : Type 0 where
   pub of_game : pool.game ≡ game
-  pub of_format : pool.format ≡ One
+  pub of_format : IsPlain pool
   pub few : length pool.nodes ≤ k
   pub one_each : length numbers ≡ k
   pub stand : (j : ℕ) (win : Win) → j < k → slice_get wins j ≡ Some win → IsMarked marks j

@@ -1,7 +1,7 @@
 //! The nodes that finish, by their positions.
 
 ghost use Rattle.std.specs.Prelude.{◌≡◌, ◌<◌, ◌≤◌, [], None, Some, IfOk, OnOk, if◌then◌else◌};
-ghost use Rattle.loads.specs.Packed.{are_equal};
+ghost use Rattle.loads.specs.Position.{are_equal};
 ghost use Rattle.transposition.specs.Bounded.{found};
 
 use indexmap::IndexMap;

@@ -3,12 +3,12 @@
 ghost use Rattle.std.specs.Prelude.{◌≡◌, ◌≤◌, ◌+◌, ◌*◌, ℕ, [], IfOk};
 ghost use Rattle.items.specs.Multiset.{sizes_of};
 ghost use Rattle.loads.specs.Wins.{IsWon, empty_position};
-ghost use Rattle.monotone.specs.Positions.{CountsAllEnds};
+ghost use Rattle.monotone.specs.Positions.{CountsAllReachable};
 ghost use Rattle.monotone.specs.Passes.{allowed_in, whole_game};
 ghost use Rattle.monotone.specs.Visits.{most_visits};
 ghost use Rattle.strategy_text.specs.Spelling.{most_nodes};
 ghost use Rattle.minimax.specs.Answers.{IsAnswer, IsDecided};
-ghost use Rattle.minimax.specs.Budgets.{AreNumbersOfEnds, HasRoom, IsOfAdversary, ends_before};
+ghost use Rattle.minimax.specs.Budgets.{AreNumbersOfReachable, HasRoom, IsOfAdversary, reachable_before};
 ghost use Rattle.minimax.specs.Fresh.{IsWithin};
 
 use crate::answer::Answer;
@@ -35,10 +35,9 @@ use transposition::{Key, Memo, Verdict};
 ///
 /// A strategy has format 1, is legal, and has at most as many nodes as the budget allows visits. `Undecided` is
 /// answered where the budget is spent and a further visit is due, before which all is decided. With a budget of
-/// `g * (m + 1) ^ (m * g)` visits it never is. Where the memo has room for all positions at which legal paths end, no
-/// position is expanded twice in a pass: then as many visits as there are such positions serve for each pass, and
-/// where the adversary wins a pass, those of the passes up to it. Fails only for want of memory; what the memo then
-/// holds is open.
+/// `g * (m + 1) ^ (m * g)` visits it never is. Where the memo has room for all reachable positions, none is expanded
+/// twice in a pass: then as many visits as there are such positions serve for each pass, and where the adversary wins
+/// a pass, those of the passes up to it. Fails only for want of memory; what the memo then holds is open.
 ///
 /// The recursion is as deep as items are sent: at most `m * g`, and the first position. Beside the memo, memory grows
 /// with what is found: some 80 bytes and 12 for each load at a position that the adversary wins, and some 70 bytes and
@@ -55,14 +54,14 @@ pub fn solve<M: Memo>(
     requires empty { M.entries memo.old ≡ [] }
     ensures answer { IfOk result (IsAnswer game.now budget) }
     ensures many_visits { most_visits (whole_game game.now) ≤ budget → IfOk result IsDecided }
-    ensures all_positions { (all : ℕ) → CountsAllEnds game.now all → all ≤ M.room memo.old
+    ensures all_positions { (all : ℕ) → CountsAllReachable game.now all → all ≤ M.room memo.old
         → game.now.capacity * all ≤ budget → IfOk result IsDecided }
-    ensures each_pass { (numbers : ℕ → ℕ) → AreNumbersOfEnds game.now numbers → HasRoom game.now (M.room memo.old)
-        → ends_before numbers game.now.capacity ≤ budget → IfOk result IsDecided }
-    ensures won_pass { (numbers : ℕ → ℕ) (pass : ℕ) → AreNumbersOfEnds game.now numbers
+    ensures each_pass { (numbers : ℕ → ℕ) → AreNumbersOfReachable game.now numbers → HasRoom game.now (M.room memo.old)
+        → reachable_before numbers game.now.capacity ≤ budget → IfOk result IsDecided }
+    ensures won_pass { (numbers : ℕ → ℕ) (pass : ℕ) → AreNumbersOfReachable game.now numbers
         → HasRoom game.now (M.room memo.old)
         → IsWon game.now (allowed_in (sizes_of game.now) pass) (empty_position game.now)
-        → ends_before numbers (pass + 1) ≤ budget → IfOk result IsOfAdversary }
+        → reachable_before numbers (pass + 1) ≤ budget → IfOk result IsOfAdversary }
 {
     search_passes(alloc, game, budget, memo)
 }

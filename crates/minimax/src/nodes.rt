@@ -7,13 +7,12 @@ ghost use Rattle.loads.specs.After.{after};
 ghost use Rattle.loads.specs.Loads.{loads_after};
 ghost use Rattle.loads.specs.Position.{position};
 ghost use Rattle.strategy_text.specs.Spelling.{most_nodes};
-ghost use Rattle.strategy_text.specs.declared.node.Format.TheVariants.{One};
 ghost use Rattle.adversary_graph.specs.Nodes.{position_of};
 ghost use Rattle.good_situations.specs.Finish.{Finishes};
-ghost use Rattle.minimax.specs.State.{IsPlayable, PutsWin, PutsReply, PlacesAll, ReplyToAll, MayAct};
+ghost use Rattle.minimax.specs.State.{IsPlain, IsPlayable, PutsWin, PutsReply, PlacesAll, ReplyToAll, MayAct};
 
-use adversary_graph::AdvPool;
-use algorithm_graph::AlgPool;
+use adversary_graph::AdvJudged;
+use algorithm_graph::AlgJudged;
 use items::laws::game_is_legal;
 use items::{Game, Nums};
 use loads::{Loads, Position};
@@ -26,14 +25,14 @@ use transposition::Key;
 /// the sent one, and gives its number.
 pub(crate) fn push_win(
     alloc: Global,
-    wins: &mut AdvPool,
+    wins: &mut AdvJudged,
     position: &Position,
     size: u16,
     placements: Placements,
 ) -> Result<u32, AllocError>
     requires playable { IsPlayable wins.old.game position.now }
     requires may_come { Packable wins.old.game (position.now.items ++ size ∷ []) }
-    requires format { wins.old.format ≡ One }
+    requires format { IsPlain wins.old }
     requires room { length wins.old.nodes < most_nodes }
     requires places { PlacesAll wins.old.game (map position_of wins.old.nodes) position.now size placements }
     ensures { IfOk result (PutsWin wins.old wins.new position.now) }
@@ -57,11 +56,11 @@ pub(crate) fn push_win(
 /// Puts the node of the algorithm that finishes at the position, and gives its number.
 pub(crate) fn push_finish(
     alloc: Global,
-    replies: &mut AlgPool,
+    replies: &mut AlgJudged,
     position: &Position,
 ) -> Result<u32, AllocError>
     requires playable { IsPlayable replies.old.game position.now }
-    requires format { replies.old.format ≡ One }
+    requires format { IsPlain replies.old }
     requires room { length replies.old.nodes < most_nodes }
     requires finishes { Finishes replies.old.game position.now.loads }
     ensures { IfOk result (PutsReply replies.old replies.new position.now) }
@@ -73,13 +72,13 @@ pub(crate) fn push_finish(
 /// first, and gives its number.
 pub(crate) fn push_reply(
     alloc: Global,
-    replies: &mut AlgPool,
+    replies: &mut AlgJudged,
     position: &Position,
     room: u16,
     mut entries: Vec<Entry>,
 ) -> Result<u32, AllocError>
     requires playable { IsPlayable replies.old.game position.now }
-    requires format { replies.old.format ≡ One }
+    requires format { IsPlain replies.old }
     requires room { length replies.old.nodes < most_nodes }
     requires replies { ReplyToAll replies.old.game replies.old.nodes position.now room entries.items }
     ensures { IfOk result (PutsReply replies.old replies.new position.now) }
@@ -103,7 +102,7 @@ fn entries_of(alloc: Global, list: &[Entry]) -> Result<Entries, AllocError>
 // Puts a node of the algorithm, and gives its number.
 fn push_act(
     alloc: Global,
-    replies: &mut AlgPool,
+    replies: &mut AlgJudged,
     position: &Position,
     act: Act,
 ) -> Result<u32, AllocError>

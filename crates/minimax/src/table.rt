@@ -1,7 +1,7 @@
 //! What a search asks its table and puts there.
 
 ghost use Rattle.std.specs.Prelude.{◌≡◌, ◌↔◌, ◌<◌, ℕ, IfOk, IsTrue, OnOk, Some, None, length};
-ghost use Rattle.loads.specs.Packed.{are_equal};
+ghost use Rattle.loads.specs.Position.{are_equal};
 ghost use Rattle.transposition.specs.Bounded.{IsBoundedMap, Puts, SameEntries, bounded};
 ghost use Rattle.transposition.specs.Memo.{verdict_of};
 ghost use Rattle.transposition.specs.declared.verdict.Verdict.TheVariants.{Algorithm};

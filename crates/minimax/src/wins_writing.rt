@@ -9,8 +9,9 @@ ghost use Rattle.minimax.specs.WinsWriting.{MayPutWin, MayWriteWins, WritesWin, 
 use crate::nodes::push_win;
 use crate::reached::reached_from;
 use crate::wins::{Win, Wins};
-use adversary_graph::AdvPool;
+use adversary_graph::AdvJudged;
 use items::Game;
+use node_pool::Terms;
 use std::alloc::{AllocError, Global};
 use strategy_text::{Format, Placement, Placements, Strategy, Then};
 
@@ -27,7 +28,7 @@ pub(crate) fn write_wins(
     ensures for_game { IfOk result (IsFor game.now (length wins.now)) }
 {
     let marks = reached_from(alloc, wins, root)?;
-    let mut pool = AdvPool::new(alloc, game, Format::One);
+    let mut pool = AdvJudged::new(alloc, Terms::of_game(Format::One, game));
     let mut numbers = Vec::new(alloc);
     for k in 0..marks.len() {
         let win = &wins.as_slice()[k];
@@ -40,7 +41,7 @@ pub(crate) fn write_wins(
 // Puts the node of a win where that is reached, and gives its number; else 0.
 fn write_win(
     alloc: Global,
-    pool: &mut AdvPool,
+    pool: &mut AdvJudged,
     numbers: &[u32],
     win: &Win,
     reached: bool,

@@ -8,10 +8,11 @@ ghost use Rattle.minimax.specs.Writing.{MayPut, MayWrite, Puts};
 use crate::finish_nodes::FinishNodes;
 use crate::naming::{node_number, put_reply};
 use crate::replies::{Replies, Reply};
-use algorithm_graph::AlgPool;
+use algorithm_graph::AlgJudged;
 use items::Game;
 use items::laws::game_is_legal;
 use loads::Position;
+use node_pool::Terms;
 use std::alloc::{AllocError, Global};
 use strategy_text::{Format, Strategy};
 
@@ -19,7 +20,7 @@ use strategy_text::{Format, Strategy};
 #[derive(Drop)]
 pub(crate) struct Written {
     pub(crate) alloc: Global,
-    pub(crate) pool: AlgPool,
+    pub(crate) pool: AlgJudged,
     /// The numbers of the nodes that finish, by their positions.
     pub(crate) finishes: FinishNodes,
     /// The numbers of the nodes that reply, by those of the replies.
@@ -42,7 +43,7 @@ pub(crate) fn write_replies(
 {
     let mut written = Written {
         alloc,
-        pool: AlgPool::new(alloc, game, Format::One),
+        pool: AlgJudged::new(alloc, Terms::of_game(Format::One, game)),
         finishes: FinishNodes::new(alloc),
         numbers: Vec::new(alloc),
     };

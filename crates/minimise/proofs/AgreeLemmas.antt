@@ -6,7 +6,7 @@ use Rattle.std.proofs.lemmas.List.{get_or-map, length-map, same_lists}
 use Rattle.std.proofs.lemmas.List.Elements.{All-contains, All-contains_itself, All-weaker, Contains-get_or}
 use Rattle.std.proofs.lemmas.Option.{get_or_from_slice_get, slice_get-get_or, slice_get_within}
 use Rattle.std.proofs.lemmas.Simd.{map-map}
-use Rattle.loads.specs.Packed.{are_equal}
+use Rattle.loads.specs.Position.{are_equal}
 use Rattle.loads.specs.Position.{IsEmptyPosition}
 use Rattle.loads.specs.declared.position.Position.{Position}
 use Rattle.minimise.specs.Agree.{Agree}

@@ -1,13 +1,11 @@
--- Legal nodes of the algorithm: positions of the game, references back, and the rules after a renaming.
-use Rattle.std.proofs.Common.{◌≡◌, ◌↔◌, ◌⊎◌, ℕ, ◌-◌, ◌++◌, ◌<◌, ◌≤◌, Bool, IsTrue, List, [], ◌∷◌, length, map, take, get_or, refl, sym, ap, ◌∙◌}
-use Rattle.std.proofs.Common.{subst, arith, inl, inr}
-use Rattle.std.specs.Prelude.{All, Contains, slice_get}
-use Rattle.std.proofs.lemmas.List.{get_or-map, length-map, length-take-le}
-use Rattle.std.proofs.lemmas.List.Elements.{All-map, All-nil, All-weaker, Contains-get_or}
-use Rattle.std.proofs.lemmas.Option.{slice_get-map, slice_get_within}
+-- Nodes of the algorithm as nodes of a side: references to earlier nodes, and the rules after a renaming.
+use Rattle.std.proofs.Common.{◌≡◌, ◌↔◌, ℕ, ◌++◌, ◌<◌, Bool, IsTrue, List, [], ◌∷◌, length, map, get_or, refl, sym, ap, ◌∙◌}
+use Rattle.std.proofs.Common.{subst}
+use Rattle.std.specs.Prelude.{All, Contains}
+use Rattle.std.proofs.lemmas.List.Elements.{All-map, All-nil, Contains-get_or}
+use Rattle.std.proofs.lemmas.Option.{slice_get_within}
 use Rattle.std.proofs.lemmas.Simd.{map-map}
 use Rattle.items.specs.Game.{GameNumbers}
-use Rattle.items.specs.Multiset.{sizes_of}
 use Rattle.items.specs.Packable.{Packable}
 use Rattle.loads.specs.After.{after}
 use Rattle.loads.specs.Position.{IsEmptyPosition, StandsAt, position}
@@ -18,63 +16,27 @@ use Rattle.strategy_text.specs.declared.node.AlgNode.{AlgNode}
 use Rattle.strategy_text.specs.declared.node.Format.TheVariants.{One, Two}
 use Rattle.strategy_text.specs.declared.node.Entry.{Entry}
 use Rattle.strategy_text.specs.declared.node.Format.{Format}
-use Rattle.strategy_text.specs.declared.node.Nodes.{Nodes}
-use Rattle.strategy_text.specs.declared.node.Nodes.TheVariants.{Adversary, Algorithm}
-use Rattle.adversary_graph.specs.Pools as adversary
-use Rattle.algorithm_graph.specs.Judging.{HasPosition, node_at}
-use Rattle.algorithm_graph.specs.Legal.{EachMeetsRules, IsLegal}
+use Rattle.node_pool.specs.Terms.{Terms}
+use Rattle.algorithm_graph.specs.Judging.{node_at}
+use Rattle.algorithm_graph.specs.Legal.{IsNodeOfFormat, MeetsRulesUnder}
+use Rattle.algorithm_graph.specs.NodesAreJudged.{root_is_asked_last, rules_give_a_position}
 use Rattle.algorithm_graph.specs.Nodes.{IsOfFormat, entries_of, position_of}
 use Rattle.algorithm_graph.specs.Rules.{IsStrictlyAscending, MeetsRules, NamesLoad, ReplyToEach}
-use Rattle.algorithm_graph.specs.Pools as algorithm
-use Rattle.items.proofs.ListLemmas.{mapped}
-use Rattle.algorithm_graph.proofs.PoolLemmas.{IsPool-from_legal, each_has_position, root_of_legal}
-use Rattle.minimise.specs.Nodes.{IsPositionOf, LeadBack}
 use Rattle.minimise.specs.References.{algorithm_references, renamed_act, renamed_algorithm, renamed_entry}
-use Rattle.minimise.specs.Canonical.{canonical}
-use Rattle.minimise.proofs.AgreeLemmas.{empty_positions, form_agrees, one_form}
-use Rattle.minimise.proofs.FormLemmas.{IsForm, legal_form, map_alike}
-use Rattle.minimise.proofs.KeptLemmas.{IsGraph, graph_of, position_of_last}
-use Rattle.minimise.specs.Agree.{Agree}
+use Rattle.minimise.proofs.FormLemmas.{map_alike}
+use Rattle.minimise.proofs.SideLemmas.{IsSide}
 use Rattle.minimise.proofs.NodeLemmas.{map_at}
 use Rattle.minimise.proofs.FirstsLemmas.{Contains-map}
-use Rattle.minimise.proofs.RepresentativeLemmas.{no_position}
 
--- the nodes of a legal strategy that are the algorithm's are legal
-pub legal_algorithm : (format : Format) (game : GameNumbers) (all : Nodes) (nodes : List AlgNode)
-    → adversary.AreLegal format game all ⊎ algorithm.AreLegal format game all → all ≡ Algorithm nodes → IsLegal format game (sizes_of game) nodes
-legal_algorithm format game all nodes legal is = by (Algorithm nodes) refl (subst (λ some. adversary.AreLegal format game some ⊎ algorithm.AreLegal format game some) is legal)
-  where
-    by : (some : Nodes) → some ≡ Algorithm nodes → adversary.AreLegal format game some ⊎ algorithm.AreLegal format game some → IsLegal format game (sizes_of game) nodes
-    by (Algorithm list) e (inr h) = (let same : list ≡ nodes = cc in subst (IsLegal format game (sizes_of game)) same h)
-    by (Algorithm list) e (inl h) = absurd h
-    by (Adversary list) e h = cc
-
-pub algorithm_positions : (format : Format) (game : GameNumbers) (nodes : List AlgNode) → IsLegal format game (sizes_of game) nodes
-    → All (λ node. IsPositionOf game (position_of node)) nodes
-algorithm_positions format game nodes legal =
-    All-weaker (HasPosition game) (λ node. IsPositionOf game (position_of node)) (λ node h. record { loads = h.loads; items = h.items }) nodes
-    (each_has_position format game nodes (IsPool-from_legal format game nodes legal))
-
-pub algorithm_leads_back : (format : Format) (game : GameNumbers) (sizes : List ℕ) (nodes : List AlgNode) → IsLegal format game sizes nodes
-    → LeadBack (map algorithm_references nodes)
-unfolding EachMeetsRules
-algorithm_leads_back format game sizes nodes legal number children e =
-    let found = mapped algorithm_references (slice_get nodes number) children (sym (slice_get-map algorithm_references nodes number) ∙ e) in
-    let node = found.0 in
-    let earlier = map position_of (take number nodes) in
-    let few : length earlier ≤ number = omega (
-      arith,
-      length-map (take number nodes) position_of,
-      length-take-le number nodes (omega (arith, slice_get_within nodes number node found.1)),
-    ) in
-    let rules = legal.each number node found.1 in
-    subst (All (λ child. child < number)) found.2
-    (All-map (λ child. child < number) (λ (entry : Entry). entry.to) (entries_of node.act)
-    (λ k d l. omega (arith, slice_get_within earlier (get_or (entries_of node.act) k d).to _ (rules.1.1.1.1.1.1.0 k d l), few)))
+references_before : (terms : Terms) (earlier : List Position) (last : Bool) (node : AlgNode) → MeetsRulesUnder terms earlier last node
+    → All (λ child. child < length earlier) (algorithm_references node)
+references_before terms earlier last node m =
+    All-map (λ child. child < length earlier) (λ (entry : Entry). entry.to) (entries_of node.act)
+    (λ k d l. slice_get_within earlier (get_or (entries_of node.act) k d).to _ (m.1.1.1.1.1.1.0 k d l))
 
 -- ---- a renaming
 
-pub algorithm_renames : (name : ℕ → ℕ) (node : AlgNode) → algorithm_references (renamed_algorithm name node) ≡ map name (algorithm_references node)
+algorithm_renames : (name : ℕ → ℕ) (node : AlgNode) → algorithm_references (renamed_algorithm name node) ≡ map name (algorithm_references node)
 algorithm_renames name node = by node.act
   where
     by : (act : Act) → map (λ (entry : Entry). entry.to) (entries_of (renamed_act name act)) ≡ map name (map (λ (entry : Entry). entry.to) (entries_of act))
@@ -113,43 +75,7 @@ of_format_renamed name One (Big b) h = h
 of_format_renamed name One (Reply entries) h = h
 of_format_renamed name Two act h = h
 
--- ---- the canonical form
-
--- what holds of the canonical form of a legal strategy of the algorithm
-abbrev pub IsAlgorithmForm : Format → GameNumbers → List AlgNode → List AlgNode → Type 0
-IsAlgorithmForm format game nodes form =
-    IsForm position_of algorithm_references (MeetsRules game (sizes_of game)) (λ (node : AlgNode). IsOfFormat format node.act) nodes form
-
-last_is_empty : (format : Format) (game : GameNumbers) (nodes : List AlgNode) → IsLegal format game (sizes_of game) nodes
-    → IsEmptyPosition (get_or (map position_of nodes) (length (map position_of nodes) - 1) no_position)
-last_is_empty format game nodes legal =
-    let root = root_of_legal format game nodes legal in
-    subst IsEmptyPosition (sym (position_of_last position_of nodes root.0 root.1)) root.2
-
-pub algorithm_graph_of : (format : Format) (game : GameNumbers) (nodes : List AlgNode) → IsLegal format game (sizes_of game) nodes
-    → IsGraph (map position_of nodes) (map algorithm_references nodes)
-algorithm_graph_of format game nodes legal =
-    graph_of position_of algorithm_references nodes legal.low (algorithm_leads_back format game (sizes_of game) nodes legal)
-
-pub algorithm_form : (format : Format) (game : GameNumbers) (nodes : List AlgNode) → IsLegal format game (sizes_of game) nodes
-    → IsAlgorithmForm format game nodes (canonical position_of algorithm_references renamed_algorithm nodes)
-unfolding EachMeetsRules
-algorithm_form format game nodes legal =
-    legal_form position_of algorithm_references renamed_algorithm (λ name node. refl) algorithm_renames (MeetsRules game (sizes_of game))
-    (λ (node : AlgNode). IsOfFormat format node.act) nodes (node_at (position [] []) Finish)
-    (algorithm_graph_of format game nodes legal)
-    (λ name earlier later last final node. meets_renamed name game (sizes_of game) earlier later last final node.loads node.items node.act)
-    (λ name node. of_format_renamed name format node.act)
-    legal.each legal.formed (last_is_empty format game nodes legal)
-
-pub algorithm_form_legal : (format : Format) (game : GameNumbers) (nodes : List AlgNode) → IsLegal format game (sizes_of game) nodes
-    → IsLegal format game (sizes_of game) (canonical position_of algorithm_references renamed_algorithm nodes)
-unfolding EachMeetsRules
-algorithm_form_legal format game nodes legal =
-    let form = algorithm_form format game nodes legal in
-    record { of_game = legal.of_game; low = form.some; high = omega (arith, form.few, legal.high); formed = form.formed; each = form.each }
-
--- ---- strategies that agree
+-- ---- one renaming after another, and two that are alike
 
 act_twice : (name again : ℕ → ℕ) (act : Act) → renamed_act again (renamed_act name act) ≡ renamed_act (λ child. again (name child)) act
 act_twice name again Finish = refl
@@ -171,29 +97,18 @@ alike : (name another : ℕ → ℕ) (node : AlgNode) → All (λ child. name ch
     → renamed_algorithm name node ≡ renamed_algorithm another node
 alike name another node all = ap (node_at (position node.loads node.items)) (act_alike name another node.act all)
 
-last_loads : (format : Format) (game : GameNumbers) (nodes : List AlgNode) → IsLegal format game (sizes_of game) nodes
-    → length (get_or (map position_of nodes) (length (map position_of nodes) - 1) no_position).loads ≡ game.bins
-last_loads format game nodes legal =
-    let last : ℕ = length (map position_of nodes) - 1 in
-    let none = node_at no_position Finish in
-    let within : last < length nodes = omega (arith, legal.low, length-map nodes position_of) in
-    ap (λ (p : Position). length p.loads) (get_or-map position_of nodes last none no_position within)
-    ∙ (algorithm_positions format game nodes legal last none within).loads.one_each
+-- ---- the side
 
-pub algorithm_agree : (format another : Format) (game : GameNumbers) (one other : List AlgNode) → IsLegal format game (sizes_of game) one
-    → IsLegal another game (sizes_of game) other → Agree position_of algorithm_references renamed_algorithm one other
-    → canonical position_of algorithm_references renamed_algorithm one ≡ canonical position_of algorithm_references renamed_algorithm other
-algorithm_agree format another game one other legal also agree =
-    one_form position_of algorithm_references renamed_algorithm (λ name node. refl) algorithm_renames twice alike one other
-    (algorithm_graph_of format game one legal) (algorithm_graph_of another game other also) (node_at no_position Finish)
-    (empty_positions _ _ game.bins (last_is_empty format game one legal) (last_is_empty another game other also)
-    (last_loads format game one legal) (last_loads another game other also))
-    agree
-
-pub algorithm_again : (format : Format) (game : GameNumbers) (nodes : List AlgNode) → IsLegal format game (sizes_of game) nodes
-    → canonical position_of algorithm_references renamed_algorithm (canonical position_of algorithm_references renamed_algorithm nodes)
-    ≡ canonical position_of algorithm_references renamed_algorithm nodes
-algorithm_again format game nodes legal =
-    let graph = algorithm_graph_of format game nodes legal in
-    sym (algorithm_agree format format game nodes (canonical position_of algorithm_references renamed_algorithm nodes) legal (algorithm_form_legal format game nodes legal)
-    (form_agrees position_of algorithm_references renamed_algorithm (λ name node. refl) algorithm_renames nodes graph (node_at no_position Finish)))
+pub algorithm_side : IsSide position_of algorithm_references renamed_algorithm IsNodeOfFormat MeetsRulesUnder
+algorithm_side = record {
+  asked = root_is_asked_last;
+  give = rules_give_a_position;
+  before = references_before;
+  keeps = λ name node. refl;
+  renames = algorithm_renames;
+  twice = twice;
+  alike = alike;
+  meets = λ terms name earlier later last final node. meets_renamed name terms.game terms.sizes earlier later last final node.loads node.items node.act;
+  formed = λ format name node. of_format_renamed name format node.act;
+  some = node_at (position [] []) Finish;
+}

@@ -6,6 +6,7 @@ pub mod OrderLemmas
 pub mod NodeLemmas
 pub mod FormLemmas
 pub mod AgreeLemmas
+pub mod SideLemmas
 pub mod AdversaryLemmas
 pub mod AlgorithmLemmas
 pub mod KeptLemmas

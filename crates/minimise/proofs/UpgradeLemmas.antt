@@ -1,6 +1,6 @@
 -- An upgrade of a legal strategy is legal.
 use Rattle.std.proofs.Common.{◌≡◌, ℕ, zero, suc, ◌+◌, ◌-◌, ◌/◌, ◌<◌, ◌≤◌, Bool, List, [], ◌∷◌, ◌++◌, Some, length, get_or, map, take, replicate, eqb}
-use Rattle.std.proofs.Common.{Result, Ok, Err, arith, refl, ap, sym, subst, ◌∙◌, inl, inr, ◌⊎◌}
+use Rattle.std.proofs.Common.{Result, Ok, Err, arith, refl, ap, sym, subst, ◌∙◌, inl, inr}
 use Rattle.std.specs.Result.{IfOk}
 use Rattle.std.specs.List.{All, AllZip, Contains, slice_get}
 use Rattle.std.proofs.Math.Nat.{div-eq_of_lt}
@@ -16,6 +16,7 @@ use Rattle.loads.specs.Descending.{distinct}
 use Rattle.loads.specs.Position.{position}
 use Rattle.loads.specs.declared.position.Position.{Position}
 use Rattle.loads.proofs.DistinctLemmas.{Contains-distinct}
+use Rattle.strategy_text.specs.Text.{nodes_of, of_adversary, of_algorithm, side_of}
 use Rattle.strategy_text.specs.declared.node.Act.{Act}
 use Rattle.strategy_text.specs.declared.node.Act.TheVariants.{Finish, Big, Reply}
 use Rattle.strategy_text.specs.declared.node.AdvNode.{AdvNode}
@@ -31,7 +32,6 @@ use Rattle.strategy_text.specs.declared.node.Step.TheVariants.{Send, Burst}
 use Rattle.adversary_graph.specs.Judging.{node_at}
 use Rattle.adversary_graph.specs.Legal as adversary_legal
 use Rattle.adversary_graph.specs.Nodes as adversary
-use Rattle.adversary_graph.specs.Pools as adversary_pools
 use Rattle.adversary_graph.specs.Rules as adversary_rules
 use Rattle.adversary_graph.specs.Rules.{IsOver, IsOverAtTarget, LeadsTo, most_below_target}
 use Rattle.items.proofs.SizesLemmas.{sizes_are_sizes}
@@ -40,8 +40,9 @@ use Rattle.adversary_graph.proofs.WonLemmas.{EachFollows-from_legal, packable_no
 use Rattle.algorithm_graph.specs.Judging as algorithm_judging
 use Rattle.algorithm_graph.specs.Legal as algorithm_legal
 use Rattle.algorithm_graph.specs.Nodes as algorithm
-use Rattle.algorithm_graph.specs.Pools as algorithm_pools
 use Rattle.algorithm_graph.specs.Rules as algorithm_rules
+use Rattle.strategies.specs.AnyNode.{AreLegalNodes}
+use Rattle.minimise.specs.Laws.{UpgradesAreLegal}
 use Rattle.minimise.specs.Strategies.{canonical_form}
 use Rattle.minimise.specs.Upgrade.{IsCanonicalUpgrade, IsUpgradeOf}
 use Rattle.minimise.specs.Upgrade.{UpgradesAct, UpgradesAdversary, UpgradesAlgorithm, UpgradesNodes, UpgradesStep, least_burst}
@@ -176,7 +177,6 @@ adversary_meets format game earlier last loads items (Burst times size pack) new
 
 adversary_upgrade : (format : Format) (game : GameNumbers) (nodes news : List AdvNode) → adversary_legal.IsLegal format game (sizes_of game) nodes
     → AllZip (UpgradesAdversary game) nodes news → adversary_legal.IsLegal Two game (sizes_of game) news
-unfolding adversary_legal.EachMeetsRules
 adversary_upgrade format game nodes news legal zip =
     let sizes = sizes_of game in
     let R = UpgradesAdversary game in
@@ -238,7 +238,6 @@ algorithm_meets game earlier last loads items (Reply entries) new m (inl big) =
 
 algorithm_upgrade : (format : Format) (game : GameNumbers) (nodes news : List AlgNode) → algorithm_legal.IsLegal format game (sizes_of game) nodes
     → AllZip (UpgradesAlgorithm game) nodes news → algorithm_legal.IsLegal Two game (sizes_of game) news
-unfolding algorithm_legal.EachMeetsRules
 algorithm_upgrade format game nodes news legal zip =
     let sizes = sizes_of game in
     let R = UpgradesAlgorithm game in
@@ -263,21 +262,36 @@ algorithm_upgrade format game nodes news legal zip =
 
 -- ---- of either side
 
-abbrev AreLegal : Format → GameNumbers → Nodes → Type 0
-AreLegal format game nodes = adversary_pools.AreLegal format game nodes ⊎ algorithm_pools.AreLegal format game nodes
-
-pub upgrade_is_legal : (format : Format) (game : GameNumbers) (nodes news : Nodes) → AreLegal format game nodes → UpgradesNodes game nodes news → AreLegal Two game news
-upgrade_is_legal format game (Adversary nodes) (Adversary news) (inl legal) zip = inl (adversary_upgrade format game nodes news legal zip)
-upgrade_is_legal format game (Adversary nodes) (Adversary news) (inr never) zip = absurd never
+pub upgrade_is_legal : (format : Format) (game : GameNumbers) (nodes news : Nodes) → AreLegalNodes format game (sizes_of game) nodes → UpgradesNodes game nodes news
+    → AreLegalNodes Two game (sizes_of game) news
+upgrade_is_legal format game (Adversary nodes) (Adversary news) legal zip = adversary_upgrade format game nodes news legal zip
 upgrade_is_legal format game (Adversary nodes) (Algorithm news) legal zip = absurd zip
 upgrade_is_legal format game (Algorithm nodes) (Adversary news) legal zip = absurd zip
-upgrade_is_legal format game (Algorithm nodes) (Algorithm news) (inl never) zip = absurd never
-upgrade_is_legal format game (Algorithm nodes) (Algorithm news) (inr legal) zip = inr (algorithm_upgrade format game nodes news legal zip)
+upgrade_is_legal format game (Algorithm nodes) (Algorithm news) legal zip = algorithm_upgrade format game nodes news legal zip
+
+pub upgrades_are_legal : UpgradesAreLegal
+upgrades_are_legal strategy upgraded legal of =
+    let news = upgrade_is_legal strategy.format strategy.game strategy.nodes upgraded.nodes legal of.nodes in
+    subst (λ (f : Format). AreLegalNodes f upgraded.game (sizes_of upgraded.game) upgraded.nodes) (sym of.format)
+    (subst (λ (g : GameNumbers). AreLegalNodes Two g (sizes_of g) upgraded.nodes) (sym of.game) news)
+
+pub upgrade_side : (game : GameNumbers) (nodes news : Nodes) → UpgradesNodes game nodes news → side_of news ≡ side_of nodes
+upgrade_side game (Adversary nodes) (Adversary news) zip = refl
+upgrade_side game (Adversary nodes) (Algorithm news) zip = absurd zip
+upgrade_side game (Algorithm nodes) (Adversary news) zip = absurd zip
+upgrade_side game (Algorithm nodes) (Algorithm news) zip = refl
+
+pub upgrade_number : (game : GameNumbers) (nodes news : Nodes) → UpgradesNodes game nodes news → length (nodes_of news) ≡ length (nodes_of nodes)
+upgrade_number game (Adversary nodes) (Adversary news) zip =
+    omega (arith, length_all_zip (UpgradesAdversary game) nodes news zip, length-map nodes of_adversary, length-map news of_adversary)
+upgrade_number game (Adversary nodes) (Algorithm news) zip = absurd zip
+upgrade_number game (Algorithm nodes) (Adversary news) zip = absurd zip
+upgrade_number game (Algorithm nodes) (Algorithm news) zip =
+    omega (arith, length_all_zip (UpgradesAlgorithm game) nodes news zip, length-map nodes of_algorithm, length-map news of_algorithm)
 
 -- ---- what is asked of the nodes
 
 adversary_can : (format : Format) (game : GameNumbers) (nodes : List AdvNode) → adversary_legal.IsLegal format game (sizes_of game) nodes → All (CanUpgradeAdversary game) nodes
-unfolding adversary_legal.EachMeetsRules
 adversary_can format game nodes legal k d l =
     let sizes = sizes_of game in
     let node = get_or nodes k d in
@@ -289,7 +303,6 @@ adversary_can format game nodes legal k d l =
     }
 
 algorithm_can : (format : Format) (game : GameNumbers) (nodes : List AlgNode) → algorithm_legal.IsLegal format game (sizes_of game) nodes → All (CanUpgradeAlgorithm game) nodes
-unfolding algorithm_legal.EachMeetsRules
 algorithm_can format game nodes legal k d l =
     let sizes = sizes_of game in
     let node = get_or nodes k d in
@@ -299,11 +312,9 @@ algorithm_can format game nodes legal k d l =
       items = multiset_from_items game sizes node.loads node.items legal.of_game (sizes_are_sizes game) m.0 m.1.0;
     }
 
-pub legal_can_upgrade : (format : Format) (game : GameNumbers) (nodes : Nodes) → AreLegal format game nodes → CanUpgradeNodes game nodes
-legal_can_upgrade format game (Adversary nodes) (inl legal) = adversary_can format game nodes legal
-legal_can_upgrade format game (Adversary nodes) (inr never) = absurd never
-legal_can_upgrade format game (Algorithm nodes) (inl never) = absurd never
-legal_can_upgrade format game (Algorithm nodes) (inr legal) = algorithm_can format game nodes legal
+pub legal_can_upgrade : (format : Format) (game : GameNumbers) (nodes : Nodes) → AreLegalNodes format game (sizes_of game) nodes → CanUpgradeNodes game nodes
+legal_can_upgrade format game (Adversary nodes) legal = adversary_can format game nodes legal
+legal_can_upgrade format game (Algorithm nodes) legal = algorithm_can format game nodes legal
 
 -- the canonical form of an upgrade
 pub canonical_upgrade : {E : Type 0} (strategy raised : Strategy) (r : Result Strategy E) → IsUpgradeOf strategy raised

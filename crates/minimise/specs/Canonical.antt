@@ -2,7 +2,7 @@
 -- each other: the least-numbered one does.
 use Rattle.std.specs.Prelude.{ℕ, zero, suc, ◌-◌, ◌==◌, not, List, [], ◌∷◌, ◌++◌, length, map, slice_get, slice_index}
 use Rattle.std.specs.List.{filter, filter_map, flat_map, position_or_len, slice_index_or}
-use Rattle.loads.specs.Packed.{are_equal}
+use Rattle.loads.specs.Position.{are_equal}
 use Rattle.loads.specs.declared.position.Position.{Position}
 
 -- the representative of each node: the least number at which its position stands

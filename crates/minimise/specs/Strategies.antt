@@ -1,19 +1,13 @@
--- The canonical form of a strategy of either side, and what is said of one.
-use Rattle.std.specs.Prelude.{ℕ, ◌⊎◌, List, map}
+-- The canonical form of a strategy of either side, and the positions and references of its nodes.
+use Rattle.std.specs.Prelude.{ℕ, List, map}
 use Rattle.loads.specs.declared.position.Position.{Position}
 use Rattle.strategy_text.specs.declared.node.Nodes.{Nodes}
 use Rattle.strategy_text.specs.declared.node.Nodes.TheVariants.{Adversary, Algorithm}
 use Rattle.strategy_text.specs.declared.node.Strategy.{Strategy}
 use Rattle.adversary_graph.specs.Nodes as adversary
-use Rattle.adversary_graph.specs.Pools.{IsLegalOfAdversary}
 use Rattle.algorithm_graph.specs.Nodes as algorithm
-use Rattle.algorithm_graph.specs.Pools.{IsLegalOfAlgorithm}
 use Rattle.minimise.specs.Canonical.{canonical}
 use Rattle.minimise.specs.References.{adversary_references, renamed_adversary, algorithm_references, renamed_algorithm}
-
--- a legal strategy of either side
-abbrev pub IsLegal : Strategy → Type 0
-IsLegal strategy = IsLegalOfAdversary strategy ⊎ IsLegalOfAlgorithm strategy
 
 -- the canonical form of the nodes of either side
 abbrev pub canonical_nodes : Nodes → Nodes

@@ -99,7 +99,7 @@ fn renumbered_step(step: &Step, numbers: &[u32]) -> Result<Step, AllocError>
     }
 }
 
-// The same packing, if there is one.
+// A copy of the packing, if there is one.
 fn copy_of(pack: &Option<Packing>) -> Result<Option<Packing>, AllocError>
     ensures { IfOk result (λ made. made ≡ pack.now) }
 {

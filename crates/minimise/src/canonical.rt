@@ -4,11 +4,13 @@ ghost use Rattle.std.specs.Prelude.{◌≡◌, ◌+◌, ◌<◌, ◌≤◌, ◌+
 ghost use Rattle.std.specs.List.{filter_map};
 ghost use Rattle.strategy_text.specs.Spelling.{most_nodes};
 ghost use Rattle.strategy_text.specs.Text.{nodes_of, side_of};
+ghost use Rattle.node_pool.specs.Pools.{IsPositionOf};
+ghost use Rattle.strategies.specs.AnyNode.{IsLegal};
 ghost use Rattle.minimise.specs.Canonical.{canonical, firsts, leads, place, representatives, walk};
-ghost use Rattle.minimise.specs.Nodes.{IsPositionOf, LeadBack};
+ghost use Rattle.minimise.specs.Nodes.{LeadBack};
 ghost use Rattle.minimise.specs.Ordering.{IsOrdered, ordering};
 ghost use Rattle.minimise.specs.Reached.{AreDistinct, AreReached};
-ghost use Rattle.minimise.specs.Strategies.{IsLegal, canonical_form, canonical_nodes, positions_in, references_in};
+ghost use Rattle.minimise.specs.Strategies.{canonical_form, canonical_nodes, positions_in, references_in};
 
 use crate::node::Node;
 use crate::order::Order;

@@ -1,7 +1,21 @@
 //! Laws of the canonical form, as contracts of functions that do nothing.
 
-ghost use Rattle.minimise.specs.Laws.{CanonicalFormsStay, CanonicalFormsHaveNoMoreNodes};
-ghost use Rattle.minimise.specs.Laws.{AgreeingStrategiesHaveOneForm};
+ghost use Rattle.minimise.specs.Laws.{AgreeingStrategiesHaveOneForm, CanonicalFormsAreLegal, CanonicalFormsAreReached};
+ghost use Rattle.minimise.specs.Laws.{CanonicalFormsHaveDistinctPositions, CanonicalFormsHaveNoMoreNodes};
+ghost use Rattle.minimise.specs.Laws.{CanonicalFormsStay, UpgradesAreLegal};
+
+/// The canonical form of a legal strategy is legal, its positions are distinct, and each of its nodes is reached from
+/// the root.
+pub fn canonical_forms_are_legal()
+    ensures legal { CanonicalFormsAreLegal }
+    ensures distinct { CanonicalFormsHaveDistinctPositions }
+    ensures reached { CanonicalFormsAreReached }
+{}
+
+/// An upgrade of a legal strategy is legal.
+pub fn upgrades_are_legal()
+    ensures legal { UpgradesAreLegal }
+{}
 
 /// The canonical form of a canonical form is itself.
 pub fn canonical_forms_stay()

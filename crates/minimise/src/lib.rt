@@ -5,7 +5,6 @@
 mod adversary;
 mod algorithm;
 mod canonical;
-mod copies;
 pub mod laws;
 mod node;
 mod order;

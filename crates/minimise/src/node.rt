@@ -5,7 +5,7 @@ ghost use Rattle.items.specs.Multiset.{IsMultiset};
 ghost use Rattle.loads.specs.Loads.{IsLoads};
 ghost use Rattle.loads.specs.Position.{position};
 ghost use Rattle.loads.specs.declared.position.Position.{Position};
-ghost use Rattle.minimise.specs.Nodes.{IsPositionOf};
+ghost use Rattle.node_pool.specs.Pools.{IsPositionOf};
 
 use items::{Game, Items, Nums};
 use loads::{Loads, PackedPosition};

@@ -3,11 +3,11 @@
 ghost use Rattle.std.specs.Prelude.{◌≡◌, ◌≤◌, All, IfOk, OnOk, None, Some, if◌then◌else◌, length, map, unwrap_or};
 ghost use Rattle.std.specs.Option.{option_or};
 ghost use Rattle.indexmap.specs.IndexMap.{get};
-ghost use Rattle.loads.specs.Packed.{are_equal};
+ghost use Rattle.loads.specs.Position.{are_equal};
 ghost use Rattle.loads.specs.declared.position.Position.{Position};
 ghost use Rattle.strategy_text.specs.Spelling.{most_nodes};
 ghost use Rattle.minimise.specs.Canonical.{representatives};
-ghost use Rattle.minimise.specs.Nodes.{IsPositionOf};
+ghost use Rattle.node_pool.specs.Pools.{IsPositionOf};
 
 use crate::node::Node;
 use indexmap::IndexMap;

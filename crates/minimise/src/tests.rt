@@ -1,7 +1,12 @@
 //! Worked strategies and their canonical forms.
 
 ghost use Rattle.std.specs.Prelude.{◌≡◌};
+ghost use Rattle.items.specs.Multiset.{sizes_of};
 ghost use Rattle.strategy_text.specs.declared.node.Format.TheVariants.{Two};
+ghost use Rattle.node_pool.specs.Pools.{terms_in};
+ghost use Rattle.adversary_graph.specs.Pools as adversary;
+ghost use Rattle.algorithm_graph.specs.Pools as algorithm;
+ghost use Rattle.strategies.specs.AnyNode.{IsLegal};
 
 use crate::minimise;
 use adversary_graph::AdvPool;
@@ -10,7 +15,8 @@ use items::Game;
 use std::alloc::{AllocError, Global};
 use std::test::Fail;
 use strategy_text::{
-    Act, AdvNode, AlgNode, Entry, Format, Nodes, Placement, Step, parse_adversary, parse_algorithm,
+    Act, AdvNode, AlgNode, Entry, Format, Nodes, Placement, Step, Strategy, parse_adversary,
+    parse_algorithm,
 };
 
 const X: &[&str] = &[
@@ -101,12 +107,14 @@ fn of_adversary(
     }
     let root = pool.len().saturating_sub(1);
     assert!(rt; pool.is_root(root));
-    let made = minimise(rt.alloc(), &pool.into_strategy(root))?;
+    let made = minimise(rt.alloc(), &adversary_strategy(pool, root))?;
     Ok(are_adversary(rt.alloc(), format, &made.nodes, due)?)
 }
 
 // Puts the node of a line at the end of a pool; whether it meets its rules there.
-fn put_adversary(alloc: Global, pool: &mut AdvPool, line: &str) -> Result<bool, AllocError> {
+fn put_adversary(alloc: Global, pool: &mut AdvPool, line: &str) -> Result<bool, AllocError>
+    ensures { terms_in pool.new ≡ terms_in pool.old }
+{
     let format = pool.format();
     let Some(node) = parse_adversary(alloc, format, line.as_bytes(), pool.len())? else {
         return Ok(false);
@@ -114,13 +122,22 @@ fn put_adversary(alloc: Global, pool: &mut AdvPool, line: &str) -> Result<bool, 
     if pool.len() >= 4_000_000_000 {
         return Ok(false);
     }
-    match adversary_graph::node_fault(&pool.game(), format, pool.positions(), false, &node) {
+    match adversary_graph::judge(pool.terms(), pool.positions(), false, &node) {
         Some(_) => Ok(false),
         None => {
             pool.push(node)?;
             Ok(true)
         }
     }
+}
+
+// The strategy of a pool of the whole game.
+fn adversary_strategy(pool: AdvPool, root: u32) -> Strategy
+    requires root { adversary.IsRoot pool.nodes root }
+    requires whole { pool.sizes ≡ sizes_of pool.game }
+    ensures { IsLegal result }
+{
+    pool.into_strategy(root)
 }
 
 // Whether the canonical form of the strategy of these nodes for the game 2 2 3 has the nodes that are due.
@@ -131,32 +148,50 @@ fn of_algorithm(
 ) -> Result<bool, Fail> {
     let mut pool = AlgPool::new(rt.alloc(), &Game::new(2, 2, 3)?, Format::Two);
     for line in lines {
-        let node = parse_algorithm(rt.alloc(), Format::Two, line.as_bytes(), pool.len())?;
-        assert!(rt; put_algorithm(rt.alloc(), &mut pool, node.expect(rt, "a node"))?);
+        assert!(rt; put_algorithm(rt.alloc(), &mut pool, line)?);
     }
     let root = pool.len().saturating_sub(1);
     assert!(rt; pool.is_root(root));
-    let made = minimise(rt.alloc(), &pool.into_strategy(root))?;
+    let made = minimise(rt.alloc(), &algorithm_strategy(pool, root))?;
     Ok(are_algorithm(rt.alloc(), &made.nodes, due)?)
 }
 
-// Puts a node at the end of a pool of format 2; whether it meets its rules there.
-fn put_algorithm(alloc: Global, pool: &mut AlgPool, node: AlgNode) -> Result<bool, AllocError>
-    requires { pool.old.format ≡ Two }
-    ensures { pool.new.format ≡ Two }
+// Puts the node of a line at the end of a pool of format 2; whether it meets its rules there.
+fn put_algorithm(alloc: Global, pool: &mut AlgPool, line: &str) -> Result<bool, AllocError>
+    ensures { terms_in pool.new ≡ terms_in pool.old }
 {
-    let game = pool.game();
+    match pool.format() {
+        Format::One => Ok(false),
+        Format::Two => match parse_algorithm(alloc, Format::Two, line.as_bytes(), pool.len())? {
+            Some(node) => push_algorithm(alloc, pool, node),
+            None => Ok(false),
+        },
+    }
+}
+
+fn push_algorithm(alloc: Global, pool: &mut AlgPool, node: AlgNode) -> Result<bool, AllocError>
+    requires { pool.old.format ≡ Two }
+    ensures { terms_in pool.new ≡ terms_in pool.old }
+{
     if pool.len() >= 4_000_000_000 {
         return Ok(false);
     }
-    let fault = algorithm_graph::node_fault(alloc, &game, pool.positions(), false, &node)?;
-    match fault {
-        Some(_) => Ok(false),
+    match algorithm_graph::judge(alloc, pool.terms(), pool.positions(), false, &node)? {
+        Some(_rule) => Ok(false),
         None => {
-            pool.push(node)?;
+            let _number = pool.push(node)?;
             Ok(true)
         }
     }
+}
+
+// The strategy of a pool of the whole game.
+fn algorithm_strategy(pool: AlgPool, root: u32) -> Strategy
+    requires root { algorithm.IsRoot pool.nodes root }
+    requires whole { pool.sizes ≡ sizes_of pool.game }
+    ensures { IsLegal result }
+{
+    pool.into_strategy(root)
 }
 
 // Whether these are the nodes of these lines, but for their packings and the items that they send.

@@ -1,26 +1,30 @@
 //! Strategies in format 2 that say the same as another in fewer words.
 
-ghost use Rattle.std.specs.Prelude.{◌≡◌, ◌++◌, ◌-◌, ◌/◌, ◌<◌, ◌≤◌, IfOk, All, MatchOption, replicate};
+ghost use Rattle.std.specs.Prelude.{◌≡◌, ◌++◌, ◌≤◌, IfOk, All, MatchOption, length, replicate};
 ghost use Rattle.std.specs.List.{AllZip};
 ghost use Rattle.items.specs.Multiset.{IsMultiset, IsSize};
 ghost use Rattle.items.specs.Packable.{IsPacking, Packable};
 ghost use Rattle.loads.specs.Loads.{IsLoads};
-ghost use Rattle.minimise.specs.Strategies.{IsLegal};
+ghost use Rattle.strategy_text.specs.Text.{nodes_of, side_of};
+ghost use Rattle.strategy_text.specs.declared.node.Format.TheVariants.{Two};
+ghost use Rattle.strategies.specs.AnyNode.{IsLegal};
+ghost use Rattle.minimise.specs.Reached.{AreDistinct, AreReached};
+ghost use Rattle.minimise.specs.Strategies.{positions_in, references_in};
 ghost use Rattle.minimise.specs.Upgrade.{IsCanonicalUpgrade};
 ghost use Rattle.minimise.specs.Upgrade.{IsUpgradeOf, UpgradesAct, UpgradesAdversary, UpgradesAlgorithm, UpgradesNodes};
 ghost use Rattle.minimise.specs.Upgrade.{UpgradesReply, UpgradesSend, UpgradesStep, least_burst};
 ghost use Rattle.minimise.specs.Upgrading.{CanUpgradeAdversary, CanUpgradeAlgorithm, CanUpgradeNodes};
 
 use crate::canonical::minimise;
-use crate::copies::copied;
 use good_situations::big_bound;
 use items::{Game, Items};
-use loads::Loads;
+use loads::{Loads, most_on_load};
 use packing_witness::Packing;
 use reachable_loads::pack;
 use std::alloc::{AllocError, Global};
 use strategy_text::{
-    Act, AdvNode, AdvNodes, AlgNode, AlgNodes, Entry, Format, Nodes, Placement, Step, Strategy,
+    Act, AdvNode, AdvNodes, AlgNode, AlgNodes, Entries, Entry, Format, Nodes, Placement,
+    Placements, Step, Strategy,
 };
 
 /// The canonical form of a strategy in format 2 that says the same as a legal one, and is legal: bursts of the least
@@ -33,7 +37,13 @@ use strategy_text::{
 pub fn upgrade(alloc: Global, strategy: &Strategy) -> Result<Strategy, AllocError>
     requires legal { IsLegal strategy.now }
     ensures upgrade { IfOk result (IsCanonicalUpgrade strategy.now) }
+    ensures format { IfOk result (λ made. made.format ≡ Two) }
+    ensures game { IfOk result (λ made. made.game ≡ strategy.now.game) }
+    ensures side { IfOk result (λ made. side_of made.nodes ≡ side_of strategy.now.nodes) }
     ensures legal { IfOk result IsLegal }
+    ensures distinct { IfOk result (λ made. AreDistinct (positions_in made.nodes)) }
+    ensures reached { IfOk result (λ made. AreReached (references_in made.nodes)) }
+    ensures number { IfOk result (λ made. length (nodes_of made.nodes) ≤ length (nodes_of strategy.now.nodes)) }
 {
     let made = upgraded(alloc, strategy)?;
     minimise(alloc, &made)
@@ -51,6 +61,9 @@ fn upgraded(alloc: Global, strategy: &Strategy) -> Result<Strategy, AllocError>
     requires legal { IsLegal strategy.now }
     ensures upgrade { IfOk result (λ upgraded. IsUpgradeOf strategy.now upgraded) }
     ensures legal { IfOk result (λ upgraded. IsLegal upgraded) }
+    ensures side { IfOk result (λ upgraded. side_of upgraded.nodes ≡ side_of strategy.now.nodes) }
+    ensures number { IfOk result (λ upgraded.
+        length (nodes_of upgraded.nodes) ≡ length (nodes_of strategy.now.nodes)) }
 {
     Ok(Strategy {
         format: Format::Two,
@@ -144,7 +157,7 @@ fn instead_of_send(
         None => Ok(Step::Send {
             size,
             pack: None,
-            placements: copied(alloc, placements)?,
+            placements: Placements::from_slice(alloc, placements)?,
         }),
     }
 }
@@ -161,16 +174,6 @@ fn least_burst(game: &Game, size: u16, loads: &Loads) -> u16
         most += most_on_load(game, size, *load);
     }
     most + 1
-}
-
-// How many items of this size can come to a bin of this load that stays below the target.
-fn most_on_load(game: &Game, size: u16, load: u16) -> u16
-    requires below { load < game.now.target }
-    requires size { 1 ≤ size }
-    ensures value { result ≡ (game.now.target - 1 - load) / size }
-    ensures small { result ≤ 239 }
-{
-    (game.t() - 1 - load) / size
 }
 
 // A packing of the items with so many more of one size; None exactly where they do not fit.
@@ -233,6 +236,6 @@ fn instead_of_replies(
     let items = Items::from_slice(game, node.items.as_slice()).unwrap();
     match big_bound(game, &loads, &items) {
         Some(b) => Ok(Act::Big(b)),
-        None => Ok(Act::Reply(copied(alloc, entries)?)),
+        None => Ok(Act::Reply(Entries::from_slice(alloc, entries)?)),
     }
 }

@@ -5,5 +5,5 @@ pub mod EnumerationLemmas
 pub mod VisitLemmas
 pub mod PassLemmas
 pub mod DecideLemmas
-pub mod EndsLemmas
+pub mod ReachableLemmas
 pub mod SmallGame

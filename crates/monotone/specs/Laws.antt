@@ -10,7 +10,7 @@ use Rattle.monotone.specs.Paths.{IsLegalFrom, IsLegalPath, IsLegalMove, ComesBef
 use Rattle.monotone.specs.Passes.{SearchSpace, allowed_in}
 use Rattle.monotone.specs.Visits.{Visit, IsVisit, IsEarlierVisit, Metered, CountsVisits, HasVisitsBefore, IsLater}
 use Rattle.monotone.specs.Visits.{unused, counted, most_visits}
-use Rattle.monotone.specs.Positions.{IsEnd, CountsEnds, CountsEndsOfPass, CountsAllEnds}
+use Rattle.monotone.specs.Positions.{IsReachable, CountsReachable, CountsReachableOfPass, CountsAllReachable}
 
 -- a pass allows exactly those of the sizes that, with its number, are at least the largest item
 abbrev pub PassesAllowSizes : Type 0
@@ -111,25 +111,26 @@ FewerComeBefore =
     (space : SearchSpace) (number : ℕ) (next : Visit)
     → HasVisitsBefore space number next → IsVisit space next → number < most_visits space
 
--- there is a number of positions at which the legal paths of a game end
-abbrev pub EndsAreCounted : Type 0
-EndsAreCounted = (game : GameNumbers) (allowed : List ℕ → ℕ → Bool) → (number : ℕ) × CountsEnds game allowed number
+-- there is a number of reachable positions of a game
+abbrev pub ReachableAreCounted : Type 0
+ReachableAreCounted =
+    (game : GameNumbers) (allowed : List ℕ → ℕ → Bool) → (number : ℕ) × CountsReachable game allowed number
 
 -- and only one
-abbrev pub OneNumberOfEnds : Type 0
-OneNumberOfEnds =
+abbrev pub OneNumberOfReachable : Type 0
+OneNumberOfReachable =
     (game : GameNumbers) (allowed : List ℕ → ℕ → Bool) (one other : ℕ)
-    → CountsEnds game allowed one → CountsEnds game allowed other → one ≡ other
+    → CountsReachable game allowed one → CountsReachable game allowed other → one ≡ other
 
--- different positions at which legal paths end are no more than their number
-abbrev pub EndsAreNoMore : Type 0
-EndsAreNoMore =
+-- different reachable positions are no more than their number
+abbrev pub ReachableAreNoMore : Type 0
+ReachableAreNoMore =
     (game : GameNumbers) (allowed : List ℕ → ℕ → Bool) (number : ℕ) (positions : List Position)
-    → CountsEnds game allowed number → All (IsEnd game allowed) positions → AllPairs ◌≢◌ positions
+    → CountsReachable game allowed number → All (IsReachable game allowed) positions → AllPairs ◌≢◌ positions
     → length positions ≤ number
 
--- no pass has legal paths to more positions than the last one
-abbrev pub LastPassHasMostEnds : Type 0
-LastPassHasMostEnds =
+-- in no pass are more positions reachable than in the last one
+abbrev pub LastPassHasMostReachable : Type 0
+LastPassHasMostReachable =
     (game : GameNumbers) (pass number all : ℕ) → pass < game.capacity
-    → CountsEndsOfPass game pass number → CountsAllEnds game all → number ≤ all
+    → CountsReachableOfPass game pass number → CountsAllReachable game all → number ≤ all

@@ -7,25 +7,25 @@ use Rattle.loads.specs.Wins.{empty_position}
 use Rattle.monotone.specs.Paths.{IsLegalPath, position_after}
 use Rattle.monotone.specs.Passes.{allowed_in}
 
--- a legal path ends at the position
-abbrev pub IsEnd : GameNumbers → (List ℕ → ℕ → Bool) → Position → Type 0
-IsEnd game allowed position =
+-- a position is reachable: a legal path leads to it
+abbrev pub IsReachable : GameNumbers → (List ℕ → ℕ → Bool) → Position → Type 0
+IsReachable game allowed position =
     (path : List PathMove) × IsLegalPath game allowed path × (position ≡ position_after (empty_position game) path)
 
--- the positions at which legal paths end, each once
-pub record AreEnds (game : GameNumbers) (allowed : List ℕ → ℕ → Bool) (positions : List Position) : Type 0 where
-  pub exact : (position : Position) → Contains positions position ↔ IsEnd game allowed position
+-- the reachable positions, each once
+pub record AreReachable (game : GameNumbers) (allowed : List ℕ → ℕ → Bool) (positions : List Position) : Type 0 where
+  pub exact : (position : Position) → Contains positions position ↔ IsReachable game allowed position
   pub once : AllPairs ◌≢◌ positions
 
--- at how many positions legal paths end
-abbrev pub CountsEnds : GameNumbers → (List ℕ → ℕ → Bool) → ℕ → Type 0
-CountsEnds game allowed number = (positions : List Position) × AreEnds game allowed positions
+-- how many positions are reachable
+abbrev pub CountsReachable : GameNumbers → (List ℕ → ℕ → Bool) → ℕ → Type 0
+CountsReachable game allowed number = (positions : List Position) × AreReachable game allowed positions
     × (length positions ≡ number)
 
--- at how many positions the legal paths of a pass of the whole game end
-abbrev pub CountsEndsOfPass : GameNumbers → ℕ → ℕ → Type 0
-CountsEndsOfPass game pass number = CountsEnds game (allowed_in (sizes_of game) pass) number
+-- how many positions are reachable in a pass of the whole game
+abbrev pub CountsReachableOfPass : GameNumbers → ℕ → ℕ → Type 0
+CountsReachableOfPass game pass number = CountsReachable game (allowed_in (sizes_of game) pass) number
 
--- at how many positions the legal paths of the last pass end, in which every size is allowed
-abbrev pub CountsAllEnds : GameNumbers → ℕ → Type 0
-CountsAllEnds game number = CountsEndsOfPass game (game.capacity - 1) number
+-- how many positions are reachable in the last pass, in which every size is allowed
+abbrev pub CountsAllReachable : GameNumbers → ℕ → Type 0
+CountsAllReachable game number = CountsReachableOfPass game (game.capacity - 1) number

@@ -6,8 +6,9 @@ ghost use Rattle.monotone.specs.Laws.{LegalPathsGrowByLegalMoves, OneMoreMove, L
 ghost use Rattle.monotone.specs.Laws.{NoVisitBeforeItself, EarlierVisitsCompose, VisitsAreBounded};
 ghost use Rattle.monotone.specs.Laws.{UnusedMeterCounts, MeterGoesOnCounting, CountIsAtMostTheRank};
 ghost use Rattle.monotone.specs.Laws.{CountedVisitsComeBefore, FewerComeBefore};
-ghost use Rattle.monotone.specs.SmallGame.{SmallGameHasTenEnds};
-ghost use Rattle.monotone.specs.Laws.{EndsAreCounted, OneNumberOfEnds, EndsAreNoMore, LastPassHasMostEnds};
+ghost use Rattle.monotone.specs.SmallGame.{SmallGameHasTenReachable};
+ghost use Rattle.monotone.specs.Laws.{ReachableAreCounted, OneNumberOfReachable, ReachableAreNoMore};
+ghost use Rattle.monotone.specs.Laws.{LastPassHasMostReachable};
 
 /// A pass allows exactly the listed sizes that, with its number, are at least the largest item; a later pass allows
 /// them too, and the last allows each listed size.
@@ -56,15 +57,15 @@ pub fn meters_count_visits()
     ensures bound { FewerComeBefore }
 {}
 
-/// The number of positions at which legal paths end exists and is one number; no pass has more than the last.
-pub fn ends_are_counted()
-    ensures exists { EndsAreCounted }
-    ensures unique { OneNumberOfEnds }
-    ensures most { EndsAreNoMore }
-    ensures last { LastPassHasMostEnds }
+/// The number of reachable positions exists and is one number; no pass has more than the last.
+pub fn reachable_positions_are_counted()
+    ensures exists { ReachableAreCounted }
+    ensures unique { OneNumberOfReachable }
+    ensures most { ReachableAreNoMore }
+    ensures last { LastPassHasMostReachable }
 {}
 
-/// In the game of 2 bins of capacity 2 with target 3 the legal paths of the last pass end at ten positions.
-pub fn a_small_game_has_ten_ends()
-    ensures { SmallGameHasTenEnds }
+/// In the game of 2 bins of capacity 2 with target 3 ten positions are reachable in the last pass.
+pub fn a_small_game_has_ten_reachable_positions()
+    ensures { SmallGameHasTenReachable }
 {}

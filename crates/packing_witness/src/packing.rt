@@ -1,7 +1,7 @@
 //! Packings of items into bins.
 
 ghost use Rattle.std.specs.Prelude.{◌≡◌, ◌↔◌, ◌+◌, ◌*◌, ◌≤◌, [], ◌∷◌, ◌++◌, IsTrue, OnOk, OnErr, IfOk};
-ghost use Rattle.std.specs.Prelude.{All, replicate, sum};
+ghost use Rattle.std.specs.Prelude.{◌<◌, All, MatchOption, length, replicate, slice_get, sum, take};
 ghost use Rattle.items.specs.Multiset.{IsSize};
 ghost use Rattle.items.specs.Packable.{IsPacking};
 ghost use Rattle.packing_witness.specs.Edits.{without, scaled, CanScale};
@@ -11,12 +11,13 @@ use crate::edits::{first_out, times};
 use items::{Game, Items, MOST_SIZE, MOST_VOLUME, Nums, Sequence};
 use std::alloc::{AllocError, Global};
 use std::marker::Model;
+use std::mem;
 
 /// A list of bins, each the list of the sizes in it. Clauses see it as a list of lists. That it is a
 /// packing of some items is what `holds` tells.
 #[derive(Drop)]
 pub struct Packing {
-    lists: Sequence<Nums>,
+    lists: Vec<Nums>,
 }
 
 impl Model for Packing {
@@ -24,7 +25,7 @@ impl Model for Packing {
 
     ghost Value = { List (List ℕ) };
 
-    ghost view = { λ a. a.lists };
+    ghost view = { λ a. a.lists.items };
 }
 
 impl Packing {
@@ -33,7 +34,7 @@ impl Packing {
         ensures empty { result ≡ [] }
     {
         Packing {
-            lists: Sequence::new(alloc),
+            lists: Vec::new(alloc),
         }
     }
 
@@ -42,7 +43,46 @@ impl Packing {
         ensures ok { OnOk result (self.new ≡ self.old ++ bin ∷ []) }
         ensures err { OnErr result (self.new ≡ self.old) }
     {
-        self.lists.push(bin)
+        self.lists.push(bin)?;
+        Ok(())
+    }
+
+    /// Takes the bin of a number away, so that another one is made in its memory; an empty one where there is none.
+    /// Those before it stay. Takes no memory.
+    pub fn lend_bin(&mut self, k: usize) -> Nums
+        ensures bin { MatchOption (slice_get self.old k) (result ≡ []) (λ bin. result ≡ bin) }
+        ensures before { take k self.new ≡ take k self.old }
+        ensures number { length self.new ≡ length self.old }
+    {
+        let empty = Sequence::new(*self.lists.allocator());
+        if k >= self.lists.len() {
+            return empty;
+        }
+        mem::replace(&mut self.lists[k], empty)
+    }
+
+    /// Puts a bin after so many others, in place of what stands there, and answers how many it makes. Where memory is
+    /// refused, the packing stays as it was and the bin is dropped.
+    pub fn put_bin(&mut self, k: usize, bin: Nums) -> Result<usize, AllocError>
+        requires { k ≤ length self.old }
+        ensures bins { OnOk result (take (k + 1) self.new ≡ take k self.old ++ bin ∷ []) }
+        ensures number { OnOk result (k < length self.new) }
+        ensures next { IfOk result (λ next. next ≡ k + 1) }
+        ensures err { OnErr result (self.new ≡ self.old) }
+    {
+        if k < self.lists.len() {
+            self.lists[k] = bin;
+            return Ok(k + 1);
+        }
+        self.lists.push(bin)?;
+        Ok(self.lists.len())
+    }
+
+    /// Drops the bins from a place on, counted from 0. Takes no memory.
+    pub fn truncate(&mut self, n: usize)
+        ensures kept { self.new ≡ take n self.old }
+    {
+        self.lists.truncate(n);
     }
 
     /// The bins in their order.
@@ -56,7 +96,7 @@ impl Packing {
     pub fn copy(&self) -> Result<Packing, AllocError>
         ensures same { IfOk result (λ made. made ≡ self.now) }
     {
-        let mut made = Packing::new(self.lists.allocator());
+        let mut made = Packing::new(*self.lists.allocator());
         made.push_copies(self.bins())?;
         Ok(made)
     }
@@ -67,7 +107,7 @@ impl Packing {
         ensures exact { IfOk result (λ found. found ≡ without item self.now) }
     {
         let bins = self.bins();
-        let mut made = Packing::new(self.lists.allocator());
+        let mut made = Packing::new(*self.lists.allocator());
         for (i, bin) in bins.iter().enumerate() {
             if let Some(rest) = first_out(bin, item)? {
                 made.push_bin(rest)?;
@@ -85,7 +125,7 @@ impl Packing {
         requires { CanScale c self.now }
         ensures exact { IfOk result (λ made. made ≡ scaled c self.now) }
     {
-        let mut made = Packing::new(self.lists.allocator());
+        let mut made = Packing::new(*self.lists.allocator());
         for bin in self.bins() {
             made.push_bin(times(bin, c)?)?;
         }

@@ -48,7 +48,7 @@ fn holds(alloc: Global, bins: &[u8]) -> Option<bool> {
     Some(packing(alloc, bins).ok()?.holds(&game, &items))
 }
 
-// The same of 2 and two items of size 1.
+// Whether these bins of 3 are a packing of 2 and two items of size 1.
 fn holds_list(alloc: Global, bins: &[u8]) -> Option<bool> {
     let game = Game::new(2, 3, 4).ok()?;
     Some(packing(alloc, bins).ok()?.holds_list(&game, &[2], 1, 2))
@@ -88,6 +88,32 @@ fn the_first_such_number_of_the_first_bin_that_has_one_is_taken_out(rt: HostRunt
     ];
     for (bins, item, others) in cases {
         assert!(rt; leaves(rt.alloc(), bins, item, others) == Ok(true));
+    }
+}
+
+// Whether these bins up to one, which is lent and gets one more item, are others.
+fn grows_to(alloc: Global, bins: &[u8], k: usize, others: &[u8]) -> Result<bool, AllocError> {
+    let mut made = packing(alloc, bins)?;
+    if made.bins().len() < k {
+        return Ok(others.is_empty());
+    }
+    let mut bin = made.lend_bin(k);
+    bin.push(9)?;
+    let count = made.put_bin(k, bin)?;
+    made.truncate(count);
+    is(alloc, &made, others)
+}
+
+#[test]
+fn a_bin_that_is_lent_is_put_back_after_those_before_it(rt: HostRuntime) {
+    let cases: [(&[u8], usize, &[u8]); 4] = [
+        (b"12/1/3/", 1, b"12/19/"),
+        (b"12/1/3/", 3, b"12/1/3/9/"),
+        (b"", 0, b"9/"),
+        (b"12/", 2, b""),
+    ];
+    for (bins, k, others) in cases {
+        assert!(rt; grows_to(rt.alloc(), bins, k, others) == Ok(true));
     }
 }
 

@@ -70,7 +70,7 @@ StandsNext-only Unfinished End bytes h k = sym (End-only Unfinished bytes k h)
 StandsNext-only Unfinished TooLong bytes h k = sym (TooLong-only Unfinished bytes k h)
 StandsNext-only Unfinished Unfinished bytes h k = refl
 
--- the same, where the bytes are told
+-- one thing stands next, where the bytes are told
 pub only-told : (told : Option (List ℕ)) (line : Line) → IfSome told (StandsNext line) → IfSome told (λ bytes. (other : Line) → StandsNext other bytes → line ≡ other)
 only-told None line h = tt
 only-told (Some bytes) line h = λ other k. StandsNext-only line other bytes h k

@@ -153,7 +153,7 @@ fn keep(words: &mut [u64], sums: &[u16], halves: usize, lack: u16)
     }
 }
 
-// The same in the words from a place on.
+// Takes out the bits whose loads sum to less than `lack`, in the words of one half from a place on.
 fn keep_half(words: &mut [u64], from: usize, sums: &[u16], lack: u16)
     requires { from + length sums.now ≤ length words.old }
     ensures kept { (row bit : ℕ) → row < length sums.now → bit < 64
@@ -181,7 +181,7 @@ fn put_in_first(words: &mut [u64], source: &[u64], rows: usize, capacity: u16, s
     }
 }
 
-// The same in one half of the rows.
+// Puts the source's bits in, each moved up by the size, in one half of the rows.
 fn put_in_half(words: &mut [u64], source: &[u64], rows: usize, capacity: u16, half: usize, s: u16)
     requires size { length words.old ≡ (capacity / 64 + 1) * rows }
     requires same { length source.now ≡ length words.old }
@@ -199,7 +199,7 @@ fn put_in_half(words: &mut [u64], source: &[u64], rows: usize, capacity: u16, ha
     put_down(words, source, rows, capacity, half, s);
 }
 
-// The same for the bits that go up within a word, or to the same bits of the other half.
+// Puts in those bits that the size moves up within a word, or to the same bits of the other half.
 fn put_up(words: &mut [u64], source: &[u64], rows: usize, capacity: u16, half: usize, s: u16)
     requires size { length words.old ≡ (capacity / 64 + 1) * rows }
     requires same { length source.now ≡ length words.old }
@@ -226,7 +226,7 @@ fn put_up(words: &mut [u64], source: &[u64], rows: usize, capacity: u16, half: u
     join(words, half * rows, source, (half - whole) * rows, rows, by);
 }
 
-// The same for the bits that go up into the other half.
+// Puts in those bits that the size moves up into the other half.
 fn put_down(words: &mut [u64], source: &[u64], rows: usize, capacity: u16, half: usize, s: u16)
     requires size { length words.old ≡ (capacity / 64 + 1) * rows }
     requires same { length source.now ≡ length words.old }

@@ -32,7 +32,7 @@ pub fn join(words: &mut [u64], to: usize, source: &[u64], from: usize, count: us
     }
 }
 
-// The same for four words.
+// Joins four moved words of the source, which lie side by side, to as many words.
 fn join_lanes(words: &mut [u64], to: usize, source: &[u64], from: usize, by: Move)
     requires to { to + 4 ≤ length words.old }
     requires from { from + 4 ≤ length source.now }

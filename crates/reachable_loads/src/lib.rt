@@ -10,7 +10,7 @@ mod sets;
 
 pub use packing::pack;
 pub use reach::Reach;
-pub use rooms::{packable, room_between, room_bounds, room_of, room_up_to};
+pub use rooms::{packable, room_between, room_bounds, room_of};
 
 #[cfg(test)]
 mod tests;

@@ -17,15 +17,7 @@ use std::alloc::{AllocError, Global};
 pub fn room_of(alloc: Global, game: &Game, items: &Items) -> Result<u16, AllocError>
     ensures exact { IfOk result (IsRoom game.now items.now) }
 {
-    room_up_to(alloc, game, items, game.g())
-}
-
-/// The same where a bound on the room is known, as the room of a part of the items is one.
-pub fn room_up_to(alloc: Global, game: &Game, items: &Items, most: u16) -> Result<u16, AllocError>
-    requires bound { (size : ℕ) → Packable game.now (items.now ++ size ∷ []) → size ≤ most }
-    ensures exact { IfOk result (IsRoom game.now items.now) }
-{
-    let (least, most) = room_bounds(game, items, most);
+    let (least, most) = room_bounds(game, items, game.g());
     if least == most {
         return Ok(least);
     }

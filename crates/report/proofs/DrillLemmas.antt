@@ -185,7 +185,6 @@ module _ (number copies : ℕ) where
       (All-cons Formed root [] tt (All-nil Formed))
 
   pub drill_is_legal : 1 ≤ copies → copies ≤ 200000 → IsLegal One (numbers 2 3 4) (sizes_of (numbers 2 3 4)) nodes
-  unfolding EachMeetsRules
   drill_is_legal low high = record {
     of_game = drill_is_game;
     low = omega (arith, drill_length);

@@ -1,6 +1,6 @@
 -- Each way on from a node of a legal strategy ends within the limit, or leads to an earlier node that has more volume.
 use Rattle.std.proofs.Common.{◌≡◌, ◌≢◌, ℕ, ◌+◌, ◌<◌, ◌≤◌, List, [], ◌∷◌, ◌++◌, Some, length, get_or, map, take, replicate, sum, arith}
-use Rattle.std.proofs.Common.{refl, ap, sym, subst, ◌∙◌, le-mul_of_pos_right, inl, inr, ◌⊎◌}
+use Rattle.std.proofs.Common.{refl, ap, sym, subst, ◌∙◌, le-mul_of_pos_right}
 use Rattle.std.specs.List.{All, slice_get}
 use Rattle.std.specs.Option.{option_map}
 use Rattle.std.proofs.lemmas.List.{length-map}
@@ -35,8 +35,6 @@ use Rattle.strategy_text.specs.declared.node.Then.TheVariants.{Over, To}
 use Rattle.adversary_graph.specs.Judging.{node_at}
 use Rattle.adversary_graph.specs.Legal as adversary_legal
 use Rattle.adversary_graph.specs.Nodes as adversary
-use Rattle.adversary_graph.specs.Pools as adversary_pools
-use Rattle.algorithm_graph.specs.Pools as algorithm_pools
 use Rattle.adversary_graph.specs.Rules.{LeadsTo}
 use Rattle.items.proofs.SizesLemmas.{sizes_are_sizes}
 use Rattle.loads.proofs.LoadsLemmas.{multiset_from_items}
@@ -49,6 +47,7 @@ use Rattle.algorithm_graph.specs.Judging as algorithm_judging
 use Rattle.algorithm_graph.specs.Legal as algorithm_legal
 use Rattle.algorithm_graph.specs.Nodes as algorithm
 use Rattle.algorithm_graph.proofs.SizesLemmas.{entries_of_have_sizes}
+use Rattle.report.specs.Legal.{AreLegalNodes}
 use Rattle.report.specs.Measuring.{Leads, LeadsOn, EachLeadsOn}
 use Rattle.report.specs.Ways.{ends_after, goes_to, way_of, ways_of_step, ways_of_act}
 
@@ -123,7 +122,7 @@ adversary_step format game nodes number loads items (Burst times size pack) g l 
 
 adversary_leads : (format : Format) (game : GameNumbers) (nodes : List AdvNode) → adversary_legal.IsLegal format game (sizes_of game) nodes
     → EachLeadsOn (map of_adversary nodes)
-unfolding EachLeadsOn adversary_legal.EachMeetsRules
+unfolding EachLeadsOn
 adversary_leads format game nodes legal number node e =
     let h = mapped of_adversary (slice_get nodes number) node (sym (slice_get-map of_adversary nodes number) ∙ e) in
     let rules = legal.each number h.0 h.1 in
@@ -154,7 +153,7 @@ algorithm_act game nodes number loads items (Reply (entry ∷ entries)) total si
 
 algorithm_leads : (format : Format) (game : GameNumbers) (nodes : List AlgNode) → algorithm_legal.IsLegal format game (sizes_of game) nodes
     → EachLeadsOn (map of_algorithm nodes)
-unfolding EachLeadsOn algorithm_legal.EachMeetsRules
+unfolding EachLeadsOn
 algorithm_leads format game nodes legal number node e =
     let h = mapped of_algorithm (slice_get nodes number) node (sym (slice_get-map of_algorithm nodes number) ∙ e) in
     let rules = legal.each number h.0 h.1 in
@@ -166,21 +165,13 @@ algorithm_leads format game nodes legal number node e =
 
 -- ---- of either side
 
--- the nodes are legal, whosever they are
-abbrev AreLegal : Format → GameNumbers → Nodes → Type 0
-AreLegal format game nodes = adversary_pools.AreLegal format game nodes ⊎ algorithm_pools.AreLegal format game nodes
+pub legal_leads : (format : Format) (game : GameNumbers) (nodes : Nodes) → AreLegalNodes format game (sizes_of game) nodes → EachLeadsOn (nodes_of nodes)
+legal_leads format game (Adversary nodes) legal = adversary_leads format game nodes legal
+legal_leads format game (Algorithm nodes) legal = algorithm_leads format game nodes legal
 
-pub legal_leads : (format : Format) (game : GameNumbers) (nodes : Nodes) → AreLegal format game nodes → EachLeadsOn (nodes_of nodes)
-legal_leads format game (Adversary nodes) (inl legal) = adversary_leads format game nodes legal
-legal_leads format game (Adversary nodes) (inr never) = absurd never
-legal_leads format game (Algorithm nodes) (inl never) = absurd never
-legal_leads format game (Algorithm nodes) (inr legal) = algorithm_leads format game nodes legal
-
-pub legal_length : (format : Format) (game : GameNumbers) (nodes : Nodes) → AreLegal format game nodes
+pub legal_length : (format : Format) (game : GameNumbers) (nodes : Nodes) → AreLegalNodes format game (sizes_of game) nodes
     → (1 ≤ length (nodes_of nodes)) × (length (nodes_of nodes) ≤ 4000000000)
-legal_length format game (Adversary nodes) (inl legal) =
+legal_length format game (Adversary nodes) legal =
     (omega (arith, legal.low, length-map nodes of_adversary), omega (arith, legal.high, length-map nodes of_adversary))
-legal_length format game (Adversary nodes) (inr never) = absurd never
-legal_length format game (Algorithm nodes) (inl never) = absurd never
-legal_length format game (Algorithm nodes) (inr legal) =
+legal_length format game (Algorithm nodes) legal =
     (omega (arith, legal.low, length-map nodes of_algorithm), omega (arith, legal.high, length-map nodes of_algorithm))

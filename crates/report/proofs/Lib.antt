@@ -1,6 +1,7 @@
 pub mod LowestLemmas
 pub mod WayLemmas
 pub mod WalkLemmas
+pub mod LegalLemmas
 pub mod LeadLemmas
 pub mod DrawLemmas
 pub mod DrillRules

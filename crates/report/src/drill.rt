@@ -4,11 +4,12 @@ ghost use Rattle.std.specs.Prelude.{◌≡◌, ◌+◌, ◌*◌, ◌<◌, ◌≤
 ghost use Rattle.std.specs.Prelude.{replicate};
 ghost use Rattle.std.specs.List.{range_with_len};
 ghost use Rattle.items.specs.Game.{numbers};
-ghost use Rattle.strategy_text.specs.Text.{nodes_of};
-ghost use Rattle.adversary_graph.specs.Pools.{IsLegalOfAdversary};
+ghost use Rattle.strategy_text.specs.Text.{nodes_of, side_of};
+ghost use Rattle.strategy_text.specs.declared.node.Side.TheVariants.{Adversary};
 ghost use Rattle.report.specs.Drill.{choice, copy_of_1, copy_of_3, drill, drill_nodes};
 ghost use Rattle.report.specs.Drill.{node_0, node_1, node_2, node_3, node_4, over, sends, to};
 ghost use Rattle.report.specs.Drawing.{HasGiven};
+ghost use Rattle.report.specs.Legal.{IsLegal};
 
 use items::{Game, Nums};
 use packing_witness::Packing;
@@ -35,7 +36,8 @@ pub fn drill_strategy(alloc: Global, number: u64, copies: u32) -> Result<Strateg
     requires high { copies ≤ MOST_COPIES }
     ensures exact { IfOk result (λ strategy. strategy ≡ drill number copies) }
     ensures number { IfOk result (λ strategy. length (nodes_of strategy.nodes) ≡ 4 * copies + 1) }
-    ensures legal { IfOk result IsLegalOfAdversary }
+    ensures legal { IfOk result IsLegal }
+    ensures side { IfOk result (λ strategy. side_of strategy.nodes ≡ Adversary) }
 {
     let nodes = drill_nodes(alloc, number, copies)?;
     Ok(Strategy {

@@ -1,7 +1,5 @@
 ghost use Rattle.std.specs.Prelude.{◌≡◌, IfOk};
 ghost use Rattle.strategy_text.specs.declared.node.Format.TheVariants.{Two};
-ghost use Rattle.adversary_graph.specs.Pools.{IsLegalOfAdversary};
-ghost use Rattle.algorithm_graph.specs.Pools.{IsLegalOfAlgorithm};
 
 use crate::{Report, drill_strategy, summarise};
 use adversary_graph::AdvPool;
@@ -22,7 +20,7 @@ const X: &[&str] = &[
     "4 loads 0 0 items - send 1 pack 1 / - on 0 to 3",
 ];
 
-// The same with a copy of node 0 and a copy of node 2.
+// X with a copy of node 0 and a copy of node 2.
 const COPIES: &[&str] = &[
     "0 loads 2 2 items 1 1 2 send 2 pack 1 2 / 1 2 on 2 over",
     "1 loads 2 2 items 1 1 2 send 2 pack 1 2 / 1 2 on 2 over",
@@ -33,7 +31,7 @@ const COPIES: &[&str] = &[
     "6 loads 0 0 items - send 1 pack 1 / - on 0 to 5",
 ];
 
-// The same game in format 2.
+// Nodes of the game 2 3 4 in format 2.
 const BURSTS: &[&str] = &[
     "0 loads 2 0 items 1 1 burst 2 2 pack 1 2 / 1 2",
     "1 loads 1 1 items 1 1 burst 1 3 pack 3 / 1 1",
@@ -80,7 +78,7 @@ fn put_adversary(alloc: Global, pool: &mut AdvPool, line: &str) -> Result<bool, 
     Ok(true)
 }
 
-// The same for a node of the algorithm in format 2.
+// Puts a node of the algorithm into a pool of format 2; false where it is no node or breaks a rule.
 fn put_algorithm(alloc: Global, pool: &mut AlgPool, line: &str) -> Result<bool, AllocError>
     requires { pool.old.format ≡ Two }
     ensures { pool.new.format ≡ Two }
@@ -131,6 +129,7 @@ fn fill_adversary(alloc: Global, pool: &mut AdvPool, lines: &[&str]) -> Result<b
 }
 
 // Whether the report of the strategy of a pool tells this.
+#[tactic(auto, using(crate::proofs::LegalLemmas::legal_of_adversary))]
 fn reports_adversary(alloc: Global, pool: AdvPool, wanted: Told) -> Result<bool, AllocError> {
     let root = pool.len().saturating_sub(1);
     if !pool.is_root(root) {
@@ -141,7 +140,7 @@ fn reports_adversary(alloc: Global, pool: AdvPool, wanted: Told) -> Result<bool,
     Ok(told(&report) == wanted)
 }
 
-// The same of these nodes.
+// Whether the report of the strategy of these nodes tells this.
 fn of_adversary(
     alloc: Global,
     format: Format,
@@ -172,6 +171,7 @@ fn fill_algorithm(alloc: Global, pool: &mut AlgPool, lines: &[&str]) -> Result<b
     Ok(true)
 }
 
+#[tactic(auto, using(crate::proofs::LegalLemmas::legal_of_algorithm))]
 fn reports_algorithm(alloc: Global, pool: AlgPool, wanted: Told) -> Result<bool, AllocError> {
     let root = pool.len().saturating_sub(1);
     if !pool.is_root(root) {

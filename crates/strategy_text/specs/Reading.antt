@@ -34,7 +34,7 @@ abbrev pub Takes : {X : Type 0} → Option X → List (List ℕ) → Option (X �
 Takes None left read = read ≡ None
 Takes (Some x) left read = read ≡ Some (x, left)
 
--- the same, unless memory ran out
+-- what a function returned, with the words that it left, is what reading gives, unless memory ran out
 abbrev pub Reads : {X : Type 0} → Result X Stop → List (List ℕ) → Option (X × List (List ℕ)) → Type 0
 Reads (Ok x) left read = read ≡ Some (x, left)
 Reads (Err Memory) left read = Unit {0}

@@ -11,7 +11,7 @@ ghost use Rattle.strategy_text.specs.Reading.{optional_pack_at, then_at, placeme
 ghost use Rattle.strategy_text.specs.Reading.{burst_at, step_at, adversary_at};
 
 use crate::node::{AdvNode, Format, Placement, Placements, Step, Then};
-use crate::position::{list, read_position};
+use crate::position::{read_list, read_position};
 use crate::stop::{LINE_BYTES, Stop};
 use crate::words::Words;
 use items::{Nums, Sequence};
@@ -19,42 +19,46 @@ use packing_witness::Packing;
 use std::alloc::{AllocError, Global};
 use std::mem;
 
-/// The lists of a packing whose first was read.
+/// The lists of a packing whose first was read, in the memory of another packing.
 #[inline(always)]
-fn bins(alloc: Global, words: &mut Words, first: Nums) -> Result<Packing, Stop>
+fn bins(words: &mut Words, first: Nums, spare: Packing) -> Result<Packing, Stop>
     ensures { Reads result words.new (bins_at first words.old) }
 {
-    let mut packing = Packing::new(alloc);
-    packing.push_bin(first)?;
+    let mut packing = spare;
+    let mut count = packing.put_bin(0, first)?;
     while words.accept(b"/") {
-        let bin = list(alloc, words)?;
-        packing.push_bin(bin)?;
+        let mut bin = packing.lend_bin(count);
+        read_list(words, &mut bin)?;
+        count = packing.put_bin(count, bin)?;
     }
+    packing.truncate(count);
     Ok(packing)
 }
 
-/// The lists of a packing, with a slash between two.
+/// The lists of a packing, with a slash between two, in the memory of another packing.
 #[tactic(auto, unfolding(crate::specs::Reading::pack_at))]
 #[inline(always)]
-fn packing(alloc: Global, words: &mut Words) -> Result<Packing, Stop>
+fn packing(words: &mut Words, spare: Packing) -> Result<Packing, Stop>
     ensures { Reads result words.new (pack_at words.old) }
 {
-    let first = list(alloc, words)?;
-    bins(alloc, words, first)
+    let mut spare = spare;
+    let mut first = spare.lend_bin(0);
+    read_list(words, &mut first)?;
+    bins(words, first, spare)
 }
 
-/// A packing, which may be missing in format 2.
+/// A packing, which may be missing in format 2, in the memory of another one.
 #[tactic(auto, unfolding(crate::specs::Reading::optional_pack_at))]
 #[inline(always)]
 fn optional_packing(
-    alloc: Global,
     format: Format,
     words: &mut Words,
+    spare: Packing,
 ) -> Result<Option<Packing>, Stop>
     ensures { Reads result words.new (optional_pack_at format words.old) }
 {
     if words.accept(b"pack") {
-        let pack = packing(alloc, words)?;
+        let pack = packing(words, spare)?;
         return Ok(Some(pack));
     }
     match format {
@@ -123,12 +127,12 @@ fn placements(words: &mut Words, empty: Placements) -> Result<Placements, Stop>
 /// An item that is sent, after the first word.
 #[tactic(auto, unfolding(crate::specs::Reading::send_at))]
 #[inline(always)]
-fn send(alloc: Global, format: Format, words: &mut Words, empty: Placements) -> Result<Step, Stop>
+fn send(format: Format, words: &mut Words, spare: Packing, empty: Placements) -> Result<Step, Stop>
     requires { empty ≡ [] }
     ensures { Reads result words.new (send_at format words.old) }
 {
     let size = words.size().ok_or(Stop::Form)?;
-    let pack = optional_packing(alloc, format, words)?;
+    let pack = optional_packing(format, words, spare)?;
     let placements = placements(words, empty)?;
     Ok(Step::Send {
         size,
@@ -139,7 +143,7 @@ fn send(alloc: Global, format: Format, words: &mut Words, empty: Placements) -> 
 
 /// A burst.
 #[tactic(auto, unfolding(crate::specs::Reading::burst_at))]
-fn burst(alloc: Global, words: &mut Words) -> Result<Step, Stop>
+fn burst(words: &mut Words, spare: Packing) -> Result<Step, Stop>
     ensures { Reads result words.new (burst_at words.old) }
 {
     if !words.accept(b"burst") {
@@ -150,23 +154,23 @@ fn burst(alloc: Global, words: &mut Words) -> Result<Step, Stop>
     if !words.accept(b"pack") {
         return Err(Stop::Form);
     }
-    let pack = packing(alloc, words)?;
+    let pack = packing(words, spare)?;
     Ok(Step::Burst { count, size, pack })
 }
 
-/// What is sent, the placements in the memory of a list that is empty.
+/// What is sent, in the memory of a packing and of a list of placements that is empty.
 #[tactic(auto, unfolding(crate::specs::Reading::step_at))]
 #[inline(always)]
-fn step(alloc: Global, format: Format, words: &mut Words, empty: Placements) -> Result<Step, Stop>
+fn step(format: Format, words: &mut Words, spare: Packing, empty: Placements) -> Result<Step, Stop>
     requires { empty ≡ [] }
     ensures { Reads result words.new (step_at format words.old) }
 {
     if words.accept(b"send") {
-        return send(alloc, format, words, empty);
+        return send(format, words, spare, empty);
     }
     match format {
         Format::One => Err(Stop::Form),
-        Format::Two => burst(alloc, words),
+        Format::Two => burst(words, spare),
     }
 }
 
@@ -185,6 +189,19 @@ fn emptied(alloc: Global, step: &mut Step) -> Placements
     }
 }
 
+/// The packing of a step, which then has no bins, for its memory.
+#[inline(always)]
+fn spare_packing(alloc: Global, step: &mut Step) -> Packing {
+    match step {
+        Step::Send {
+            pack: Some(pack),
+            ..
+        } => mem::replace(pack, Packing::new(alloc)),
+        Step::Send { pack: None, .. } => Packing::new(alloc),
+        Step::Burst { pack, .. } => mem::replace(pack, Packing::new(alloc)),
+    }
+}
+
 /// Reads a node of the adversary of this number into a node in place of what it holds.
 #[tactic(auto, unfolding(crate::specs::Reading::adversary_at))]
 #[inline(always)]
@@ -199,7 +216,8 @@ fn adversary(
 {
     read_position(words, number, &mut node.loads, &mut node.items)?;
     let empty = emptied(alloc, &mut node.step);
-    node.step = step(alloc, format, words, empty)?;
+    let spare = spare_packing(alloc, &mut node.step);
+    node.step = step(format, words, spare, empty)?;
     if !words.is_at_end() {
         return Err(Stop::Form);
     }
@@ -228,7 +246,7 @@ pub fn parse_adversary(
 }
 
 /// Reads the node that [`parse_adversary`] gives into a node in place of what it holds, in the memory of its lists of
-/// loads, items and placements where that is enough. False exactly where the line spells none; the node may then hold
+/// loads, items and placements and of its packing where that is enough. False exactly where the line spells none; the node may then hold
 /// anything.
 #[inline(never)]
 pub fn read_adversary(

@@ -2,13 +2,13 @@
 
 ghost use Rattle.std.specs.Prelude.{◌≡◌, OnOk, false, MatchBool, Some, None, codes};
 ghost use Rattle.strategy_text.specs.Words.{has_space};
-ghost use Rattle.strategy_text.specs.Reading.{Reads, ReadsInto};
+ghost use Rattle.strategy_text.specs.Reading.{ReadsInto};
 ghost use Rattle.strategy_text.specs.Reading.{numbers_at, list_at, numbered_at, labelled_at, position_at};
 
 use crate::stop::Stop;
 use crate::words::Words;
-use items::{Nums, Sequence};
-use std::alloc::{AllocError, Global};
+use items::Nums;
+use std::alloc::AllocError;
 
 /// Puts the numbers up to the first word that is none into a list in place of what it holds.
 #[inline(always)]
@@ -27,7 +27,7 @@ fn read_numbers(words: &mut Words, list: &mut Nums) -> Result<(), AllocError>
 /// Reads a list of numbers, a dash for none, else one or more numbers, into a list in place of what it holds.
 #[tactic(auto, using(crate::proofs::Steps::some_again), unfolding(crate::specs::Reading::list_at))]
 #[inline(always)]
-fn read_list(words: &mut Words, list: &mut Nums) -> Result<(), Stop>
+pub(crate) fn read_list(words: &mut Words, list: &mut Nums) -> Result<(), Stop>
     ensures { ReadsInto result list.new words.new (list_at words.old) }
 {
     if words.accept(b"-") {
@@ -39,16 +39,6 @@ fn read_list(words: &mut Words, list: &mut Nums) -> Result<(), Stop>
         return Err(Stop::Form);
     }
     Ok(())
-}
-
-/// A list of numbers: a dash for none, else one or more numbers.
-#[inline(always)]
-pub(crate) fn list(alloc: Global, words: &mut Words) -> Result<Nums, Stop>
-    ensures { Reads result words.new (list_at words.old) }
-{
-    let mut list = Sequence::new(alloc);
-    read_list(words, &mut list)?;
-    Ok(list)
 }
 
 /// Whether the next word is this number.

@@ -3,7 +3,8 @@
 ghost use Rattle.std.specs.Prelude.{◌≡◌};
 ghost use Rattle.strategy_text.specs.Rules.{rule_word};
 
-/// A rule of a line or a node. The rules of a node are judged in the order in which they stand here.
+/// A rule of a line or a node. The rules of a node are those of its side, and each side's list says in which order they
+/// are judged; the order in which they stand here is no order of judging.
 #[derive(Clone, Copy, Debug, PartialEq, Eq)]
 pub enum Rule {
     /// The numbers of line 2 are a game.

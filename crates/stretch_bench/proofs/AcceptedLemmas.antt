@@ -20,9 +20,9 @@ use Rattle.strategy_text.specs.Writing.{spaced}
 use Rattle.strategy_text.proofs.Spaced.{line_spaced}
 use Rattle.algorithm_graph.proofs.BelowLemmas.{legal_replies_keep_below}
 use Rattle.algorithm_graph.proofs.ReplayLemmas.{replies_are_an_algorithm}
-use Rattle.checker.specs.Accepted.{Accepts, Loads}
+use Rattle.checker.specs.Accepted.{Accepts, IsLoaded}
 use Rattle.checker.specs.FirstFault.{IsLegalText}
-use Rattle.checker.specs.Head.{AreLegalNodes}
+use Rattle.strategies.specs.AnyNode.{AreLegalNodes}
 use Rattle.checker.specs.declared.fault.Accepted.{Accepted}
 use Rattle.checker.specs.declared.fault.Wanted.{Wanted}
 use Rattle.checker.specs.declared.fault.Wanted.TheVariants.{Either, Only}
@@ -53,7 +53,7 @@ small_nodes format game sizes (sides.Algorithm list) legal = (legal.of_game, ome
 legal_numbers : (accepted : Accepted) (left new_left : Option (List ℕ)) → Accepts Either accepted left new_left → HasSmallNumbers accepted
 legal_numbers accepted left new_left stands =
     let strategy = stands.strategy in
-    let small = small_nodes strategy.format strategy.game (sizes_of strategy.game) strategy.nodes stands.loads.spells.legal in
+    let small = small_nodes strategy.format strategy.game (sizes_of strategy.game) strategy.nodes stands.loaded.legal in
     let of_game : IsGame accepted.game = subst IsGame (sym stands.game) small.0 in
     record {
       bins = omega (arith, of_game.bins.high);
@@ -100,7 +100,7 @@ done_stands : (players : Players) (left new_left : Option (List ℕ)) (command :
 done_stands players left new_left Check text accepted more due e =
     let strategy = due.strategy in
     let stands : Accepts Either (accepted_of strategy) left new_left =
-    record { strategy = strategy; loads = due.loads; game = refl; side = refl; number = refl } in
+    record { strategy = strategy; loaded = due.loaded; game = refl; side = refl; number = refl } in
     subst (λ (a : Accepted). Accepts Either a left new_left)
     (same_line (accepted_of strategy) accepted more (legal_numbers (accepted_of strategy) left new_left stands) (sym due.is ∙ e)) stands
 done_stands players left new_left (Play place) text accepted more due e =
@@ -172,18 +172,17 @@ accepted_stands run status (memory_refused s) unread unmade accepted first =
 -- ---- where a command is served
 
 -- where all bytes were read, they are the text of the strategy
-legal_bytes : (wanted : Wanted) (strategy : Strategy) (bytes : List ℕ) (new_left : Option (List ℕ)) → Loads wanted strategy (Some bytes) new_left
+legal_bytes : (wanted : Wanted) (strategy : Strategy) (bytes : List ℕ) (new_left : Option (List ℕ)) → IsLoaded wanted strategy (Some bytes) new_left
     → IsLegalText wanted bytes
-legal_bytes wanted strategy bytes None loads = let gone : Some bytes ≡ None = loads.spells.gone in absurd cc
+legal_bytes wanted strategy bytes None loads = let gone : Some bytes ≡ None = loads.gone in absurd cc
 legal_bytes wanted strategy bytes (Some rest) loads =
-    let spells = loads.spells in
     let none : rest ≡ [] = loads.whole in
-    let all : bytes ≡ spells.read ++ rest = (let gone : Some bytes ≡ Some (spells.read ++ rest) = spells.gone in cc) in
+    let all : bytes ≡ loads.read ++ rest = (let gone : Some bytes ≡ Some (loads.read ++ rest) = loads.gone in cc) in
     record {
       strategy = strategy;
-      legal = spells.legal;
-      wanted_side = spells.wanted_side;
-      spelled = all ∙ ap (λ (more : List ℕ). spells.read ++ more) none ∙ append-nil spells.read ∙ spells.spelled ∙ append-nil (text_of strategy);
+      legal = loads.legal;
+      wanted_side = loads.wanted_side;
+      spelled = all ∙ ap (λ (more : List ℕ). loads.read ++ more) none ∙ append-nil loads.read ∙ loads.spelled;
     }
 
 -- a status is no other
@@ -196,7 +195,7 @@ done_exact : (work : Work) (bytes : List ℕ) (new_left : Option (List ℕ)) (st
     → IsDone work (Some bytes) new_left text → IsExact (wanted_of work) (Some bytes) status
 done_exact (of_words Is) bytes new_left status text s is = tt
 done_exact (of_strategy wanted Is) bytes new_left status text s is =
-    λ on. (λ served. legal_bytes wanted is.strategy bytes new_left is.loads, λ legal. inl s)
+    λ on. (λ served. legal_bytes wanted is.strategy bytes new_left is.loaded, λ legal. inl s)
 
 rejected_exact : (wanted : Option Wanted) (w : Wanted) (bytes : List ℕ) (new_left : Option (List ℕ)) (status : Status) (text : List ℕ) → status ≡ Rejected
     → wanted ≡ Some w → IsRejected w (Some bytes) new_left text → IsExact wanted (Some bytes) status
@@ -211,7 +210,7 @@ outcome_exact players bytes new_left command status text (rejected wanted s w is
     rejected_exact (wanted_by players command) wanted bytes new_left status text s w is
 outcome_exact players bytes new_left command status text (unpackable items s c is) =
     subst (λ (x : Command). IsExact (wanted_by players x) (Some bytes) status) (sym c)
-    (λ on. (λ served. legal_bytes (Only Algorithm) is.strategy bytes new_left is.loads, λ legal. inr s))
+    (λ on. (λ served. legal_bytes (Only Algorithm) is.strategy bytes new_left is.loaded, λ legal. inr s))
 outcome_exact players bytes new_left command status text (undecided game budget table s c l is) =
     subst (λ (x : Command). IsExact (wanted_by players x) (Some bytes) status) (sym c) tt
 
@@ -261,7 +260,7 @@ accepted_forces game nodes left new_left stands = forced.accepted_forces Either 
 
 -- the replies of a legal strategy of the algorithm keep every load below the target
 strategy_replies : (format : Format) (game : GameNumbers) (number : ℕ) (nodes : Nodes) (left new_left : Option (List ℕ))
-    → Loads Either (record { format = format; game = game; nodes = nodes }) left new_left → number ≡ length (nodes_of nodes) → side_of nodes ≡ Algorithm
+    → IsLoaded Either (record { format = format; game = game; nodes = nodes }) left new_left → number ≡ length (nodes_of nodes) → side_of nodes ≡ Algorithm
     → Replying game number left new_left
 strategy_replies format game number (sides.Adversary list) left new_left loads e side = absurd cc
 strategy_replies format game number (sides.Algorithm list) left new_left loads e side =
@@ -269,9 +268,9 @@ strategy_replies format game number (sides.Algorithm list) left new_left loads e
       format = format;
       nodes = list;
       number_of_nodes = e ∙ length-map list of_algorithm;
-      loads = loads;
-      algorithm = replies_are_an_algorithm game list (loads.spells.legal.of_game);
-      keeps = legal_replies_keep_below format game list loads.spells.legal;
+      loaded = loads;
+      algorithm = replies_are_an_algorithm game list loads.legal.of_game;
+      keeps = legal_replies_keep_below format game list loads.legal;
     }
 
 pub accepted_replies : (game : GameNumbers) (nodes : ℕ) (left new_left : Option (List ℕ)) → Accepts Either (algorithm_accepted game nodes) left new_left
@@ -279,4 +278,4 @@ pub accepted_replies : (game : GameNumbers) (nodes : ℕ) (left new_left : Optio
 accepted_replies game nodes left new_left stands =
     let strategy = stands.strategy in
     subst (λ g. Replying g nodes left new_left) (sym stands.game)
-    (strategy_replies strategy.format strategy.game nodes strategy.nodes left new_left stands.loads stands.number (sym stands.side))
+    (strategy_replies strategy.format strategy.game nodes strategy.nodes left new_left stands.loaded stands.number (sym stands.side))

@@ -9,11 +9,12 @@ use Rattle.std.specs.declared.alloc.Global.{Global}
 use Rattle.algorithm_graph.specs.Pools as algorithm
 use Rattle.algorithm_graph.specs.Replies.{replies}
 use Rattle.items.specs.Game.{GameNumbers}
-use Rattle.items.specs.Multiset.{IsSize}
+use Rattle.items.specs.Multiset.{IsSize, sizes_of}
 use Rattle.items.specs.Packable.{Packable}
 use Rattle.match_player.specs.Answers.{IsLeastUnpackable, answered_by}
 use Rattle.match_player.specs.Lines.{answer_text}
 use Rattle.match_player.specs.declared.answered.Answered.{Answered}
+use Rattle.node_pool.specs.Pools.{nodes_up_to}
 use Rattle.strategy_text.specs.declared.node.Strategy.{Strategy}
 use Rattle.stretch_bench.specs.Answer.{IsAnswerOf, IsUnpackable, most_item, unpackable_line}
 use Rattle.stretch_bench.specs.Call.{Players}
@@ -22,6 +23,7 @@ use Rattle.stretch_bench.specs.declared.command.Command.TheVariants.{Answer}
 use Rattle.stretch_bench.specs.Pieces.{IsDueWith}
 use Rattle.stretch_bench.specs.declared.due.Due.{Due}
 use Rattle.stretch_bench.specs.declared.status.Status.TheVariants.{Done, Unpackable}
+use Rattle.stretch_bench.proofs.LegalLemmas.{pool_is}
 use Rattle.stretch_bench.proofs.OutcomeLemmas.{due_is}
 
 pub answer_words : {E : Type 0} (players : Players) (words rest : List (List ℕ)) (r : Result (Option (List ℕ)) E) → words ≡ codes "answer" ∷ rest
@@ -51,13 +53,13 @@ no_item words k high word read l at is most none items sizes e =
 -- the replies of a pool's nodes are those of the strategy that it was made from
 pub answer_of : (strategy : Strategy) (pool file : algorithm.Pool) (root : ℕ) (items text : List ℕ) (answered : Answered) → strategy ≡ algorithm.strategy_of pool
     → algorithm.IsRoot pool.nodes (length pool.nodes - 1) → root ≡ length pool.nodes - 1
-    → file ≡ algorithm.pool_of pool.format pool.game (algorithm.nodes_up_to root pool.nodes) → Packable file.game items
+    → pool.sizes ≡ sizes_of pool.game → file ≡ algorithm.pool_of pool.format pool.game (nodes_up_to root pool.nodes) → Packable file.game items
     → answered ≡ answered_by file.game (replies file.game file.nodes) items → All (λ load. load < file.game.target) answered.loads
     → text ≡ answer_text strategy.game answered → IsAnswerOf items strategy text
-answer_of strategy pool file root items text answered e is_root last same packable is below lines =
+answer_of strategy pool file root items text answered e is_root last whole same packable is below lines =
     let some = slice_get_within pool.nodes (length pool.nodes - 1) is_root.0 is_root.1 in
-    let all : algorithm.nodes_up_to root pool.nodes ≡ pool.nodes = take_all (root + 1) pool.nodes (omega (arith, last, some)) in
-    let file_is : file ≡ pool = same ∙ ap (λ nodes. algorithm.pool_of pool.format pool.game nodes) all in
+    let all : nodes_up_to root pool.nodes ≡ pool.nodes = take_all (root + 1) pool.nodes (omega (arith, last, some)) in
+    let file_is : file ≡ pool = same ∙ ap (λ nodes. algorithm.pool_of pool.format pool.game nodes) all ∙ pool_is pool whole in
     let answers : answered ≡ answered_by pool.game (replies pool.game pool.nodes) items =
     is ∙ ap (λ (f : algorithm.Pool). answered_by f.game (replies f.game f.nodes) items) file_is in
     let made : IsAnswerOf items (algorithm.strategy_of pool) text = record {
@@ -72,15 +74,15 @@ answer_of strategy pool file root items text answered e is_root last same packab
 
 pub answer_due : (strategy : Strategy) (pool file : algorithm.Pool) (root : ℕ) (items text : List ℕ) (answered : Answered) (due : Due) → strategy ≡ algorithm.strategy_of pool
     → algorithm.IsRoot pool.nodes (length pool.nodes - 1) → root ≡ length pool.nodes - 1
-    → file ≡ algorithm.pool_of pool.format pool.game (algorithm.nodes_up_to root pool.nodes) → Packable file.game items
+    → pool.sizes ≡ sizes_of pool.game → file ≡ algorithm.pool_of pool.format pool.game (nodes_up_to root pool.nodes) → Packable file.game items
     → answered ≡ answered_by file.game (replies file.game file.nodes) items → All (λ load. load < file.game.target) answered.loads
     → text ≡ answer_text strategy.game answered → IsDueWith Done (λ written. written ≡ text) due → IsDueWith Done (IsAnswerOf items strategy) due
-answer_due strategy pool file root items text answered due e is_root last same packable is below lines with =
-    due_is Done (IsAnswerOf items strategy) text due (answer_of strategy pool file root items text answered e is_root last same packable is below lines) with
+answer_due strategy pool file root items text answered due e is_root last whole same packable is below lines with =
+    due_is Done (IsAnswerOf items strategy) text due (answer_of strategy pool file root items text answered e is_root last whole same packable is below lines) with
 
 -- items that do not fit the game of a pool's nodes
 pub unpackable_due : (strategy : Strategy) (pool file : algorithm.Pool) (root : ℕ) (items : List ℕ) (place other : ℕ) (line : List ℕ) (due : Due)
-    → strategy ≡ algorithm.strategy_of pool → file ≡ algorithm.pool_of pool.format pool.game (algorithm.nodes_up_to root pool.nodes)
+    → strategy ≡ algorithm.strategy_of pool → file ≡ algorithm.pool_of pool.format pool.game (nodes_up_to root pool.nodes)
     → IsLeastUnpackable file.game items place → other ≡ place → line ≡ unpackable_line other → IsDueWith Unpackable (λ text. text ≡ line) due
     → IsDueWith Unpackable (IsUnpackable items strategy) due
 unpackable_due strategy pool file root items place other line due e same least is told with =

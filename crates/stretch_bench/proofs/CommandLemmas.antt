@@ -23,20 +23,27 @@ no_items players words r told is =
 untrue : IsTrue false → ⊥
 untrue t = let wrong : false ≡ true = t in absurd cc
 
+-- no reader found the words of its command
+pub record FindsNone (players : Players) (words : List (List ℕ)) : Type 0 where
+  pub check : words ≡ codes "check" ∷ [] → IsTrue false
+  pub minimise : words ≡ codes "minimise" ∷ [] → IsTrue false
+  pub upgrade : words ≡ codes "upgrade" ∷ [] → IsTrue false
+  pub report : words ≡ codes "report" ∷ [] → IsTrue false
+  pub play : (place : ℕ) → Spells players words (Play place) → ⊥
+  pub drill : (number copies : ℕ) → Spells players words (Drill number copies) → ⊥
+  pub searches : (game : GameNumbers) (budget table : ℕ) → Spells players words (Search game budget table) → ⊥
+  pub answer : (items : List ℕ) → Spells players words (Answer items) → ⊥
+
 -- words that spell none of the commands
-pub none_spelled : (players : Players) (words : List (List ℕ)) → (words ≡ codes "check" ∷ [] → IsTrue false)
-    → (words ≡ codes "minimise" ∷ [] → IsTrue false) → (words ≡ codes "upgrade" ∷ [] → IsTrue false) → (words ≡ codes "report" ∷ [] → IsTrue false)
-    → ((place : ℕ) → Spells players words (Play place) → ⊥) → ((number copies : ℕ) → Spells players words (Drill number copies) → ⊥)
-    → ((game : GameNumbers) (budget table : ℕ) → Spells players words (Search game budget table) → ⊥)
-    → ((items : List ℕ) → Spells players words (Answer items) → ⊥) → SpellsNone players words
-none_spelled players words check minimise upgrade report play drill searching answer Check spells = untrue (check spells.spelled)
-none_spelled players words check minimise upgrade report play drill searching answer Minimise spells = untrue (minimise spells.spelled)
-none_spelled players words check minimise upgrade report play drill searching answer Upgrade spells = untrue (upgrade spells.spelled)
-none_spelled players words check minimise upgrade report play drill searching answer Report spells = untrue (report spells.spelled)
-none_spelled players words check minimise upgrade report play drill searching answer (Play place) spells = play place spells
-none_spelled players words check minimise upgrade report play drill searching answer (Drill number copies) spells = drill number copies spells
-none_spelled players words check minimise upgrade report play drill searching answer (Search game budget table) spells = searching game budget table spells
-none_spelled players words check minimise upgrade report play drill searching answer (Answer items) spells = answer items spells
+pub none_spelled : (players : Players) (words : List (List ℕ)) → FindsNone players words → SpellsNone players words
+none_spelled players words none Check spells = untrue (none.check spells.spelled)
+none_spelled players words none Minimise spells = untrue (none.minimise spells.spelled)
+none_spelled players words none Upgrade spells = untrue (none.upgrade spells.spelled)
+none_spelled players words none Report spells = untrue (none.report spells.spelled)
+none_spelled players words none (Play place) spells = none.play place spells
+none_spelled players words none (Drill number copies) spells = none.drill number copies spells
+none_spelled players words none (Search game budget table) spells = none.searches game budget table spells
+none_spelled players words none (Answer items) spells = none.answer items spells
 
 -- the command that was read is spelled
 pub spelled_of : (players : Players) (words : List (List ℕ)) (r : Option Command) (command : Command)

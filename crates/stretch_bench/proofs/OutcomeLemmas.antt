@@ -5,7 +5,7 @@ use Rattle.std.proofs.lemmas.Bool.{cases_lt}
 use Rattle.std.specs.Prelude.{slice_get}
 use Rattle.items.specs.Game.{GameNumbers}
 use Rattle.items.specs.Multiset.{sizes_of}
-use Rattle.checker.specs.Accepted.{Accepts, IsFaultOf, Loads}
+use Rattle.checker.specs.Accepted.{Accepts, IsFaultOf, IsLoaded}
 use Rattle.checker.specs.declared.fault.Accepted.{Accepted}
 use Rattle.checker.specs.declared.fault.CheckFault.{CheckFault}
 use Rattle.checker.specs.declared.fault.CheckFault.TheVariants as check_fault
@@ -14,14 +14,15 @@ use Rattle.checker.specs.declared.fault.Wanted.TheVariants.{Either, Only}
 use Rattle.checker.specs.declared.fault.Why.{Why}
 use Rattle.loads.specs.Wins.{IsWon, empty_position}
 use Rattle.minimax.specs.Answers.{IsAnswer, IsDecided, IsFor}
-use Rattle.minimax.specs.Budgets.{AreNumbersOfEnds, HasRoom, IsOfAdversary, ends_before}
+use Rattle.minimax.specs.Budgets.{AreNumbersOfReachable, HasRoom, IsOfAdversary, reachable_before}
 use Rattle.minimax.specs.declared.answer.Answer.{Answer as SearchAnswer}
 use Rattle.minimax.specs.declared.answer.Answer.TheVariants as answers
-use Rattle.minimise.specs.Strategies.{IsLegal, canonical_form}
+use Rattle.minimise.specs.Strategies.{canonical_form}
+use Rattle.strategies.specs.AnyNode.{IsLegal}
 use Rattle.minimise.specs.Upgrade.{IsCanonicalUpgrade}
 use Rattle.minimise.proofs.StrategyLemmas.{canonical_forms_have_no_more_nodes}
 use Rattle.monotone.specs.Passes.{allowed_in, whole_game}
-use Rattle.monotone.specs.Positions.{CountsAllEnds}
+use Rattle.monotone.specs.Positions.{CountsAllReachable}
 use Rattle.monotone.specs.Visits.{most_visits}
 use Rattle.monotone.specs.declared.path.PathMove.{PathMove}
 use Rattle.strategy_text.specs.Text.{nodes_of, side_of, text_of}
@@ -74,40 +75,40 @@ module _ (players : Players) (left new_left : Option (List ℕ)) where
   check_made due with = done_with Check (λ text. IsRead Either left new_left (λ strategy. IsAcceptedLine strategy text)) due (λ text read. read) with
 
   pub play_made : (place : ℕ) (name : List ℕ) (answer : GameNumbers → List ℕ → ℕ) (strategy : Strategy) (due : Due)
-      → slice_get players.names place ≡ Some name → slice_get players.answers place ≡ Some answer → Loads (Only Adversary) strategy left new_left
+      → slice_get players.names place ≡ Some name → slice_get players.answers place ≡ Some answer → IsLoaded (Only Adversary) strategy left new_left
       → IsDueWith Done (IsPlayOf name answer strategy) due → IsMade players left new_left (Play place) due
   play_made place name answer strategy due named so loads with =
       done_with (Play place) (IsPlayOf name answer strategy) due
       (λ text play. record {
         strategy = strategy;
-        loads = loads;
+        loaded = loads;
         is = record { name = name; named = named; answer = answer; answers_so = so; play = play };
       })
       with
 
-  pub answer_made : (items : List ℕ) (strategy : Strategy) (due : Due) → Loads (Only Algorithm) strategy left new_left
+  pub answer_made : (items : List ℕ) (strategy : Strategy) (due : Due) → IsLoaded (Only Algorithm) strategy left new_left
       → IsEither Done (IsAnswerOf items strategy) Unpackable (IsUnpackable items strategy) due → IsMade players left new_left (Answer items) due
   answer_made items strategy due loads (inl with) =
-      done_with (Answer items) (IsAnswerOf items strategy) due (λ text is. record { strategy = strategy; loads = loads; is = is }) with
+      done_with (Answer items) (IsAnswerOf items strategy) due (λ text is. record { strategy = strategy; loaded = loads; is = is }) with
   answer_made items strategy due loads (inr with) = record {
-    outcome = unpackable items with.status_is refl (record { strategy = strategy; loads = loads; is = with.text });
+    outcome = unpackable items with.status_is refl (record { strategy = strategy; loaded = loads; is = with.text });
     writable = with.writable;
   }
 
-  pub minimise_made : (strategy : Strategy) (due : Due) → Loads Either strategy left new_left → IsDueWith Done (IsMinimised strategy) due
+  pub minimise_made : (strategy : Strategy) (due : Due) → IsLoaded Either strategy left new_left → IsDueWith Done (IsMinimised strategy) due
       → IsMade players left new_left Minimise due
   minimise_made strategy due loads with =
-      done_with Minimise (IsMinimised strategy) due (λ text is. record { strategy = strategy; loads = loads; is = is }) with
+      done_with Minimise (IsMinimised strategy) due (λ text is. record { strategy = strategy; loaded = loads; is = is }) with
 
-  pub upgrade_made : (strategy : Strategy) (due : Due) → Loads Either strategy left new_left → IsDueWith Done (IsUpgraded strategy) due
+  pub upgrade_made : (strategy : Strategy) (due : Due) → IsLoaded Either strategy left new_left → IsDueWith Done (IsUpgraded strategy) due
       → IsMade players left new_left Upgrade due
   upgrade_made strategy due loads with =
-      done_with Upgrade (IsUpgraded strategy) due (λ text is. record { strategy = strategy; loads = loads; is = is }) with
+      done_with Upgrade (IsUpgraded strategy) due (λ text is. record { strategy = strategy; loaded = loads; is = is }) with
 
-  pub report_made : (strategy : Strategy) (due : Due) → Loads Either strategy left new_left → IsDueWith Done (IsSummaryOf strategy) due
+  pub report_made : (strategy : Strategy) (due : Due) → IsLoaded Either strategy left new_left → IsDueWith Done (IsSummaryOf strategy) due
       → IsMade players left new_left Report due
   report_made strategy due loads with =
-      done_with Report (IsSummaryOf strategy) due (λ text is. record { strategy = strategy; loads = loads; is = is }) with
+      done_with Report (IsSummaryOf strategy) due (λ text is. record { strategy = strategy; loaded = loads; is = is }) with
 
   pub drill_made : (number copies : ℕ) (due : Due) → new_left ≡ left → IsDueWith Done (λ text. text ≡ drilled number copies) due
       → IsMade players left new_left (Drill number copies) due
@@ -139,7 +140,7 @@ module _ (players : Players) (left new_left : Option (List ℕ)) where
 
 -- ---- what is made
 
--- the replies of a strategy whose text is known
+-- the canonical form of a strategy
 pub minimise_due : (strategy made : Strategy) (due : Due) → IsLegal strategy → made ≡ canonical_form strategy → IsDueWith Done (λ text. text ≡ text_of made) due
     → IsDueWith Done (IsMinimised strategy) due
 minimise_due strategy made due legal is with =
@@ -177,10 +178,10 @@ less a b not = ⊎_elim (λ (l : b < a). l) (λ (m : a ≤ b). absurd (not m)) (
 pub undecided_due : (game : GameNumbers) (budget table room visits pass : ℕ) (path : List PathMove) (answer : SearchAnswer) (line : List ℕ) (due : Due)
     → answer ≡ answers.Undecided visits pass path → room ≡ table → IsAnswer game budget answer
     → (most_visits (whole_game game) ≤ budget → IsDecided answer)
-    → ((all : ℕ) → CountsAllEnds game all → all ≤ room → game.capacity * all ≤ budget → IsDecided answer)
-    → ((numbers : ℕ → ℕ) → AreNumbersOfEnds game numbers → HasRoom game room → ends_before numbers game.capacity ≤ budget → IsDecided answer)
-    → ((numbers : ℕ → ℕ) (won : ℕ) → AreNumbersOfEnds game numbers → HasRoom game room
-    → IsWon game (allowed_in (sizes_of game) won) (empty_position game) → ends_before numbers (won + 1) ≤ budget → IsOfAdversary answer)
+    → ((all : ℕ) → CountsAllReachable game all → all ≤ room → game.capacity * all ≤ budget → IsDecided answer)
+    → ((numbers : ℕ → ℕ) → AreNumbersOfReachable game numbers → HasRoom game room → reachable_before numbers game.capacity ≤ budget → IsDecided answer)
+    → ((numbers : ℕ → ℕ) (won : ℕ) → AreNumbersOfReachable game numbers → HasRoom game room
+    → IsWon game (allowed_in (sizes_of game) won) (empty_position game) → reachable_before numbers (won + 1) ≤ budget → IsOfAdversary answer)
     → line ≡ undecided_line game visits pass path → IsDueWith Undecided (λ text. text ≡ line) due → IsDueWith Undecided (IsUndecided game budget table) due
 undecided_due game budget table room visits pass path answer line due e same is many all each won told with =
     let at = subst (IsAnswer game budget) e is in
@@ -192,9 +193,9 @@ undecided_due game budget table room visits pass path answer line due e same is 
       fewer_than_visits = less (most_visits (whole_game game)) budget (λ h. subst IsDecided e (many h));
       fewer_than_positions = λ number counts within. less (game.capacity * number) budget
           (λ h. subst IsDecided e (all number counts (subst (λ (r : ℕ). number ≤ r) (sym same) within) h));
-      fewer_than_passes = λ numbers are room_for. less (ends_before numbers game.capacity) budget
+      fewer_than_passes = λ numbers are room_for. less (reachable_before numbers game.capacity) budget
           (λ h. subst IsDecided e (each numbers are (subst (HasRoom game) (sym same) room_for) h));
-      fewer_than_won = λ numbers pass are room_for is_won. less (ends_before numbers (pass + 1)) budget
+      fewer_than_won = λ numbers pass are room_for is_won. less (reachable_before numbers (pass + 1)) budget
           (λ h. subst IsOfAdversary e (won numbers pass are (subst (HasRoom game) (sym same) room_for) is_won h));
       line = told ∙ ap (λ (v : ℕ). undecided_line game v pass path) at.0;
     })
@@ -209,7 +210,7 @@ accepted_due accepted left new_left line due accepts told with =
     let same : accepted ≡ record { game = strategy.game; side = side_of strategy.nodes; nodes = length (nodes_of strategy.nodes) } =
     λ i. record { game = accepts.game i; side = accepts.side i; nodes = accepts.number i } in
     due_is Done (λ text. IsRead Either left new_left (λ strategy. IsAcceptedLine strategy text)) line due
-    (record { strategy = strategy; loads = accepts.loads; is = told ∙ ap accepted_line same })
+    (record { strategy = strategy; loaded = accepts.loaded; is = told ∙ ap accepted_line same })
     with
 
 -- the line of a fault that was found

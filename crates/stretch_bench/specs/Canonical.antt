@@ -1,6 +1,6 @@
 -- What is said of a strategy that a command writes.
 use Rattle.std.specs.Prelude.{◌≡◌}
-use Rattle.checker.specs.Head.{IsLegal}
+use Rattle.strategies.specs.AnyNode.{IsLegal}
 use Rattle.minimise.specs.Reached.{AreDistinct, AreReached}
 use Rattle.minimise.specs.Strategies.{canonical_form, positions_in, references_in}
 use Rattle.strategy_text.specs.Text.{side_of}

@@ -1,6 +1,6 @@
 -- What a command is: how it is spelled, what it reads, and what is written when it is done.
 use Rattle.std.specs.Prelude.{◌≡◌, ℕ, List, Option, Some, None}
-use Rattle.checker.specs.Accepted.{Loads}
+use Rattle.checker.specs.Accepted.{IsLoaded}
 use Rattle.checker.specs.declared.fault.Wanted.{Wanted}
 use Rattle.strategy_text.specs.declared.node.Strategy.{Strategy}
 
@@ -26,7 +26,7 @@ wanted_of (of_strategy wanted Is) = Some wanted
 -- a legal strategy of a wanted side was read, and this is so of it
 pub record IsRead (wanted : Wanted) (left new_left : Option (List ℕ)) (Is : Strategy → Type 0) : Type 0 where
   pub strategy : Strategy
-  pub loads : Loads wanted strategy left new_left
+  pub loaded : IsLoaded wanted strategy left new_left
   pub is : Is strategy
 
 -- a work was done, over what the source had left and has left, and this text is due

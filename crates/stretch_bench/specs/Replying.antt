@@ -6,7 +6,7 @@ use Rattle.strategy_text.specs.declared.node.AlgNode.{AlgNode}
 use Rattle.strategy_text.specs.declared.node.Format.{Format}
 use Rattle.strategy_text.specs.declared.node.Nodes.TheVariants.{Algorithm}
 use Rattle.algorithm_graph.specs.Replies.{replies}
-use Rattle.checker.specs.Accepted.{Loads}
+use Rattle.checker.specs.Accepted.{IsLoaded}
 use Rattle.checker.specs.declared.fault.Wanted.TheVariants.{Either}
 
 -- the bytes that were read spell a legal strategy of the algorithm for this game, with so many nodes; its replies are
@@ -15,6 +15,6 @@ pub record Replying (game : GameNumbers) (number : ℕ) (left new_left : Option 
   pub format : Format
   pub nodes : List AlgNode
   pub number_of_nodes : number ≡ length nodes
-  pub loads : Loads Either (record { format = format; game = game; nodes = Algorithm nodes }) left new_left
+  pub loaded : IsLoaded Either (record { format = format; game = game; nodes = Algorithm nodes }) left new_left
   pub algorithm : IsAlgorithm game (replies game nodes)
   pub keeps : KeepsBelow game (replies game nodes)

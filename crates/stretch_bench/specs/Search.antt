@@ -4,10 +4,10 @@ use Rattle.std.specs.List.{flat_map}
 use Rattle.items.specs.Game.{GameNumbers, IsGame}
 use Rattle.items.specs.Multiset.{sizes_of}
 use Rattle.loads.specs.Wins.{IsWon, empty_position}
-use Rattle.minimax.specs.Budgets.{AreNumbersOfEnds, HasRoom, ends_before}
+use Rattle.minimax.specs.Budgets.{AreNumbersOfReachable, HasRoom, reachable_before}
 use Rattle.minimax.specs.Settled as settled
 use Rattle.monotone.specs.Passes.{allowed_in, whole_game}
-use Rattle.monotone.specs.Positions.{CountsAllEnds}
+use Rattle.monotone.specs.Positions.{CountsAllReachable}
 use Rattle.monotone.specs.Visits.{most_visits, visit}
 use Rattle.monotone.specs.declared.path.PathMove.{PathMove}
 use Rattle.strategy_text.specs.Text.{line_of, nodes_of, text_of}
@@ -67,11 +67,11 @@ pub record IsUndecided (game : GameNumbers) (budget table : ℕ) (text : List �
   pub path : List PathMove
   pub due : settled.IsDue (whole_game game) budget (visit pass path)
   pub fewer_than_visits : budget < most_visits (whole_game game)
-  pub fewer_than_positions : (all : ℕ) → CountsAllEnds game all → all ≤ table → budget < game.capacity * all
-  pub fewer_than_passes : (numbers : ℕ → ℕ) → AreNumbersOfEnds game numbers → HasRoom game table
-      → budget < ends_before numbers game.capacity
-  pub fewer_than_won : (numbers : ℕ → ℕ) (won : ℕ) → AreNumbersOfEnds game numbers → HasRoom game table
-      → IsWon game (allowed_in (sizes_of game) won) (empty_position game) → budget < ends_before numbers (won + 1)
+  pub fewer_than_positions : (all : ℕ) → CountsAllReachable game all → all ≤ table → budget < game.capacity * all
+  pub fewer_than_passes : (numbers : ℕ → ℕ) → AreNumbersOfReachable game numbers → HasRoom game table
+      → budget < reachable_before numbers game.capacity
+  pub fewer_than_won : (numbers : ℕ → ℕ) (won : ℕ) → AreNumbersOfReachable game numbers → HasRoom game table
+      → IsWon game (allowed_in (sizes_of game) won) (empty_position game) → budget < reachable_before numbers (won + 1)
   pub line : text ≡ undecided_line game budget pass path
 
 abbrev pub search : GameNumbers → ℕ → ℕ → Form

@@ -14,7 +14,7 @@ use crate::due::Due;
 use crate::lines::text_of_line;
 use crate::number::number_of;
 use crate::status::Status;
-use algorithm_graph::{AlgPool, FileAlgorithm};
+use algorithm_graph::{AlgJudged, FileAlgorithm};
 use items::Nums;
 use match_player::{AnswerFault, answer, answer_text};
 use std::alloc::{AllocError, Global};
@@ -58,9 +58,9 @@ pub(crate) fn answered(alloc: Global, items: &[u16], strategy: Strategy) -> Resu
         Unpackable (IsUnpackable items.now strategy)) }
 {
     let game = strategy.game;
-    let pool = AlgPool::from_strategy(alloc, strategy)?;
-    let root = pool.len() - 1;
-    let algorithm = FileAlgorithm::new(pool, root);
+    let nodes = AlgJudged::from_strategy(strategy);
+    let root = nodes.len() - 1;
+    let algorithm = FileAlgorithm::of_nodes(nodes, root);
     match answer(alloc, &algorithm, items) {
         Ok(answered) => {
             let lines = answer_text(alloc, &game, &answered)?;

@@ -12,7 +12,7 @@ ghost use Rattle.stretch_bench.specs.declared.status.Status.TheVariants.{Done};
 
 use crate::due::Due;
 use crate::status::Status;
-use adversary_graph::{AdvPool, refute};
+use adversary_graph::{AdvJudged, refute_by};
 use match_player::match_text;
 use online_play::{Online, Player};
 use std::alloc::{AllocError, Global};
@@ -56,8 +56,8 @@ pub(crate) fn played(alloc: Global, player: &Player, strategy: Strategy) -> Resu
         IfOk result (IsDueWith Done (IsPlayOf player.now.name answer strategy)) }
 {
     let game = strategy.game;
-    let pool = AdvPool::from_strategy(alloc, strategy)?;
-    let transcript = refute(alloc, &pool, pool.len() - 1, &player.player)?;
+    let nodes = AdvJudged::from_strategy(strategy);
+    let transcript = refute_by(alloc, &nodes, nodes.len() - 1, &player.player)?;
     let lines = match_text(alloc, player.name.as_str(), &game, &transcript)?;
     Ok(Due::of_lines(Status::Done, lines))
 }

@@ -1,7 +1,7 @@
 //! The command `report`.
 
 ghost use Rattle.std.specs.Prelude.{◌≡◌, IfOk, string_bytes};
-ghost use Rattle.minimise.specs.Strategies.{IsLegal};
+ghost use Rattle.strategies.specs.AnyNode.{IsLegal};
 ghost use Rattle.stretch_bench.specs.Pieces.{IsDueWith};
 ghost use Rattle.stretch_bench.specs.Report.{IsSummaryOf, report_line, report_words};
 ghost use Rattle.stretch_bench.specs.declared.status.Status.TheVariants.{Done};

@@ -3,7 +3,7 @@
 ghost use Rattle.std.specs.Prelude.{◌≡◌, ◌++◌, ◌∷◌, [], ℕ, IfOk, MatchOption, OnOk};
 ghost use Rattle.items.specs.Game.{GameNumbers};
 ghost use Rattle.minimax.specs.Answers.{IsFor};
-ghost use Rattle.minimise.specs.Strategies.{IsLegal};
+ghost use Rattle.strategies.specs.AnyNode.{IsLegal};
 ghost use Rattle.strategy_text.specs.Writing.{spaced};
 ghost use Rattle.stretch_bench.specs.Call.{Players};
 ghost use Rattle.stretch_bench.specs.Commands.{Spells, spelling_of};

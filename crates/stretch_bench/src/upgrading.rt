@@ -1,7 +1,7 @@
 //! The command `upgrade`.
 
 ghost use Rattle.std.specs.Prelude.{IfOk};
-ghost use Rattle.minimise.specs.Strategies.{IsLegal};
+ghost use Rattle.strategies.specs.AnyNode.{IsLegal};
 ghost use Rattle.stretch_bench.specs.Pieces.{IsDueWith};
 ghost use Rattle.stretch_bench.specs.Upgrade.{IsUpgraded};
 ghost use Rattle.stretch_bench.specs.declared.status.Status.TheVariants.{Done};

@@ -10,7 +10,7 @@ use Rattle.std.proofs.lemmas.Map.{NonePasses, none_passes_from_lookup}
 use Rattle.std.proofs.lemmas.Map.Steps.{length-le_from_keys}
 use Rattle.std.proofs.lemmas.Map.Made.{is_some-lookup}
 use Rattle.std.proofs.lemmas.Map.Views.{list_any-from_Contains}
-use Rattle.loads.specs.Packed.{are_equal}
+use Rattle.loads.specs.Position.{are_equal}
 use Rattle.transposition.specs.Bounded.{found}
 use Rattle.transposition.specs.Laws.{NewPositionsFindRoom}
 use Rattle.transposition.proofs.LookupLemmas.{found_alike}

@@ -1,6 +1,6 @@
 use Rattle.std.specs.Prelude.{◌≡◌, ℕ, ◌<◌, IsSome, None, List, length, Contains}
 use Rattle.loads.specs.declared.position.Position.{Position}
-use Rattle.loads.specs.Packed.{are_equal}
+use Rattle.loads.specs.Position.{are_equal}
 use Rattle.transposition.specs.declared.verdict.Verdict.{Verdict}
 use Rattle.transposition.specs.Bounded.{bounded, IsBoundedMap}
 use Rattle.transposition.specs.Memo.{verdict_of}

@@ -1,6 +1,6 @@
 use Rattle.std.specs.Prelude.{List, Option}
 use Rattle.loads.specs.declared.position.Position.{Position}
-use Rattle.loads.specs.Packed.{are_equal}
+use Rattle.loads.specs.Position.{are_equal}
 use Rattle.transposition.specs.declared.verdict.Verdict.{Verdict}
 use Rattle.transposition.specs.Bounded.{found}
 

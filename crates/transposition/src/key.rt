@@ -135,7 +135,7 @@ impl Key {
 }
 
 impl PartialEq for Key {
-    ghost use Rattle.loads.specs.Packed.{are_equal};
+    ghost use Rattle.loads.specs.Position.{are_equal};
     ghost use Rattle.std.specs.Cmp.Rules.{comparing};
     ghost use Rattle.std.proofs.Common.{rules};
 

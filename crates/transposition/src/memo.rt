@@ -2,7 +2,7 @@
 
 ghost use Rattle.std.specs.Prelude.{◌≡◌, ◌↔◌, ◌<◌, ◌≤◌, ℕ, List, IsSome, IsOk, IfOk, IsTrue, OnOk, OnErr, None, length};
 ghost use Rattle.std.specs.Prelude.{if◌then◌else◌};
-ghost use Rattle.loads.specs.Packed.{are_equal};
+ghost use Rattle.loads.specs.Position.{are_equal};
 ghost use Rattle.loads.specs.declared.position.Position.{Position};
 ghost use Rattle.transposition.specs.Bounded.{bounded, IsBoundedMap, SameEntries, Puts, PutsForOther};
 ghost use Rattle.transposition.specs.Memo.{verdict_of};

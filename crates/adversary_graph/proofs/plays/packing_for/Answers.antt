@@ -22,5 +22,5 @@ returns-clause-packed c =
     let has = has_end_packing pool c.pool_is_legal.ensures (c.args.number + 1) c.args.number end.0 (omega arith) end.1 in
     let same = same_Some has.0 c.end_packing.result.now (sym has.1 ∙ c.end_packing.ensures) in
     let enough = subst (λ (bins : List (List ℕ)). PacksEnough pool.game (end.0.items ++ sent_items end.0.step) bins) same has.2 in
-    rw (c.in_ok-packing.ensures, c.game-game.ensures.value, c.as_slice.ensures.value) (end_packing_holds pool.game c.args.items.now
+    rw (c.in_ok-packing.ensures, c.game-game.ensures.value) (end_packing_holds pool.game c.args.items.now
     (end.0.items ++ sent_items end.0.step) c.end_packing.result.now enough end.2)

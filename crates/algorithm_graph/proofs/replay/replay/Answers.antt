@@ -3,7 +3,7 @@ use Rattle.std.proofs.lemmas.List.{length-replicate, length-set}
 use Rattle.std.proofs.lemmas.List.Folds.{sum_by-replicate}
 use Rattle.online_play.proofs.RuleLemmas.{replay_fits, replay_total}
 use Rattle.good_situations.specs.KeptOrder.{CanAdd}
-use Rattle.algorithm_graph.specs.Pools.{nodes_up_to}
+use Rattle.node_pool.specs.Pools.{nodes_up_to}
 use Rattle.algorithm_graph.specs.Replies.{move_at}
 use Rattle.algorithm_graph.specs.Replaying.{stand_of}
 use Rattle.algorithm_graph.proofs.StepLemmas.{replay_begins, replay_goes_on, replies_with, can_add_next}

@@ -1,5 +1,5 @@
 use Rattle.std.proofs.Common.{◌≡◌, ◌<◌, ◌≤◌, length, sum, take}
-use Rattle.algorithm_graph.specs.Pools.{nodes_up_to}
+use Rattle.node_pool.specs.Pools.{nodes_up_to}
 use Rattle.algorithm_graph.specs.Replies.{replayed, replies}
 use Rattle.algorithm_graph.specs.Replaying.{stand_of, replay_at, IsStandIn}
 use Rattle.algorithm_graph.proofs.replay.replay.Given as goal

@@ -1,4 +1,4 @@
-use Rattle.std.proofs.Common.{◌+◌, ℕ, List, subst, length}
+use Rattle.std.proofs.Common.{◌≡◌, ◌+◌, ℕ, List, subst, length, arith}
 use Rattle.checker.specs.Head.{IsNodeLine, IsBrokenNodeLine}
 use Rattle.checker.specs.Progress.{RefusesNext, IsRefusedLine, told_by}
 use Rattle.checker.specs.declared.fault.CheckFault.{CheckFault}
@@ -12,10 +12,11 @@ returns-in_err-next_text-clause-refused g c =
     let new_left = g.S.Source.left c.next_text.new.source in
     let head = told_by c.args.head.now in
     let earlier = c.args.earlier.now in
-    passed_on (λ (fault : CheckFault). RefusesNext (5 + length earlier) (IsNodeLine head (length earlier))
+    let place : c.line_of.result ≡ head.start + length earlier = omega (arith, c.line_of.ensures, c.len.ensures.value) in
+    passed_on (λ (fault : CheckFault). RefusesNext (head.start + length earlier) (IsNodeLine head (length earlier))
     (IsBrokenNodeLine head earlier) fault old left new_left) c.in_err-next_text.field-0.0 c.from_residual.result c.from_residual.ensures.1
-    (subst (λ (i : ℕ). RefusesNext (5 + i) (IsNodeLine head (length earlier)) (IsBrokenNodeLine head earlier) c.in_err-next_text.field-0.0 old left new_left) c.len.ensures.value
-    (refuses_next (5 + c.len.result) (IsNodeLine head (length earlier)) (IsBrokenNodeLine head earlier) c.in_err-next_text.field-0.0 old left new_left
+    (subst (λ (i : ℕ). RefusesNext i (IsNodeLine head (length earlier)) (IsBrokenNodeLine head earlier) c.in_err-next_text.field-0.0 old left new_left) place
+    (refuses_next c.line_of.result (IsNodeLine head (length earlier)) (IsBrokenNodeLine head earlier) c.in_err-next_text.field-0.0 old left new_left
     c.in_err-next_text.ensures.refused))
 
 pub returns-clause-refused : goal.returns-clause-refused
@@ -26,9 +27,10 @@ returns-clause-refused g c =
     let head = told_by c.args.head.now in
     let earlier = c.args.earlier.now in
     let text = c.next_text.new.lines.text in
-    err_so (λ (fault : CheckFault). IsRefusedLine (5 + length earlier) (IsNodeLine head (length earlier)) (IsBrokenNodeLine head earlier) fault c.text.result.now)
-    (λ (fault : CheckFault). RefusesNext (5 + length earlier) (IsNodeLine head (length earlier)) (IsBrokenNodeLine head earlier) fault old left new_left) c.take_node.result
-    (λ fault h. refuses_line (5 + length earlier) (IsNodeLine head (length earlier))
+    err_so (λ (fault : CheckFault). IsRefusedLine (head.start + length earlier) (IsNodeLine head (length earlier)) (IsBrokenNodeLine head earlier) fault c.text.result.now)
+    (λ (fault : CheckFault). RefusesNext (head.start + length earlier) (IsNodeLine head (length earlier)) (IsBrokenNodeLine head earlier) fault old left new_left)
+    c.take_node.result
+    (λ fault h. refuses_line (head.start + length earlier) (IsNodeLine head (length earlier))
     (IsBrokenNodeLine head earlier) fault text old c.next_text.new.lines left new_left c.in_ok-next_text.ensures.ok
-    (subst (λ (t : List ℕ). IsRefusedLine (5 + length earlier) (IsNodeLine head (length earlier)) (IsBrokenNodeLine head earlier) fault t) c.text.ensures h))
+    (subst (λ (t : List ℕ). IsRefusedLine (head.start + length earlier) (IsNodeLine head (length earlier)) (IsBrokenNodeLine head earlier) fault t) c.text.ensures h))
     c.take_node.ensures.err

@@ -7,7 +7,7 @@ use Rattle.minimax.specs.Serving.{IsServedBy, KeepsServing}
 use Rattle.minimax.specs.State.{FindsVerdict, IsNeverWon, IsPlayable, IsSpent, IsWonIn, Stops}
 use Rattle.minimax.specs.Fresh.{IsShort, progress}
 use Rattle.minimax.specs.Writing.{MayWrite}
-use Rattle.minimax.proofs.FreshLemmas.{IsLessThanEnds-short, IsWithinEnds-next, IsWithinEnds-start}
+use Rattle.minimax.proofs.FreshLemmas.{IsLessThanReachable-short, IsWithinReachable-next, IsWithinReachable-start}
 use Rattle.minimax.proofs.StateLemmas.{AreSound-later, never_by_led}
 use Rattle.minimax.proofs.RootLemmas.{AreSound-new, HasSpare-new, IsDue-spent, IsFor-more, IsPlayable-empty, few_wins, may_visit_root, may_write, may_write_wins}
 use Rattle.minimax.proofs.RootLemmas.{none_more}
@@ -27,7 +27,8 @@ loop-pass-init g c = record {
     path = c.new-5.result;
     most = 0;
   }) c.args.game.now (g.M.Memo.entries c.args.memo.now) c.new-2.ensures.empty c.new-3.ensures.empty c.requires.empty;
-  ends = IsWithinEnds-start c.args.game.now (g.M.Memo.room c.args.memo.now) c.args.budget c.new.result (g.M.Memo.entries c.args.memo.now) c.new.ensures.unused c.requires.empty;
+  reachable = IsWithinReachable-start c.args.game.now (g.M.Memo.room c.args.memo.now) c.args.budget c.new.result (g.M.Memo.entries c.args.memo.now)
+      c.new.ensures.unused c.requires.empty;
   path = c.new-5.ensures.none;
   most = c.g.ensures.value;
   budget = ap (λ (m : Metered). m.budget) c.new.ensures.unused;
@@ -100,7 +101,7 @@ returns-in-Err-Spent-clause-within g c =
     let at = progress c.loop-pass.search.meter (g.M.Memo.entries c.loop-pass.memo) (g.M.Memo.room c.loop-pass.memo) in
     let volume : ℕ = sum c.in_ok-key.key.items in
     let short = subst (IsShort game c.loop-pass.pass volume at) c.in-Err-Spent.field-0-is c.in-Err-Spent.ensures.counts in
-    IsLessThanEnds-short game (g.M.Memo.room c.args.memo.now) c.args.budget c.loop-pass.pass volume at c.loop-pass.invariant.ends short
+    IsLessThanReachable-short game (g.M.Memo.room c.args.memo.now) c.args.budget c.loop-pass.pass volume at c.loop-pass.invariant.reachable short
 
 pub returns-in-Ok-Algorithm-clause-within : goal.returns-in-Ok-Algorithm-clause-within
 returns-in-Ok-Algorithm-clause-within g c =
@@ -125,7 +126,8 @@ loop-pass-preserved g c =
     record {
       sound = AreSound-later game pass s2.meter s2.wins s2.replies e (pass + 1) (omega arith) finds.went.sound;
       behind = spare_after c.args.game.now 0 0 c.loop-pass.search s2 (g.M.Memo.entries c.loop-pass.memo) e _ c.in-Ok-Held.ensures.serves c.loop-pass.invariant.behind;
-      ends = IsWithinEnds-next game (g.M.Memo.room c.args.memo.now) c.args.budget pass (sum c.in_ok-key.key.items) _ _ c.loop-pass.invariant.ends c.in-Ok-Held.ensures.counts;
+      reachable = IsWithinReachable-next game (g.M.Memo.room c.args.memo.now) c.args.budget pass (sum c.in_ok-key.key.items) _ _
+          c.loop-pass.invariant.reachable c.in-Ok-Held.ensures.counts;
       path = goes.path ∙ c.loop-pass.invariant.path;
       most = goes.most ∙ c.loop-pass.invariant.most;
       budget = goes.budget ∙ c.loop-pass.invariant.budget;

@@ -2,7 +2,7 @@ use Rattle.std.proofs.Common.{◌≡◌, ◌<◌, List, []}
 use Rattle.monotone.specs.Passes.{whole_game}
 use Rattle.monotone.specs.Visits.{IsLater, visit}
 use Rattle.monotone.specs.declared.path.PathMove.{PathMove}
-use Rattle.minimax.specs.Fresh.{IsWithinEnds, progress}
+use Rattle.minimax.specs.Fresh.{IsWithinReachable, progress}
 use Rattle.minimax.specs.Serving.{HasSpare}
 use Rattle.minimax.specs.Settled.{NoneWonBefore}
 use Rattle.minimax.specs.State.{IsSound}
@@ -12,7 +12,7 @@ abbrev pub invariant-loop-pass : goal.invariant-loop-pass
 invariant-loop-pass g l = record {
   sound : IsSound l.game l.pass l.search (g.M.Memo.entries l.memo);
   behind : HasSpare l.game 0 l.search (g.M.Memo.entries l.memo);
-  ends : IsWithinEnds l.game (g.M.Memo.room l.fn.memo) l.budget l.pass (progress l.search.meter (g.M.Memo.entries l.memo) (g.M.Memo.room l.memo));
+  reachable : IsWithinReachable l.game (g.M.Memo.room l.fn.memo) l.budget l.pass (progress l.search.meter (g.M.Memo.entries l.memo) (g.M.Memo.room l.memo));
   path : l.search.path ≡ [];
   most : l.search.most ≡ l.game.capacity;
   budget : l.search.meter.budget ≡ l.budget;

@@ -1,5 +1,6 @@
 use Rattle.std.proofs.Common.{◌∙◌, refl, sym, subst, arith}
 use Rattle.minimax.specs.State.{IsPlayable, ReplyToAll}
+use Rattle.minimax.proofs.StateLemmas.{IsPlain-same}
 use Rattle.minimax.proofs.NamingLemmas.{Stays-all, leaves_all, puts_named}
 use Rattle.minimax.proofs.naming.put_reply.Goals as goal
 
@@ -11,7 +12,7 @@ push_reply-requires-clause-playable c =
 pub push_reply-requires-clause-format : goal.push_reply-requires-clause-format
 push_reply-requires-clause-format c =
     let stays = Stays-all c.args.game.now c.args.position.now c.args.entries.now c.args.written.now c.name_all.new.written c.in_ok-named.ensures.all in
-    stays.of_format ∙ c.requires.may.1.replies.of_format
+    IsPlain-same c.args.written.now.pool c.name_all.new.written.pool stays.of_terms c.requires.may.1.replies.of_format
 
 pub push_reply-requires-clause-room : goal.push_reply-requires-clause-room
 push_reply-requires-clause-room c =

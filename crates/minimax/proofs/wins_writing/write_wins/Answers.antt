@@ -2,6 +2,9 @@ use Rattle.std.proofs.Common.{◌≡◌, ◌<◌, ◌∙◌, ◌≤◌, ℕ, Lis
 use Rattle.std.proofs.lemmas.List.{get_or_read}
 use Rattle.std.proofs.lemmas.Option.{slice_get_read}
 use Rattle.adversary_graph.specs.Pools.{IsRoot}
+use Rattle.node_pool.specs.Pools.{nodes_up_to}
+use Rattle.node_pool.specs.Terms.{Terms}
+use Rattle.adversary_graph.proofs.PoolLemmas.{IsLegal-of_pool}
 use Rattle.minimax.specs.WinsWriting.{MayPutWin}
 use Rattle.minimax.specs.declared.wins.Win.{Win}
 use Rattle.minimax.proofs.WinsWritingLemmas.{IsFor-wins, may_put_win, number_within, root_written, wins_more}
@@ -59,4 +62,11 @@ returns-clause-for_game c =
     let few : c.loop-k.k ≤ length c.args.wins.now =
     omega (arith, c.loop-k.auto.k-end, c.len-k-end.ensures, c.in_ok-marks.ensures.up_to, number_within c.args.game.now c.args.wins.now c.args.root c.requires.may) in
     IsFor-wins c.args.game.now c.args.wins.now c.in_ok-marks.marks.items c.loop-k.k c.index-2.result.now c.loop-k.pool c.loop-k.numbers.items c.into_strategy.result
-    c.loop-k.invariant few c.into_strategy.ensures.value
+    c.loop-k.invariant few c.into_strategy.ensures.format c.into_strategy.ensures.game c.into_strategy.ensures.nodes
+
+pub returns-clause-legal : goal.returns-clause-legal
+returns-clause-legal c =
+    let made = c.into_strategy.ensures in
+    let pool = c.loop-k.pool in
+    IsLegal-of_pool c.into_strategy.result pool (nodes_up_to c.index-2.result.now pool.nodes) (ap (λ (t : Terms). t.sizes) c.loop-k.invariant.of_format)
+    made.format made.game made.nodes made.legal

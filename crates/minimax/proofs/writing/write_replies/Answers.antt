@@ -1,4 +1,7 @@
-use Rattle.std.proofs.Common.{◌≡◌, ◌<◌, List, length, get_or, subst}
+use Rattle.std.proofs.Common.{◌≡◌, ◌<◌, List, length, get_or, ap, subst}
+use Rattle.node_pool.specs.Pools.{nodes_up_to}
+use Rattle.node_pool.specs.Terms.{Terms}
+use Rattle.algorithm_graph.proofs.PoolLemmas.{IsLegal-of_pool}
 use Rattle.minimax.specs.declared.replies.Reply.{Reply}
 use Rattle.minimax.proofs.RootLemmas.{root_of_reply}
 use Rattle.minimax.proofs.WritingLemmas.{IsFor-written, may_put, written_more, written_root}
@@ -33,4 +36,13 @@ returns-clause-for_game c =
     let end = written_root c.args.game.now c.args.replies.now c.args.root.now c.args.told c.args.budget c.loop-reply.reply-index c.in_ok-number.number c.loop-reply.written
     c.node_number.new.written c.requires.may c.loop-reply.invariant c.in_ok-number.ensures in
     IsFor-written c.args.game.now c.args.budget c.in_ok-number.number c.node_number.new.written.pool c.into_strategy.result end.1.of_game end.1.of_format end.2
-    c.into_strategy.ensures.value
+    c.into_strategy.ensures.format c.into_strategy.ensures.game c.into_strategy.ensures.nodes
+
+pub returns-clause-legal : goal.returns-clause-legal
+returns-clause-legal c =
+    let end = written_root c.args.game.now c.args.replies.now c.args.root.now c.args.told c.args.budget c.loop-reply.reply-index c.in_ok-number.number c.loop-reply.written
+    c.node_number.new.written c.requires.may c.loop-reply.invariant c.in_ok-number.ensures in
+    let made = c.into_strategy.ensures in
+    let pool = c.node_number.new.written.pool in
+    IsLegal-of_pool c.into_strategy.result pool (nodes_up_to c.in_ok-number.number pool.nodes) (ap (λ (t : Terms). t.sizes) end.1.of_format)
+    made.format made.game made.nodes made.legal

@@ -1,7 +1,7 @@
 use Rattle.std.proofs.Common.{◌≡◌, ◌<◌, ℕ, ◌∙◌, ◌++◌, ◌∷◌, [], length, map, take, ap, sym, arith}
 use Rattle.std.proofs.lemmas.List.{get_or-map, length-map, length-take-le, take_more}
 use Rattle.indexmap.specs.IndexMap.{get}
-use Rattle.loads.specs.Packed.{are_equal}
+use Rattle.loads.specs.Position.{are_equal}
 use Rattle.minimise.specs.Canonical.{representatives}
 use Rattle.minimise.proofs.RepresentativeLemmas.{index_more, length-representatives, no_position, position_at, representative, representative_found}
 use Rattle.minimise.proofs.representatives.least_numbers.Goals as goal

@@ -1,7 +1,7 @@
 use Rattle.std.proofs.Common.{◌≡◌, map, take}
 use Rattle.std.specs.Prelude.{position}
 use Rattle.indexmap.specs.IndexMap.{get}
-use Rattle.loads.specs.Packed.{are_equal}
+use Rattle.loads.specs.Position.{are_equal}
 use Rattle.loads.specs.declared.position.Position.{Position}
 use Rattle.minimise.specs.Canonical.{representatives}
 use Rattle.minimise.proofs.representatives.least_numbers.Given as goal

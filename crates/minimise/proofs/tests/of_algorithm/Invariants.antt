@@ -1,6 +1,6 @@
 use Rattle.std.proofs.Common.{◌≡◌}
-use Rattle.strategy_text.specs.declared.node.Format.TheVariants.{Two}
+use Rattle.node_pool.specs.Pools.{terms_in}
 use Rattle.minimise.proofs.tests.of_algorithm.Given as goal
 
 abbrev pub invariant-loop-line : goal.invariant-loop-line
-invariant-loop-line g l = l.pool.format ≡ Two
+invariant-loop-line g l = terms_in l.pool ≡ terms_in l.initial.pool

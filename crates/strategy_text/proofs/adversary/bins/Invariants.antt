@@ -1,11 +1,14 @@
-use Rattle.std.proofs.Common.{codes, length}
+use Rattle.std.proofs.Common.{◌≤◌, codes, length, take}
 use Rattle.strategy_text.specs.Words.{after}
 use Rattle.strategy_text.specs.Reading.{list_at, prepended, each_at}
 use Rattle.strategy_text.proofs.Loops.{Goes}
 use Rattle.strategy_text.proofs.adversary.bins.Given as goal
 
-abbrev pub invariant-loop-alloc : goal.invariant-loop-alloc
-invariant-loop-alloc l = Goes (after (codes "/")) list_at l.packing l.words (prepended l.initial.packing (each_at (after (codes "/")) list_at l.initial.words))
+abbrev pub invariant-loop-packing : goal.invariant-loop-packing
+invariant-loop-packing l =
+    (l.count ≤ length l.packing)
+    × Goes (after (codes "/")) list_at (take l.count l.packing) l.words
+    (prepended (take l.initial.count l.initial.packing) (each_at (after (codes "/")) list_at l.initial.words))
 
-abbrev pub decreases-loop-alloc : goal.decreases-loop-alloc
-decreases-loop-alloc l = length l.words
+abbrev pub decreases-loop-packing : goal.decreases-loop-packing
+decreases-loop-packing l = length l.words

@@ -9,7 +9,14 @@ returns-in-Some-2 g c = record {
 
 pub returns-in-None : goal.returns-in-None
 returns-in-None g c = record {
-  exact = none_spelled _ (spelling_of c.args.words.now) c.if-is_word.ensures.exact.1 c.if-is_word-2.ensures.exact.1 c.if-is_word-3.ensures.exact.1
-      c.if-is_word-4.ensures.exact.1 (c.in_default.ensures _) (c.in_default-drill_of.ensures _) (c.in_default-search_of.ensures _)
-      (no_items _ (spelling_of c.args.words.now) c.in_ok-items.field-0 (c.in_ok-items.ensures _) c.in-None.is);
+  exact = none_spelled _ (spelling_of c.args.words.now) (record {
+    check = c.if-is_word.ensures.exact.1;
+    minimise = c.if-is_word-2.ensures.exact.1;
+    upgrade = c.if-is_word-3.ensures.exact.1;
+    report = c.if-is_word-4.ensures.exact.1;
+    play = c.in_default.ensures _;
+    drill = c.in_default-drill_of.ensures _;
+    searches = c.in_default-search_of.ensures _;
+    answer = no_items _ (spelling_of c.args.words.now) c.in_ok-items.field-0 (c.in_ok-items.ensures _) c.in-None.is;
+  });
 }

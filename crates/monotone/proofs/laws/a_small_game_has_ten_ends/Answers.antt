@@ -1,5 +1,0 @@
-use Rattle.monotone.proofs.SmallGame.{small_game_has_ten_ends}
-use Rattle.monotone.proofs.laws.a_small_game_has_ten_ends.Goals as goal
-
-pub returns : goal.returns
-returns c = small_game_has_ten_ends
