@@ -9,7 +9,7 @@ use Rattle.items.specs.Game.{numbers}
 use Rattle.strategy_text.specs.declared.node.Side.{Side}
 use Rattle.strategy_text.specs.declared.node.Side.TheVariants.{Adversary, Algorithm}
 use Rattle.checker.specs.declared.fault.Accepted.{Accepted}
-use Rattle.stretch_bench.specs.Lines.{accepted_line}
+use Rattle.stretch_bench.specs.Check.{accepted_line}
 use Rattle.strategy_text.specs.Text.{side_word}
 
 -- no element of the list is x

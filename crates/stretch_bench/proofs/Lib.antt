@@ -1,5 +1,12 @@
-mod LineLemmas
 mod WordLemmas
+mod LineLemmas
 mod Fronts
-mod DueLemmas
+mod LegalLemmas
+mod OnceLemmas
+mod PlayLemmas
+mod AnswerLemmas
 mod OutcomeLemmas
+mod WriteLemmas
+mod RunLemmas
+mod AcceptedLemmas
+mod CommandLemmas

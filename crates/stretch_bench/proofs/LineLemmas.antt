@@ -14,8 +14,11 @@ use Rattle.checker.specs.declared.fault.Accepted.{Accepted}
 use Rattle.checker.specs.declared.fault.Why.{Why}
 use Rattle.checker.specs.declared.fault.Why.TheVariants as why
 use Rattle.strategy_text.specs.declared.rule.Rule.{Rule}
-use Rattle.stretch_bench.specs.Lines.{accepted_line, rejected_line, unpackable_line}
-use Rattle.stretch_bench.specs.Lines.{move_word, move_words, report_line, report_words, undecided_line}
+use Rattle.stretch_bench.specs.Answer.{unpackable_line}
+use Rattle.stretch_bench.specs.Check.{accepted_line}
+use Rattle.stretch_bench.specs.Lines.{rejected_line}
+use Rattle.stretch_bench.specs.Report.{report_line, report_words}
+use Rattle.stretch_bench.specs.Search.{move_word, move_words, undecided_line}
 use Rattle.strategy_text.specs.Rules.{rule_word}
 use Rattle.strategy_text.specs.Text.{line_of, side_word}
 

@@ -1,326 +1,224 @@
 -- What the work of a command comes to.
-use Rattle.std.proofs.Common.{◌≡◌, ◌⊎◌, ◌*◌, ◌≤◌, ◌<◌, ◌+◌, ◌-◌, ℕ, List, [], length}
-use Rattle.std.proofs.Common.{Option, Some, Result, Ok, Err, IfOk, inl, inr, sym, ap, subst, refl, ◌∙◌, arith}
-use Rattle.std.specs.Prelude.{slice_get, All, MatchOption}
-use Rattle.std.proofs.lemmas.List.{take_all}
-use Rattle.std.proofs.lemmas.Option.{slice_get_within}
+use Rattle.std.proofs.Common.{◌≡◌, ◌*◌, ◌≤◌, ◌<◌, ◌+◌, ℕ, List, [], length, ⊎_elim}
+use Rattle.std.proofs.Common.{Option, Some, None, Result, Ok, Err, IfOk, inl, inr, sym, ap, subst, refl, ◌∙◌, arith}
+use Rattle.std.proofs.lemmas.Bool.{cases_lt}
+use Rattle.std.specs.Prelude.{slice_get}
 use Rattle.items.specs.Game.{GameNumbers}
 use Rattle.items.specs.Multiset.{sizes_of}
-use Rattle.items.specs.Packable.{Packable}
-use Rattle.online_play.specs.declared.transcript.Transcript.{Transcript}
-use Rattle.strategy_text.specs.Text.{side_of}
-use Rattle.strategy_text.specs.declared.node.Format.{Format}
-use Rattle.strategy_text.specs.declared.node.Nodes.{Nodes}
-use Rattle.strategy_text.specs.declared.node.Nodes.TheVariants as nodes_of_side
-use Rattle.strategy_text.specs.declared.node.Side.TheVariants.{Adversary, Algorithm}
-use Rattle.strategy_text.specs.declared.node.Strategy.{Strategy}
-use Rattle.adversary_graph.specs.Play.{IsLost, play}
-use Rattle.adversary_graph.specs.Playing.{play_of}
-use Rattle.node_pool.specs.Pools.{nodes_up_to, terms_in}
-use Rattle.node_pool.specs.Terms.{Terms, whole_game as whole_terms}
-use Rattle.strategy_text.specs.declared.node.AdvNode.{AdvNode}
-use Rattle.strategy_text.specs.declared.node.AlgNode.{AlgNode}
-use Rattle.adversary_graph.specs.Legal as adversary_legal
-use Rattle.algorithm_graph.specs.Legal as algorithm_legal
-use Rattle.adversary_graph.specs.Pools as adversary
-use Rattle.algorithm_graph.specs.Pools as algorithm
-use Rattle.algorithm_graph.specs.Replies.{replies}
-use Rattle.strategies.specs.AnyNode.{AreLegalNodes}
-use Rattle.checker.proofs.LegalText.{legal_is_spellable, legal_text_has_no_fault}
-use Rattle.checker.specs.FirstFault.{IsLegalText}
-use Rattle.minimise.specs.Legal.{IsLegal}
-use Rattle.minimise.specs.Strategies.{canonical_form}
-use Rattle.minimise.proofs.StrategyLemmas.{canonical_forms_are_legal, canonical_forms_stay, canonical_forms_have_no_more_nodes}
-use Rattle.minimax.specs.Answers.{IsAnswer, IsDecided, IsFor}
-use Rattle.minimax.specs.Budgets.{AreNumbersOfReachable, HasRoom, IsOfAdversary, reachable_before}
-use Rattle.minimax.specs.declared.answer.Answer.{Answer as SearchAnswer}
-use Rattle.minimax.specs.declared.answer.Answer.TheVariants as answers
-use Rattle.monotone.specs.Passes.{allowed_in, whole_game}
-use Rattle.monotone.specs.Positions.{CountsAllReachable}
-use Rattle.monotone.specs.Visits.{most_visits}
-use Rattle.monotone.specs.declared.path.PathMove.{PathMove}
-use Rattle.loads.specs.Wins.{IsWon, empty_position}
-use Rattle.strategy_text.specs.Spelling.{IsSpellable}
-use Rattle.checker.specs.Accepted.{IsLoaded, IsFaultOf}
+use Rattle.checker.specs.Accepted.{Accepts, IsFaultOf, IsLoaded}
+use Rattle.checker.specs.declared.fault.Accepted.{Accepted}
 use Rattle.checker.specs.declared.fault.CheckFault.{CheckFault}
 use Rattle.checker.specs.declared.fault.CheckFault.TheVariants as check_fault
 use Rattle.checker.specs.declared.fault.Wanted.{Wanted}
 use Rattle.checker.specs.declared.fault.Wanted.TheVariants.{Either, Only}
 use Rattle.checker.specs.declared.fault.Why.{Why}
-use Rattle.match_player.specs.Answers.{answered_by}
-use Rattle.match_player.specs.declared.answered.Answered.{Answered}
-use Rattle.match_player.specs.Lines.{play_text, answer_text}
+use Rattle.loads.specs.Wins.{IsWon, empty_position}
+use Rattle.minimax.specs.Answers.{IsAnswer, IsDecided, IsFor}
+use Rattle.minimax.specs.Budgets.{AreNumbersOfReachable, HasRoom, IsOfAdversary, reachable_before}
+use Rattle.minimax.specs.declared.answer.Answer.{Answer as SearchAnswer}
+use Rattle.minimax.specs.declared.answer.Answer.TheVariants as answers
+use Rattle.minimise.specs.Strategies.{canonical_form}
+use Rattle.strategies.specs.AnyNode.{IsLegal}
+use Rattle.minimise.specs.Upgrade.{IsCanonicalUpgrade}
+use Rattle.minimise.proofs.StrategyLemmas.{canonical_forms_have_no_more_nodes}
+use Rattle.monotone.specs.Passes.{allowed_in, whole_game}
+use Rattle.monotone.specs.Positions.{CountsAllReachable}
+use Rattle.monotone.specs.Visits.{most_visits}
+use Rattle.monotone.specs.declared.path.PathMove.{PathMove}
+use Rattle.strategy_text.specs.Text.{nodes_of, side_of, text_of}
+use Rattle.strategy_text.specs.declared.node.Side.TheVariants.{Adversary, Algorithm}
+use Rattle.strategy_text.specs.declared.node.Strategy.{Strategy}
+use Rattle.stretch_bench.specs.Answer.{IsAnswerOf, IsUnpackable}
+use Rattle.stretch_bench.specs.Call.{Players}
+use Rattle.stretch_bench.specs.Check.{IsAcceptedLine, accepted_line}
+use Rattle.stretch_bench.specs.Commands.{form_of, wanted_by}
+use Rattle.stretch_bench.specs.Drill.{drilled}
+use Rattle.stretch_bench.specs.Due.{IsRejected, done, rejected, undecided, unpackable}
+use Rattle.stretch_bench.specs.Form.{IsDone, IsRead}
+use Rattle.stretch_bench.specs.Lines.{rejected_line}
+use Rattle.stretch_bench.specs.Minimise.{IsMinimised}
+use Rattle.stretch_bench.specs.Pieces.{IsDueWith, IsEither, IsMade, IsStop, IsStopOf, due_text}
+use Rattle.stretch_bench.specs.Play.{IsPlayOf}
+use Rattle.stretch_bench.specs.Report.{IsSummaryOf}
+use Rattle.stretch_bench.specs.Search.{IsFound, IsUndecided, undecided_line}
+use Rattle.stretch_bench.specs.Upgrade.{IsUpgraded}
 use Rattle.stretch_bench.specs.declared.command.Command.{Command}
 use Rattle.stretch_bench.specs.declared.command.Command.TheVariants.{Check, Play, Answer, Minimise, Upgrade, Report, Drill, Search}
 use Rattle.stretch_bench.specs.declared.due.Due.{Due}
+use Rattle.stretch_bench.specs.declared.due.Stop.{Stop}
+use Rattle.stretch_bench.specs.declared.due.Stop.TheVariants.{Memory}
 use Rattle.stretch_bench.specs.declared.status.Status.{Status}
-use Rattle.stretch_bench.specs.declared.status.Status.TheVariants.{Done, Rejected, Usage, Undecided, ReadFault, WriteFault, OutOfMemory, Unpackable}
-use Rattle.stretch_bench.specs.Due.{IsAnswerOf, IsCanonicalText, IsDue, IsFaulty, IsFound, IsOutcome, IsPlayOf}
-use Rattle.stretch_bench.specs.Due.{IsRejected, IsSummaryOf, IsUndecided, drilled, wanted_by}
-use Rattle.stretch_bench.specs.Lines.{rejected_line, undecided_line}
-use Rattle.stretch_bench.specs.Outcomes.{IsAnswered, IsFaultLine, IsFoundBy, IsInRange, IsReply, IsSearched}
-use Rattle.stretch_bench.specs.Words.{Spells, SpellsNone}
+use Rattle.stretch_bench.specs.declared.status.Status.TheVariants.{Done, Rejected, Undecided, Unpackable}
+use Rattle.stretch_bench.proofs.LegalLemmas.{canonical_alike, canonical_is, upgrade_alike, upgrade_is}
 
--- what a command that is spelled names is in range
-pub in_range : (names words : List (List ℕ)) (number : ℕ) (command : Command) → length names ≡ number → Spells names words command → IsInRange number command
-in_range names words number Check n spelled = tt
-in_range names words number (Play place) n spelled = omega (arith, slice_get_within names place spelled.0 spelled.2.here, n)
-in_range names words number (Answer items) n spelled = tt
-in_range names words number Minimise n spelled = tt
-in_range names words number Upgrade n spelled = tt
-in_range names words number Report n spelled = tt
-in_range names words number (Drill seed copies) n spelled = (spelled.some, spelled.most)
-in_range names words number (Search game budget table) n spelled = (spelled.some_visits, spelled.most_visits, spelled.some_entries)
+-- another kind of text
+pub due_as : (status : Status) (Is Also : List ℕ → Type 0) (due : Due) → ((text : List ℕ) → Is text → Also text) → IsDueWith status Is due → IsDueWith status Also due
+due_as status Is Also due gives with = record { status_is = with.status_is; writable = with.writable; text = gives (due_text due) with.text }
 
-module _ (names : List (List ℕ)) (answers : List (GameNumbers → List ℕ → ℕ)) (left new_left : Option (List ℕ)) where
-  fault_status : (command : Command) (status : Status) (text : List ℕ) → status ≡ Rejected → IsFaulty (wanted_by command) left new_left text
-      → IsOutcome names answers left new_left command status text
-  fault_status command status text e rejected = subst (λ s. IsOutcome names answers left new_left command s text) (sym e) rejected
+-- a text that is known
+pub due_is : (status : Status) (Is : List ℕ → Type 0) (known : List ℕ) (due : Due) → Is known → IsDueWith status (λ text. text ≡ known) due → IsDueWith status Is due
+due_is status Is known due is with = due_as status (λ text. text ≡ known) Is due (λ text e. subst Is (sym e) is) with
 
-  play_status : (place : ℕ) (name : List ℕ) (answer : GameNumbers → List ℕ → ℕ) (strategy : Strategy) (status : Status) (text : List ℕ)
-      → slice_get names place ≡ Some name → slice_get answers place ≡ Some answer → IsLoaded (Only Adversary) strategy left new_left
-      → status ≡ Done → IsPlayOf name answer text strategy → IsOutcome names answers left new_left (Play place) status text
-  play_status place name answer strategy status text named so loads e is =
-      subst (λ s. IsOutcome names answers left new_left (Play place) s text) (sym e)
-      (record { name = name; named = named; answer = answer; answers_so = so; read = record { strategy = strategy; loaded = loads; is = is } })
+module _ (players : Players) (left new_left : Option (List ℕ)) where
+  -- a command is done
+  done_with : (command : Command) (Is : List ℕ → Type 0) (due : Due)
+      → ((text : List ℕ) → Is text → IsDone (form_of players command).work left new_left text)
+      → IsDueWith Done Is due → IsMade players left new_left command due
+  done_with command Is due gives with = record { outcome = done with.status_is (gives (due_text due) with.text); writable = with.writable }
 
-  reply_status : (items : List ℕ) (strategy : Strategy) (status : Status) (text : List ℕ) → IsLoaded (Only Algorithm) strategy left new_left
-      → IsReply items strategy status text → IsOutcome names answers left new_left (Answer items) status text
-  reply_status items strategy Done text loads is = record { strategy = strategy; loaded = loads; is = is }
-  reply_status items strategy Unpackable text loads is = record { strategy = strategy; loaded = loads; is = is }
-  reply_status items strategy Rejected text loads is = absurd is
-  reply_status items strategy Usage text loads is = absurd is
-  reply_status items strategy Undecided text loads is = absurd is
-  reply_status items strategy ReadFault text loads is = absurd is
-  reply_status items strategy WriteFault text loads is = absurd is
-  reply_status items strategy OutOfMemory text loads is = absurd is
+  -- a command under another name
+  pub made_as : (one other : Command) (due : Due) → one ≡ other → IsMade players left new_left other due → IsMade players left new_left one due
+  made_as one other due e made = subst (λ (command : Command). IsMade players left new_left command due) (sym e) made
 
-  found_status : (game : GameNumbers) (budget table : ℕ) (status : Status) (text : List ℕ) → new_left ≡ left → IsFoundBy game budget table status text
-      → IsOutcome names answers left new_left (Search game budget table) status text
-  found_status game budget table Done text unread is = (unread, is)
-  found_status game budget table Undecided text unread is = (unread, is)
-  found_status game budget table Rejected text unread is = absurd is
-  found_status game budget table Usage text unread is = absurd is
-  found_status game budget table Unpackable text unread is = absurd is
-  found_status game budget table ReadFault text unread is = absurd is
-  found_status game budget table WriteFault text unread is = absurd is
-  found_status game budget table OutOfMemory text unread is = absurd is
+  pub check_made : (due : Due) → IsDueWith Done (λ text. IsRead Either left new_left (λ strategy. IsAcceptedLine strategy text)) due
+      → IsMade players left new_left Check due
+  check_made due with = done_with Check (λ text. IsRead Either left new_left (λ strategy. IsAcceptedLine strategy text)) due (λ text read. read) with
 
-module _ {E : Type 0} (names : List (List ℕ)) (answers : List (GameNumbers → List ℕ → ℕ)) (left new_left : Option (List ℕ)) where
-  -- the outcome of a command that is spelled is due
-  pub outcome_due : (words : List (List ℕ)) (command : Command) (r : Result Due E) → Spells names words command
-      → IfOk r (λ due. IsOutcome names answers left new_left command due.status due.text)
-      → IfOk r (λ due. IsDue (record { names = names; answers = answers; words = words; left = left; new_left = new_left }) due.status due.text)
-  outcome_due words command (Ok due) spelled outcome = inl (command, spelled, outcome)
-  outcome_due words command (Err e) spelled outcome = tt
+  pub play_made : (place : ℕ) (name : List ℕ) (answer : GameNumbers → List ℕ → ℕ) (strategy : Strategy) (due : Due)
+      → slice_get players.names place ≡ Some name → slice_get players.answers place ≡ Some answer → IsLoaded (Only Adversary) strategy left new_left
+      → IsDueWith Done (IsPlayOf name answer strategy) due → IsMade players left new_left (Play place) due
+  play_made place name answer strategy due named so loads with =
+      done_with (Play place) (IsPlayOf name answer strategy) due
+      (λ text play. record {
+        strategy = strategy;
+        loaded = loads;
+        is = record { name = name; named = named; answer = answer; answers_so = so; play = play };
+      })
+      with
 
-  -- the outcome of a command under another name
-  pub same_outcome : (one other : Command) (r : Result Due E) → one ≡ other
-      → IfOk r (λ due. IsOutcome names answers left new_left other due.status due.text)
-      → IfOk r (λ due. IsOutcome names answers left new_left one due.status due.text)
-  same_outcome one other r e outcome =
-      subst (λ command. IfOk r (λ due. IsOutcome names answers left new_left command due.status due.text)) (sym e) outcome
+  pub answer_made : (items : List ℕ) (strategy : Strategy) (due : Due) → IsLoaded (Only Algorithm) strategy left new_left
+      → IsEither Done (IsAnswerOf items strategy) Unpackable (IsUnpackable items strategy) due → IsMade players left new_left (Answer items) due
+  answer_made items strategy due loads (inl with) =
+      done_with (Answer items) (IsAnswerOf items strategy) due (λ text is. record { strategy = strategy; loaded = loads; is = is }) with
+  answer_made items strategy due loads (inr with) = record {
+    outcome = unpackable items with.status_is refl (record { strategy = strategy; loaded = loads; is = with.text });
+    writable = with.writable;
+  }
 
-  -- the line of a first fault is an outcome
-  pub fault_outcome : (command : Command) (wanted : Wanted) (r : Result Due E) → wanted_by command ≡ Some wanted
-      → IfOk r (λ due. IsFaultLine wanted left new_left due)
-      → IfOk r (λ due. IsOutcome names answers left new_left command due.status due.text)
-  fault_outcome command wanted (Ok due) e line =
-      fault_status names answers left new_left command due.status due.text line.status
-      (subst (λ w. IsFaulty w left new_left due.text) (sym e) line.rejected)
-  fault_outcome command wanted (Err f) e line = tt
+  pub minimise_made : (strategy : Strategy) (due : Due) → IsLoaded Either strategy left new_left → IsDueWith Done (IsMinimised strategy) due
+      → IsMade players left new_left Minimise due
+  minimise_made strategy due loads with =
+      done_with Minimise (IsMinimised strategy) due (λ text is. record { strategy = strategy; loaded = loads; is = is }) with
 
-  -- the play of a strategy that was read
-  pub play_outcome : (place : ℕ) (name : List ℕ) (answer : GameNumbers → List ℕ → ℕ) (strategy : Strategy) (r : Result Due E)
-      → slice_get names place ≡ Some name → slice_get answers place ≡ Some answer → IsLoaded (Only Adversary) strategy left new_left
-      → IfOk r (λ due. (due.status ≡ Done) × IsPlayOf name answer due.text strategy)
-      → IfOk r (λ due. IsOutcome names answers left new_left (Play place) due.status due.text)
-  play_outcome place name answer strategy (Ok due) named so loads is = play_status names answers left new_left place name answer strategy due.status due.text
-      named so loads is.0 is.1
-  play_outcome place name answer strategy (Err e) named so loads is = tt
+  pub upgrade_made : (strategy : Strategy) (due : Due) → IsLoaded Either strategy left new_left → IsDueWith Done (IsUpgraded strategy) due
+      → IsMade players left new_left Upgrade due
+  upgrade_made strategy due loads with =
+      done_with Upgrade (IsUpgraded strategy) due (λ text is. record { strategy = strategy; loaded = loads; is = is }) with
 
-  -- the replies of a strategy that was read
-  pub reply_outcome : (items : List ℕ) (strategy : Strategy) (r : Result Due E) → IsLoaded (Only Algorithm) strategy left new_left
-      → IfOk r (λ due. IsAnswered items strategy due) → IfOk r (λ due. IsOutcome names answers left new_left (Answer items) due.status due.text)
-  reply_outcome items strategy (Ok due) loads is = reply_status names answers left new_left items strategy due.status due.text loads is
-  reply_outcome items strategy (Err e) loads is = tt
+  pub report_made : (strategy : Strategy) (due : Due) → IsLoaded Either strategy left new_left → IsDueWith Done (IsSummaryOf strategy) due
+      → IsMade players left new_left Report due
+  report_made strategy due loads with =
+      done_with Report (IsSummaryOf strategy) due (λ text is. record { strategy = strategy; loaded = loads; is = is }) with
 
-  done_with : (command : Command) (Is : List ℕ → Type 0) (r : Result Due E)
-      → ((text : List ℕ) → Is text → IsOutcome names answers left new_left command Done text)
-      → IfOk r (λ due. (due.status ≡ Done) × Is due.text) → IfOk r (λ due. IsOutcome names answers left new_left command due.status due.text)
-  done_with command Is (Ok due) gives is =
-      subst (λ s. IsOutcome names answers left new_left command s due.text) (sym is.0) (gives due.text is.1)
-  done_with command Is (Err e) gives is = tt
+  pub drill_made : (number copies : ℕ) (due : Due) → new_left ≡ left → IsDueWith Done (λ text. text ≡ drilled number copies) due
+      → IsMade players left new_left (Drill number copies) due
+  drill_made number copies due unread with =
+      done_with (Drill number copies) (λ text. text ≡ drilled number copies) due (λ text is. (unread, is)) with
 
-  -- what was made of a strategy that was read
-  pub canonical_outcome : (strategy : Strategy) (r : Result Due E) → IsLoaded Either strategy left new_left
-      → IfOk r (λ due. (due.status ≡ Done) × IsCanonicalText due.text strategy)
-      → IfOk r (λ due. IsOutcome names answers left new_left Minimise due.status due.text)
-  canonical_outcome strategy r loads is =
-      done_with Minimise (λ text. IsCanonicalText text strategy) r (λ text made. record { strategy = strategy; loaded = loads; is = made }) is
+  pub search_made : (game : GameNumbers) (budget table : ℕ) (due : Due) → new_left ≡ left
+      → IsEither Done (IsFound game budget) Undecided (IsUndecided game budget table) due → IsMade players left new_left (Search game budget table) due
+  search_made game budget table due unread (inl with) =
+      done_with (Search game budget table) (IsFound game budget) due (λ text is. (unread, is)) with
+  search_made game budget table due unread (inr with) =
+      record { outcome = undecided game budget table with.status_is refl unread with.text; writable = with.writable }
 
-  pub summary_outcome : (strategy : Strategy) (r : Result Due E) → IsLoaded Either strategy left new_left
-      → IfOk r (λ due. (due.status ≡ Done) × IsSummaryOf due.text strategy)
-      → IfOk r (λ due. IsOutcome names answers left new_left Report due.status due.text)
-  summary_outcome strategy r loads is =
-      done_with Report (λ text. IsSummaryOf text strategy) r (λ text made. record { strategy = strategy; loaded = loads; is = made }) is
+  -- the line of a fault
+  fault_by : (command : Command) (wanted : Option Wanted) (fault : CheckFault) (r : Result Due Stop) → wanted_by players command ≡ wanted
+      → IsStopOf wanted left new_left fault
+      → ((w : Wanted) (l n : Option (List ℕ)) → IsStop w l n fault → IfOk r (IsDueWith Rejected (IsRejected w l n)))
+      → (fault ≡ check_fault.Memory → r ≡ Err Memory) → IfOk r (IsMade players left new_left command)
+  fault_by command None fault (Ok due) e stop gives memory = absurd (let never : Ok due ≡ Err Memory = memory stop in cc)
+  fault_by command (Some wanted) fault (Ok due) e stop gives memory =
+      let with : IsDueWith Rejected (IsRejected wanted left new_left) due = gives wanted left new_left stop in
+      record { outcome = rejected wanted with.status_is e with.text; writable = with.writable }
+  fault_by command wanted fault (Err why) e stop gives memory = tt
 
-  -- what was made without reading
-  pub drill_outcome : (number copies : ℕ) (r : Result Due E) → new_left ≡ left
-      → IfOk r (λ due. (due.status ≡ Done) × (due.text ≡ drilled number copies))
-      → IfOk r (λ due. IsOutcome names answers left new_left (Drill number copies) due.status due.text)
-  drill_outcome number copies r unread is = done_with (Drill number copies) (λ text. text ≡ drilled number copies) r (λ text made. (unread, made)) is
+  pub fault_due : (command : Command) (fault : CheckFault) (r : Result Due Stop) → IsStopOf (wanted_by players command) left new_left fault
+      → ((w : Wanted) (l n : Option (List ℕ)) → IsStop w l n fault → IfOk r (IsDueWith Rejected (IsRejected w l n)))
+      → (fault ≡ check_fault.Memory → r ≡ Err Memory) → IfOk r (IsMade players left new_left command)
+  fault_due command fault r stop gives memory = fault_by command (wanted_by players command) fault r refl stop gives memory
 
-  pub search_outcome : (game : GameNumbers) (budget table : ℕ) (r : Result Due E) → new_left ≡ left → IfOk r (IsSearched game budget table)
-      → IfOk r (λ due. IsOutcome names answers left new_left (Search game budget table) due.status due.text)
-  search_outcome game budget table (Ok due) unread is = found_status names answers left new_left game budget table due.status due.text unread is
-  search_outcome game budget table (Err e) unread is = tt
+-- ---- what is made
 
--- ---- legal strategies of a side
+-- the canonical form of a strategy
+pub minimise_due : (strategy made : Strategy) (due : Due) → IsLegal strategy → made ≡ canonical_form strategy → IsDueWith Done (λ text. text ≡ text_of made) due
+    → IsDueWith Done (IsMinimised strategy) due
+minimise_due strategy made due legal is with =
+    due_is Done (IsMinimised strategy) (text_of made) due
+    (record { canonical = canonical_is strategy legal; alike = canonical_alike strategy; spelled = ap text_of is })
+    with
 
--- a legal strategy has a text
-pub spellable : (strategy : Strategy) → IsLegal strategy → IsSpellable strategy
-spellable strategy legal = legal_is_spellable strategy legal
+pub upgrade_due : (strategy made : Strategy) (due : Due) → IsLegal strategy → IsCanonicalUpgrade strategy made → IsDueWith Done (λ text. text ≡ text_of made) due
+    → IsDueWith Done (IsUpgraded strategy) due
+upgrade_due strategy made due legal is with =
+    due_is Done (IsUpgraded strategy) (text_of made) due
+    (record { made = made; upgrade = is; canonical = upgrade_is strategy made legal is; alike = upgrade_alike strategy made is; spelled = refl })
+    with
 
-pub legal_adversary : (format : Format) (game : GameNumbers) (nodes : Nodes) → AreLegalNodes format game (sizes_of game) nodes → Adversary ≡ side_of nodes
-    → adversary.AreLegal format game nodes
-legal_adversary format game (nodes_of_side.Adversary list) legal e = legal
-legal_adversary format game (nodes_of_side.Algorithm list) legal e = absurd cc
+-- the canonical form of a strategy that was found
+pub found_due : (game : GameNumbers) (budget : ℕ) (strategy made : Strategy) (due : Due) → IsLegal strategy → IsFor game budget strategy
+    → made ≡ canonical_form strategy → IsDueWith Done (λ text. text ≡ text_of made) due → IsDueWith Done (IsFound game budget) due
+found_due game budget strategy made due legal for is with =
+    due_is Done (IsFound game budget) (text_of made) due
+    (record {
+      strategy = canonical_form strategy;
+      canonical = canonical_is strategy legal;
+      of_game = for.of_game;
+      of_format = for.of_format;
+      few = omega (arith, canonical_forms_have_no_more_nodes strategy legal, for.few);
+      spelled = ap text_of is;
+    })
+    with
 
-pub legal_algorithm : (format : Format) (game : GameNumbers) (nodes : Nodes) → AreLegalNodes format game (sizes_of game) nodes → Algorithm ≡ side_of nodes
-    → algorithm.AreLegal format game nodes
-legal_algorithm format game (nodes_of_side.Adversary list) legal e = absurd cc
-legal_algorithm format game (nodes_of_side.Algorithm list) legal e = legal
-
-pool_is : (pool : algorithm.Pool) → pool.sizes ≡ sizes_of pool.game → algorithm.pool_of pool.format pool.game pool.nodes ≡ pool
-pool_is pool whole = λ i. record { format = pool.format; game = pool.game; sizes = sym whole i; nodes = pool.nodes }
-
--- the nodes of a legal strategy, and the strategy that they are
-adversary_list : (format : Format) (game : GameNumbers) (nodes : Nodes) → adversary.AreLegal format game nodes
-    → (list : List AdvNode) × (nodes ≡ nodes_of_side.Adversary list) × adversary_legal.IsLegal format game (sizes_of game) list
-adversary_list format game (nodes_of_side.Adversary list) legal = (list, refl, legal)
-adversary_list format game (nodes_of_side.Algorithm list) legal = absurd legal
-
-pub adversary_nodes : (strategy : Strategy) → adversary.IsLegalOfAdversary strategy
-    → (list : List AdvNode) × (strategy.nodes ≡ nodes_of_side.Adversary list) × adversary_legal.IsLegal strategy.format strategy.game (sizes_of strategy.game) list
-adversary_nodes strategy legal = adversary_list strategy.format strategy.game strategy.nodes legal
-
-algorithm_list : (format : Format) (game : GameNumbers) (nodes : Nodes) → algorithm.AreLegal format game nodes
-    → (list : List AlgNode) × (nodes ≡ nodes_of_side.Algorithm list) × algorithm_legal.IsLegal format game (sizes_of game) list
-algorithm_list format game (nodes_of_side.Algorithm list) legal = (list, refl, legal)
-algorithm_list format game (nodes_of_side.Adversary list) legal = absurd legal
-
-pub algorithm_nodes : (strategy : Strategy) → algorithm.IsLegalOfAlgorithm strategy
-    → (list : List AlgNode) × (strategy.nodes ≡ nodes_of_side.Algorithm list) × algorithm_legal.IsLegal strategy.format strategy.game (sizes_of strategy.game) list
-algorithm_nodes strategy legal = algorithm_list strategy.format strategy.game strategy.nodes legal
-
-pub adversary_strategy : (strategy : Strategy) (pool : adversary.Pool) → pool.format ≡ strategy.format → terms_in pool ≡ whole_terms strategy.format strategy.game
-    → strategy.nodes ≡ nodes_of_side.Adversary pool.nodes → strategy ≡ adversary.strategy_of pool
-adversary_strategy strategy pool format terms nodes =
-    let game : strategy.game ≡ pool.game = sym (ap (λ (t : Terms). t.game) terms) in
-    λ i. record { format = sym format i; game = game i; nodes = nodes i }
-
-pub algorithm_strategy : (strategy : Strategy) (pool : algorithm.Pool) → pool.format ≡ strategy.format → terms_in pool ≡ whole_terms strategy.format strategy.game
-    → strategy.nodes ≡ nodes_of_side.Algorithm pool.nodes → strategy ≡ algorithm.strategy_of pool
-algorithm_strategy strategy pool format terms nodes =
-    let game : strategy.game ≡ pool.game = sym (ap (λ (t : Terms). t.game) terms) in
-    λ i. record { format = sym format i; game = game i; nodes = nodes i }
-
--- its terms are those of the whole game
-pub whole_of : (pool : algorithm.Pool) (format : Format) (game : GameNumbers) → terms_in pool ≡ whole_terms format game → pool.sizes ≡ sizes_of pool.game
-whole_of pool format game terms = ap (λ (t : Terms). t.sizes) terms ∙ ap sizes_of (sym (ap (λ (t : Terms). t.game) terms))
-
--- the replies of a pool's nodes are those of the strategy that it was made from
-pub answer_of : (strategy : Strategy) (pool file : algorithm.Pool) (root : ℕ) (items text : List ℕ) (answered : Answered) → strategy ≡ algorithm.strategy_of pool
-    → algorithm.IsRoot pool.nodes (length pool.nodes - 1) → root ≡ length pool.nodes - 1
-    → pool.sizes ≡ sizes_of pool.game → file ≡ algorithm.pool_of pool.format pool.game (nodes_up_to root pool.nodes) → Packable file.game items
-    → answered ≡ answered_by file.game (replies file.game file.nodes) items → All (λ load. load < file.game.target) answered.loads
-    → text ≡ answer_text strategy.game answered → IsAnswerOf items text strategy
-answer_of strategy pool file root items text answered e is_root last whole same packable is below lines =
-    let some = slice_get_within pool.nodes (length pool.nodes - 1) is_root.0 is_root.1 in
-    let all : nodes_up_to root pool.nodes ≡ pool.nodes = take_all (root + 1) pool.nodes (omega (arith, last, some)) in
-    let file_is : file ≡ pool = same ∙ ap (λ nodes. algorithm.pool_of pool.format pool.game nodes) all ∙ pool_is pool whole in
-    let answers : answered ≡ answered_by pool.game (replies pool.game pool.nodes) items =
-    is ∙ ap (λ (f : algorithm.Pool). answered_by f.game (replies f.game f.nodes) items) file_is in
-    let made : IsAnswerOf items text (algorithm.strategy_of pool) = record {
-      nodes = pool.nodes;
-      of_algorithm = refl;
-      packable = subst (λ (f : algorithm.Pool). Packable f.game items) file_is packable;
-      below = subst (λ (a : Answered). All (λ load. load < pool.game.target) a.loads) answers
-          (subst (λ (f : algorithm.Pool). All (λ load. load < f.game.target) answered.loads) file_is below);
-      lines = lines ∙ ap (λ (s : Strategy). answer_text s.game answered) e ∙ ap (answer_text pool.game) answers;
-    } in
-    subst (IsAnswerOf items text) (sym e) made
-
--- the play of a pool's nodes is that of the strategy that it was made from
-pub play_of_pool : (name : List ℕ) (answer : GameNumbers → List ℕ → ℕ) (strategy : Strategy) (pool : adversary.Pool) (root : ℕ) (text : List ℕ)
-    (transcript : Transcript) → strategy ≡ adversary.strategy_of pool → root ≡ length pool.nodes - 1
-    → play pool.game pool.nodes root (answer pool.game) ≡ Some (play_of transcript) → IsLost pool.game (play_of transcript)
-    → text ≡ play_text name strategy.game transcript → IsPlayOf name answer text strategy
-play_of_pool name answer strategy pool root text transcript e last played lost lines =
-    let made : IsPlayOf name answer text (adversary.strategy_of pool) = record {
-      nodes = pool.nodes;
-      of_adversary = refl;
-      transcript = transcript;
-      played = subst (λ r. play pool.game pool.nodes r (answer pool.game) ≡ Some (play_of transcript)) last played;
-      lost = lost;
-      lines = lines ∙ ap (λ (s : Strategy). play_text name s.game transcript) e;
-    } in
-    subst (IsPlayOf name answer text) (sym e) made
-
--- ---- faults
-
--- the text of a legal strategy has no fault
-pub no_fault : (fault : CheckFault) (line : ℕ) (why : Why) (text bytes : List ℕ) (new_left : Option (List ℕ)) → fault ≡ check_fault.Rejected line why
-    → bytes ≡ text → IsLegalText Either text → IsFaultOf Either [] fault (Some bytes) new_left → ⊥
-no_fault fault line why text bytes new_left e same legal of =
-    let rejects = subst (λ f. IsFaultOf Either [] f (Some bytes) new_left) e of in
-    legal_text_has_no_fault Either bytes (subst (IsLegalText Either) (sym same) legal) line why rejects.first_of_input.has
-
--- a fault of a line is its line
-pub line_of_fault : {E : Type 0} (fault : CheckFault) (line : ℕ) (why : Why) (r : Result (List ℕ) E) (wanted : Wanted) (left new_left : Option (List ℕ)) (text : List ℕ)
-    → fault ≡ check_fault.Rejected line why → text ≡ rejected_line line why → IsFaultOf wanted [] fault left new_left
-    → IsRejected wanted left new_left text
-line_of_fault fault line why r wanted left new_left text e is of =
-    record { at = line; why = why; rejects = subst (λ f. IsFaultOf wanted [] f left new_left) e of; line = is }
+-- a number that is not at least another
+less : (a b : ℕ) → (a ≤ b → ⊥) → b < a
+less a b not = ⊎_elim (λ (l : b < a). l) (λ (m : a ≤ b). absurd (not m)) (cases_lt b a)
 
 -- the visit that was due where a search spent its budget
-pub found_undecided : (game : GameNumbers) (budget table room visits pass : ℕ) (path : List PathMove) (answer : SearchAnswer) (text : List ℕ)
+pub undecided_due : (game : GameNumbers) (budget table room visits pass : ℕ) (path : List PathMove) (answer : SearchAnswer) (line : List ℕ) (due : Due)
     → answer ≡ answers.Undecided visits pass path → room ≡ table → IsAnswer game budget answer
     → (most_visits (whole_game game) ≤ budget → IsDecided answer)
     → ((all : ℕ) → CountsAllReachable game all → all ≤ room → game.capacity * all ≤ budget → IsDecided answer)
+    → ((numbers : ℕ → ℕ) → AreNumbersOfReachable game numbers → HasRoom game room → reachable_before numbers game.capacity ≤ budget → IsDecided answer)
     → ((numbers : ℕ → ℕ) (won : ℕ) → AreNumbersOfReachable game numbers → HasRoom game room
     → IsWon game (allowed_in (sizes_of game) won) (empty_position game) → reachable_before numbers (won + 1) ≤ budget → IsOfAdversary answer)
-    → text ≡ undecided_line game visits pass path → IsUndecided game budget table text
-found_undecided game budget table room visits pass path answer text e same is many all won line =
-    let due = subst (IsAnswer game budget) e is in
-    record {
+    → line ≡ undecided_line game visits pass path → IsDueWith Undecided (λ text. text ≡ line) due → IsDueWith Undecided (IsUndecided game budget table) due
+undecided_due game budget table room visits pass path answer line due e same is many all each won told with =
+    let at = subst (IsAnswer game budget) e is in
+    due_is Undecided (IsUndecided game budget table) line due
+    (record {
       pass = pass;
       path = path;
-      due = due.1;
-      fewer_than_visits = λ h. subst IsDecided e (many h);
-      fewer_than_positions = λ number counts within h. subst IsDecided e (all number counts (subst (λ r. number ≤ r) (sym same) within) h);
-      not_won = λ numbers pass are room_for is_won h. subst IsOfAdversary e (won numbers pass are (subst (HasRoom game) (sym same) room_for) is_won h);
-      line = line ∙ ap (λ v. undecided_line game v pass path) due.0;
-    }
+      due = at.1;
+      fewer_than_visits = less (most_visits (whole_game game)) budget (λ h. subst IsDecided e (many h));
+      fewer_than_positions = λ number counts within. less (game.capacity * number) budget
+          (λ h. subst IsDecided e (all number counts (subst (λ (r : ℕ). number ≤ r) (sym same) within) h));
+      fewer_than_passes = λ numbers are room_for. less (reachable_before numbers game.capacity) budget
+          (λ h. subst IsDecided e (each numbers are (subst (HasRoom game) (sym same) room_for) h));
+      fewer_than_won = λ numbers pass are room_for is_won. less (reachable_before numbers (pass + 1)) budget
+          (λ h. subst IsOfAdversary e (won numbers pass are (subst (HasRoom game) (sym same) room_for) is_won h));
+      line = told ∙ ap (λ (v : ℕ). undecided_line game v pass path) at.0;
+    })
+    with
 
--- the command that was read is spelled
-pub spelled_of : (names words : List (List ℕ)) (r : Option Command) (command : Command) → MatchOption r (SpellsNone names words) (Spells names words)
-    → r ≡ Some command → Spells names words command
-spelled_of names words r command told is = subst (λ o. MatchOption o (SpellsNone names words) (Spells names words)) is told
+-- the line of a strategy that was accepted
+pub accepted_due : (accepted : Accepted) (left new_left : Option (List ℕ)) (line : List ℕ) (due : Due) → Accepts Either accepted left new_left
+    → line ≡ accepted_line accepted → IsDueWith Done (λ text. text ≡ line) due
+    → IsDueWith Done (λ text. IsRead Either left new_left (λ strategy. IsAcceptedLine strategy text)) due
+accepted_due accepted left new_left line due accepts told with =
+    let strategy = accepts.strategy in
+    let same : accepted ≡ record { game = strategy.game; side = side_of strategy.nodes; nodes = length (nodes_of strategy.nodes) } =
+    λ i. record { game = accepts.game i; side = accepts.side i; nodes = accepts.number i } in
+    due_is Done (λ text. IsRead Either left new_left (λ strategy. IsAcceptedLine strategy text)) line due
+    (record { strategy = strategy; loaded = accepts.loaded; is = told ∙ ap accepted_line same })
+    with
 
--- the canonical form of a strategy that was found
-pub found_canonical : {E : Type 0} (game : GameNumbers) (budget table : ℕ) (strategy : Strategy) (r : Result Due E) → IsLegal strategy
-    → IsFor game budget strategy → IfOk r (λ due. (due.status ≡ Done) × IsCanonicalText due.text strategy) → IfOk r (IsSearched game budget table)
-found_canonical game budget table strategy (Err e) legal for made = tt
-found_canonical game budget table strategy (Ok due) legal for made =
-    let found : IsFound game budget due.text = record {
-      strategy = canonical_form strategy;
-      legal = canonical_forms_are_legal strategy legal;
-      of_game = for.of_game;
-      of_format = for.of_format;
-      canonical = canonical_forms_stay strategy legal;
-      few = omega (arith, canonical_forms_have_no_more_nodes strategy legal, for.few);
-      spelled = made.1;
-    } in
-    subst (λ (s : Status). IsFoundBy game budget table s due.text) (sym made.0) found
+-- the line of a fault that was found
+pub rejected_due : (wanted : Wanted) (left new_left : Option (List ℕ)) (fault : CheckFault) (at : ℕ) (why : Why) (line : List ℕ) (due : Due)
+    → fault ≡ check_fault.Rejected at why → IsStop wanted left new_left fault → line ≡ rejected_line at why
+    → IsDueWith Rejected (λ text. text ≡ line) due → IsDueWith Rejected (IsRejected wanted left new_left) due
+rejected_due wanted left new_left fault at why line due e (inl memory) told with = absurd cc
+rejected_due wanted left new_left fault at why line due e (inr of) told with =
+    due_is Rejected (IsRejected wanted left new_left) line due
+    (record { at = at; why = why; rejects = subst (λ (f : CheckFault). IsFaultOf wanted [] f left new_left) e of; line = told })
+    with

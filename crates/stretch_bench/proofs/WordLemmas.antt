@@ -1,25 +1,20 @@
 -- Words and the commands that they spell.
-use Rattle.std.proofs.Common.{◌≡◌, ◌≢◌, ◌-◌, ◌^◌, true, false, Result, Ok, Err, IsTrue, ◌⊎◌, Bool, Option, Some, None, ⊎_elim, ◌<◌, ◌≤◌, ◌+◌}
-use Rattle.std.proofs.Common.{ℕ, All, List, [], ◌∷◌, length, get_or, take, drop, map, codes, decimal, String, string_bytes, sym, ap, refl, ◌∙◌, subst, arith}
+use Rattle.std.proofs.Common.{◌≡◌, ◌≢◌, ◌-◌, ◌^◌, true, false, Result, Ok, IsTrue, ◌⊎◌, Bool, ⊎_elim, ◌<◌, ◌≤◌}
+use Rattle.std.proofs.Common.{ℕ, List, [], ◌∷◌, length, get_or, take, drop, decimal, String, string_bytes, sym, ap, refl, ◌∙◌, subst, arith}
 use Rattle.std.proofs.lemmas.List.{take_all, get_or-map, length-map}
-use Rattle.std.proofs.lemmas.List.Elements.{All-get_or}
-use Rattle.std.proofs.lemmas.Bool.{cases_lt}
 use Rattle.std.proofs.lemmas.Fmt.{decimal_injective, parse-decimal}
 use Rattle.items.specs.GameFaults.{IsFaultOf}
 use Rattle.items.specs.declared.game.GameFault.{GameFault}
 use Rattle.checker.proofs.HeadLemmas.{no_game as is_no_game}
-use Rattle.std.proofs.lemmas.Option.{slice_get-map, slice_get-get_or, slice_get_past}
 use Rattle.std.specs.Str.Parse.{ParsesUnsigned}
 use Rattle.std.specs.Cmp.Lexicographic.{pointwise, same_text, bytes_decides}
-use Rattle.std.specs.Prelude.{slice_get, nat_eq, not, option_map, ◌↔◌, MatchOption, IfOk}
+use Rattle.std.specs.Prelude.{nat_eq, not, ◌↔◌}
 use Rattle.std.specs.declared.alloc.Global.{Global}
 use Rattle.items.specs.Game.{GameNumbers, IsGame, numbers}
-use Rattle.items.specs.Multiset.{IsSize}
-use Rattle.stretch_bench.specs.declared.command.Command.TheVariants.{Check, Play, Answer, Minimise, Upgrade, Report, Drill, Search}
-use Rattle.stretch_bench.specs.Words.{spelling_of, Spells, SpellsNone, IsDrill, IsFirstNamed, IsSearch, most_item}
+use Rattle.stretch_bench.specs.Commands.{spelling_of}
 
 -- a text that differs from another in the test differs from it
-other_text : (read word other : List ℕ) → read ≡ word → false ≡ pointwise nat_eq read other → word ≡ other → ⊥
+pub other_text : (read word other : List ℕ) → read ≡ word → false ≡ pointwise nat_eq read other → word ≡ other → ⊥
 other_text read word other e differ same =
     let d : false ≡ true = differ ∙ (bytes_decides read other).1 (e ∙ same) in absurd cc
 
@@ -62,32 +57,13 @@ only_word words only read word b low high at is test =
       λ e. test ∙ (bytes_decides read word).1 (sym here ∙ ap (λ ws. get_or ws 0 []) e),
     )
 
--- ---- a play
+-- ---- more words
 
 pub two_of : (ws : List (List ℕ)) → length ws ≡ 2 → ws ≡ get_or ws 0 [] ∷ get_or ws 1 [] ∷ []
 two_of [] e = absurd (omega (arith, e))
 two_of (a ∷ []) e = absurd (omega (arith, e))
 two_of (a ∷ b ∷ []) e = refl
 two_of (a ∷ b ∷ c ∷ ws) e = absurd (omega (arith, e))
-
-pub play_words : (words : List (String Global)) (first name : String Global) (word read : List ℕ) → 2 ≤ length words → length words < 3
-    → first ≡ get_or words 0 first → word ≡ string_bytes first → true ≡ pointwise nat_eq word (codes "play") → name ≡ get_or words 1 name
-    → read ≡ string_bytes name → spelling_of words ≡ codes "play" ∷ read ∷ []
-play_words words first name word read low high first_at first_is same name_at name_is =
-    two_of (spelling_of words) (omega (arith, length_spelled words, low, high))
-    ∙ ap (λ (w : List ℕ). w ∷ get_or (spelling_of words) 1 [] ∷ []) (word_at words 0 first word (omega (arith, low)) first_at first_is ∙ same_text word (codes "play") same)
-    ∙ ap (λ (w : List ℕ). codes "play" ∷ w ∷ []) (word_at words 1 name read (omega (arith, low)) name_at name_is)
-
--- the player of a play by the name in its words
-pub player_named : (names : List (List ℕ)) (words : List (List ℕ)) (read : List ℕ) (r : Option ℕ) → words ≡ codes "play" ∷ read ∷ []
-    → MatchOption r ((place : ℕ) → IsFirstNamed names read place → ⊥) (IsFirstNamed names read)
-    → MatchOption r ((place : ℕ) → Spells names words (Play place) → ⊥) (λ place. Spells names words (Play place))
-player_named names words read (Some place) e named = (read, e, named)
-player_named names words read None e none = λ place spelled.
-    let same : spelled.0 ≡ read = ap (λ ws. get_or ws 1 []) (sym spelled.1 ∙ e) in
-    none place (subst (λ n. IsFirstNamed names n place) same spelled.2)
-
--- ---- answers
 
 pub rest_spelled : (words : List (String Global)) (first : String Global) (read word : List ℕ) → 1 ≤ length words → first ≡ get_or words 0 first
     → read ≡ string_bytes first → true ≡ pointwise nat_eq read word → spelling_of words ≡ word ∷ spelling_of (take (length words - 1) (drop 1 words))
@@ -96,16 +72,6 @@ rest_spelled (w ∷ ws) first read word low at is same =
     let here : first ≡ w = at in
     ap (λ x. x ∷ spelling_of ws) (ap string_bytes (sym here) ∙ sym is ∙ same_text read word same)
     ∙ ap (λ l. word ∷ spelling_of l) (sym (take_all (length (w ∷ ws) - 1) ws (omega arith)))
-
-pub answer_words : {E : Type 0} (names words rest : List (List ℕ)) (r : Result (Option (List ℕ)) E) → words ≡ codes "answer" ∷ rest
-    → IfOk r (λ read. MatchOption read ((items : List ℕ) → All (IsSize most_item) items → rest ≢ map decimal items)
-    (λ items. (rest ≡ map decimal items) × All (IsSize most_item) items))
-    → IfOk r (λ read. MatchOption read ((items : List ℕ) → Spells names words (Answer items) → ⊥) (λ items. Spells names words (Answer items)))
-answer_words names words rest (Ok (Some items)) e told = (e ∙ ap (λ ws. codes "answer" ∷ ws) told.0, told.1)
-answer_words names words rest (Ok None) e told = λ items spelled. told items spelled.1 (ap (λ ws. drop 1 ws) (sym e ∙ spelled.0))
-answer_words names words rest (Err f) e told = tt
-
--- ---- a drill
 
 pub three_of : (ws : List (List ℕ)) → length ws ≡ 3 → ws ≡ get_or ws 0 [] ∷ get_or ws 1 [] ∷ get_or ws 2 [] ∷ []
 three_of [] e = absurd (omega (arith, e))
@@ -118,8 +84,6 @@ pub three_words : (ws : List (List ℕ)) (a b c : List ℕ) → length ws ≡ 3 
 three_words ws a b c n p q r =
     three_of ws n ∙ ap (λ (w : List ℕ). w ∷ get_or ws 1 [] ∷ get_or ws 2 [] ∷ []) p ∙ ap (λ (w : List ℕ). a ∷ w ∷ get_or ws 2 [] ∷ []) q
     ∙ ap (λ (w : List ℕ). a ∷ b ∷ w ∷ []) r
-
--- ---- a search
 
 pub six_of : (ws : List (List ℕ)) → length ws ≡ 6
     → ws ≡ get_or ws 0 [] ∷ get_or ws 1 [] ∷ get_or ws 2 [] ∷ get_or ws 3 [] ∷ get_or ws 4 [] ∷ get_or ws 5 [] ∷ []
@@ -139,91 +103,6 @@ six_words ws a b c d f g n p q r s t u = six_of ws n ∙ rw (p, q, r, s, t, u) r
 pub spelled_at : (words : List (String Global)) (k : ℕ) (word : String Global) (read : List ℕ) (list : List (List ℕ)) → k < length words
     → word ≡ get_or words k word → read ≡ string_bytes word → spelling_of words ≡ list → read ≡ get_or list k []
 spelled_at words k word read list l at is e = sym (word_at words k word read l at is) ∙ ap (λ (ws : List (List ℕ)). get_or ws k []) e
-
--- ---- all words
-
-pub answers_of : (names words : List (List ℕ)) (r : Option (List ℕ)) (items : List ℕ)
-    → MatchOption r ((items : List ℕ) → Spells names words (Answer items) → ⊥) (λ items. Spells names words (Answer items)) → r ≡ Some items
-    → Spells names words (Answer items)
-answers_of names words r items told is =
-    subst (λ (o : Option (List ℕ)). MatchOption o ((items : List ℕ) → Spells names words (Answer items) → ⊥) (λ items. Spells names words (Answer items))) is told
-
-pub no_answers : (names words : List (List ℕ)) (r : Option (List ℕ))
-    → MatchOption r ((items : List ℕ) → Spells names words (Answer items) → ⊥) (λ items. Spells names words (Answer items)) → r ≡ None
-    → (items : List ℕ) → Spells names words (Answer items) → ⊥
-no_answers names words r told is =
-    subst (λ (o : Option (List ℕ)). MatchOption o ((items : List ℕ) → Spells names words (Answer items) → ⊥) (λ items. Spells names words (Answer items))) is told
-
-untrue : IsTrue false → ⊥
-untrue t = let wrong : false ≡ true = t in absurd cc
-
--- words that spell none of the commands
-pub none_spelled : (names words : List (List ℕ)) → (words ≡ codes "check" ∷ [] → IsTrue false) → (words ≡ codes "minimise" ∷ [] → IsTrue false)
-    → (words ≡ codes "upgrade" ∷ [] → IsTrue false)
-    → (words ≡ codes "report" ∷ [] → IsTrue false) → ((place : ℕ) → Spells names words (Play place) → ⊥)
-    → ((number copies : ℕ) → IsDrill words number copies → ⊥) → ((game : GameNumbers) (budget table : ℕ) → IsSearch words game budget table → ⊥)
-    → ((items : List ℕ) → Spells names words (Answer items) → ⊥) → SpellsNone names words
-none_spelled names words check minimise upgrade report play drill search answer Check spelled = untrue (check spelled)
-none_spelled names words check minimise upgrade report play drill search answer Minimise spelled = untrue (minimise spelled)
-none_spelled names words check minimise upgrade report play drill search answer Upgrade spelled = untrue (upgrade spelled)
-none_spelled names words check minimise upgrade report play drill search answer Report spelled = untrue (report spelled)
-none_spelled names words check minimise upgrade report play drill search answer (Play place) spelled = play place spelled
-none_spelled names words check minimise upgrade report play drill search answer (Drill number copies) spelled = drill number copies spelled
-none_spelled names words check minimise upgrade report play drill search answer (Search game budget table) spelled = search game budget table spelled
-none_spelled names words check minimise upgrade report play drill search answer (Answer items) spelled = answer items spelled
-
--- ---- names of players
-
-pub named_at : {X Y : Type 0} (name_of : X → Y) (xs : List X) (k : ℕ) (x : X) → k < length xs → x ≡ get_or xs k x → slice_get (map name_of xs) k ≡ Some (name_of x)
-named_at name_of xs k x l at = slice_get-map name_of xs k ∙ ap (λ o. option_map name_of o) (slice_get-get_or xs k x l ∙ ap Some (sym at))
-
--- the element at a place has this name
-pub named_here : {X : Type 0} (name_of : X → List ℕ) (xs : List X) (k : ℕ) (x : X) (read name : List ℕ) → k < length xs → x ≡ get_or xs k x
-    → read ≡ name_of x → true ≡ pointwise nat_eq read name → slice_get (map name_of xs) k ≡ Some name
-named_here name_of xs k x read name l at is same =
-    named_at name_of xs k x l at ∙ ap Some (sym is ∙ same_text read name same)
-
--- none before has the name, and this one has not
-pub not_named_here : {X : Type 0} (name_of : X → List ℕ) (xs : List X) (k : ℕ) (x : X) (read name : List ℕ) → k < length xs → x ≡ get_or xs k x
-    → read ≡ name_of x → false ≡ pointwise nat_eq read name
-    → ((earlier : ℕ) → earlier < k → slice_get (map name_of xs) earlier ≢ Some name)
-    → (earlier : ℕ) → earlier < k + 1 → slice_get (map name_of xs) earlier ≢ Some name
-not_named_here name_of xs k x read name l at is differ before earlier less =
-    ⊎_elim
-    (λ (sooner : earlier < k). before earlier sooner)
-    (λ (not : k ≤ earlier).
-    let here : earlier ≡ k = omega arith in
-    λ e.
-    let found : Some (name_of x) ≡ Some name =
-    sym (named_at name_of xs k x l at) ∙ ap (λ n. slice_get (map name_of xs) n) (sym here) ∙ e in
-    let same : name_of x ≡ name = (cc) in
-    other_text read (name_of x) name is differ same)
-    (cases_lt earlier k)
-
--- no place has the name
-pub none_named : {X : Type 0} (name_of : X → List ℕ) (xs : List X) (k : ℕ) (name : List ℕ) → length xs ≤ k
-    → ((earlier : ℕ) → earlier < k → slice_get (map name_of xs) earlier ≢ Some name) → (place : ℕ) → IsFirstNamed (map name_of xs) name place → ⊥
-none_named name_of xs k name l before place named =
-    ⊎_elim
-    (λ (sooner : place < k). before place sooner named.here)
-    (λ (not : k ≤ place).
-    let out : Some name ≡ None = sym named.here ∙ slice_get_past (map name_of xs) place (omega (arith, length-map xs name_of)) in
-    absurd cc)
-    (cases_lt place k)
-
--- ---- items
-
--- a word that is no item
-pub no_item : (words : List (String Global)) (k high : ℕ) (word : String Global) (read : List ℕ) → k < length words → word ≡ get_or words k word
-    → read ≡ string_bytes word → high ≡ most_item → ((n : ℕ) → 1 ≤ n → n ≤ high → read ≢ decimal n)
-    → (items : List ℕ) → All (IsSize most_item) items → spelling_of words ≢ map decimal items
-no_item words k high word read l at is most none items sizes e =
-    let n : length words ≡ length items = sym (length-map words string_bytes) ∙ ap length e ∙ length-map items decimal in
-    let item = get_or items k 0 in
-    let size = All-get_or (IsSize most_item) items k 0 (omega (arith, n, l)) sizes in
-    let spelled : string_bytes word ≡ decimal item =
-    ap string_bytes at ∙ sym (get_or-map string_bytes words k word [] l) ∙ ap (λ ws. get_or ws k []) e ∙ get_or-map decimal items k 0 [] (omega (arith, n, l)) in
-    none item size.low (omega (arith, size.high, most)) (is ∙ spelled)
 
 -- ---- numbers
 

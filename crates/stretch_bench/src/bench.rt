@@ -1,36 +1,42 @@
 //! The top call.
 
-ghost use Rattle.std.specs.Prelude.{◌≡◌, ◌↔◌, ◌≤◌, ◌⊎◌, ℕ, IfSome, map};
+ghost use Rattle.std.specs.Prelude.{◌≡◌, ◌≤◌, ◌⊎◌, ℕ, None, map};
 ghost use Rattle.items.specs.Game.{GameNumbers};
 ghost use Rattle.online_play.specs.Algorithm.{ForcesEvery};
+ghost use Rattle.checker.specs.Accepted.{Accepts};
 ghost use Rattle.checker.specs.declared.fault.Accepted.{Accepted};
 ghost use Rattle.checker.specs.declared.fault.Wanted.TheVariants.{Either};
-ghost use Rattle.checker.specs.Accepted.{Accepts};
-ghost use Rattle.checker.specs.FirstFault.{IsLegalText};
-ghost use Rattle.stretch_bench.specs.declared.command.Command.{Command};
-ghost use Rattle.stretch_bench.specs.Answer.{IsAnswer, IsExact};
-ghost use Rattle.stretch_bench.specs.Due.{wanted_by};
-ghost use Rattle.stretch_bench.specs.Lines.{accepted_line, adversary_accepted, algorithm_accepted};
+ghost use Rattle.stretch_bench.specs.Check.{accepted_line, adversary_accepted, algorithm_accepted};
+ghost use Rattle.stretch_bench.specs.Call.{Players};
+ghost use Rattle.stretch_bench.specs.Commands.{Spells, SpellsNone, spelling_of, wanted_by};
 ghost use Rattle.stretch_bench.specs.Replying.{Replying};
-ghost use Rattle.stretch_bench.specs.Words.{spelling_of, Spells, SpellsNone};
+ghost use Rattle.stretch_bench.specs.Run.{IsAnswer, IsExact};
 ghost use Rattle.stretch_bench.specs.Written.{WritesFirst};
+ghost use Rattle.stretch_bench.specs.declared.command.Command.{Command};
 
-use crate::due::{Stop, due_of};
+use crate::run::run_words;
 use crate::status::Status;
 use online_play::{Online, Player};
-use port_io::{Sink, Source, put_all};
+use port_io::{Sink, Source};
 use std::alloc::Global;
 
 /// Runs the command that the words spell: first the words, then the reading line by line, then the work, then the
-/// writing of a text that was made whole before. It does all that the program does.
+/// writing. All memory is taken before the first write. It does all that the program does.
 ///
-/// - `check` reads the text of a strategy and writes whether it is legal: `accepted SIDE M G T nodes N`.
+/// - `check` reads the text of a strategy and writes that it is legal: `accepted SIDE M G T nodes N`.
 /// - `play NAME` reads a strategy of the adversary, and writes its play against the first player with this name.
 /// - `answer ITEM ..` reads a strategy of the algorithm, and writes its replies to the items, or `unpackable K` where
 ///   the first K items, and no fewer, are not packable.
+/// - `minimise` reads a strategy and writes its canonical form.
+/// - `upgrade` reads a strategy and writes the canonical form of its upgrade, in format 2.
+/// - `report` reads a strategy and writes what it shows: `report SIDE M G T nodes N depth D target A/B`.
+/// - `drill NUMBER COPIES` makes, checks and minimises a large legal strategy of the two numbers, and writes
+///   `drill NUMBER COPIES nodes N bytes B accepted minimised K`.
+/// - `search M G T budget=B table=N` searches the game, and writes the canonical form of the strategy that it finds, or
+///   `undecided M G T visits V pass K path MOVES` where its budget was spent.
 ///
-/// Each of them writes the first fault of the input where it has one, `rejected line L syntax` or
-/// `rejected line L rule NAME`. For other words it writes `usage`. Each line ends in a line feed.
+/// Each command that reads writes the first fault of the input where it has one, `rejected line L syntax` or
+/// `rejected line L rule NAME`. For words that spell no command it writes `usage`. Each line ends in a line feed.
 ///
 /// # Errors
 ///
@@ -49,9 +55,11 @@ pub fn run_bench<S: Source, K: Sink>(
     // What each status stands for, and what was written with it.
     ensures answer { IsAnswer (record {
       call = record {
-        names = map (λ player. player.name) players.now.items;
-        answers = map (λ player. (⟦<dyn Online as Online>⟧ player.player.vtable).answer player.player.value)
-            players.now.items;
+        players = (record {
+          names = map (λ player. player.name) players.now.items;
+          answers = map (λ player. (⟦<dyn Online as Online>⟧ player.player.vtable).answer player.player.value)
+              players.now.items;
+        });
         words = spelling_of words.now;
         left = S.left source.old;
         new_left = S.left source.new;
@@ -63,16 +71,32 @@ pub fn run_bench<S: Source, K: Sink>(
       writes_failed = K.faults sink.old;
       new_writes_failed = K.faults sink.new;
     }) result }
-    ensures no_command { SpellsNone (map (λ player. player.name) players.now.items) (spelling_of words.now)
+    ensures no_command { let players : Players = record {
+      names = map (λ player. player.name) players.now.items;
+      answers = map (λ player. (⟦<dyn Online as Online>⟧ player.player.vtable).answer player.player.value)
+          players.now.items;
+    } in SpellsNone players (spelling_of words.now)
         → (source.new ≡ source.old)
         × ((result ≡ Status.Usage) ⊎ (result ≡ Status.WriteFault) ⊎ (result ≡ Status.OutOfMemory)) }
     ensures read_fault { result ≡ Status.ReadFault → sink.new ≡ sink.old }
     ensures memory { result ≡ Status.OutOfMemory → sink.new ≡ sink.old }
 
+    // A command that wants no strategy leaves the source as it was, whatever the status.
+    ensures unread { let players : Players = record {
+      names = map (λ player. player.name) players.now.items;
+      answers = map (λ player. (⟦<dyn Online as Online>⟧ player.player.vtable).answer player.player.value)
+          players.now.items;
+    } in (command : Command)
+        → Spells players (spelling_of words.now) command → wanted_by players command ≡ None → source.new ≡ source.old }
+
     // A command is carried out exactly where the input is the text of a legal strategy of the side that it wants.
-    ensures exact { (command : Command)
-        → Spells (map (λ player. player.name) players.now.items) (spelling_of words.now) command
-        → IsExact (wanted_by command) (S.left source.old) result }
+    ensures exact { let players : Players = record {
+      names = map (λ player. player.name) players.now.items;
+      answers = map (λ player. (⟦<dyn Online as Online>⟧ player.player.vtable).answer player.player.value)
+          players.now.items;
+    } in (command : Command)
+        → Spells players (spelling_of words.now) command
+        → IsExact (wanted_by players command) (S.left source.old) result }
 
     // A legal strategy stands after an accepted line that was written, whatever the status.
     ensures accepted { (accepted : Accepted)
@@ -89,13 +113,5 @@ pub fn run_bench<S: Source, K: Sink>(
         → WritesFirst (K.written sink.old) (K.written sink.new) (accepted_line (algorithm_accepted game nodes))
         → Replying game nodes (S.left source.old) (S.left source.new) }
 {
-    let due = match due_of(alloc, words, players, source) {
-        Ok(due) => due,
-        Err(Stop::Read) => return Status::ReadFault,
-        Err(Stop::Memory) => return Status::OutOfMemory,
-    };
-    match put_all(sink, due.text.as_slice()) {
-        Ok(()) => due.status,
-        Err(_) => Status::WriteFault,
-    }
+    run_words(alloc, words, players, source, sink)
 }

@@ -1,39 +1,73 @@
-//! The work of a call: what is due to be written, made before anything is written.
+//! What is due to be written: all of it is made before anything is written.
 
-ghost use Rattle.std.specs.Prelude.{◌≡◌, ◌≢◌, ◌≤◌, [], ℕ, List, Option, Some, Err, IfOk, length, map, slice_get};
-ghost use Rattle.items.specs.Game.{GameNumbers};
-ghost use Rattle.port_io.specs.Faults.{Rose};
-ghost use Rattle.adversary_graph.specs.Pools.{IsLegalOfAdversary};
-ghost use Rattle.algorithm_graph.specs.Pools.{IsLegalOfAlgorithm};
-ghost use Rattle.checker.specs.Accepted.{IsFaultOf};
-ghost use Rattle.checker.specs.declared.fault.Wanted.{Wanted};
+ghost use Rattle.std.specs.Prelude.{◌≡◌, ◌≤◌, [], Err, IfErr, IfOk, IfSome, None, OnErr, OnOk, Option, List, ℕ, map};
+ghost use Rattle.std.specs.Io.KnownBytes.{append_known};
 ghost use Rattle.checker.specs.declared.fault.CheckFault.TheVariants as check_fault;
-ghost use Rattle.stretch_bench.specs.Answer.{IsCutShort};
-ghost use Rattle.stretch_bench.specs.Due.{IsCut, IsDue, IsOutcome, wanted_by};
-ghost use Rattle.stretch_bench.specs.Outcomes.{IsFaultLine, IsInRange};
-ghost use Rattle.stretch_bench.specs.Words.{SpellsNone, spelling_of};
-ghost use Rattle.stretch_bench.specs.declared.command.Command.TheVariants as command;
+ghost use Rattle.checker.specs.declared.fault.Wanted.{Wanted};
+ghost use Rattle.port_io.specs.Faults.{Rose};
+ghost use Rattle.port_io.specs.Told.{AppendsSome};
+ghost use Rattle.strategy_text.specs.Spelling.{IsSpellable};
+ghost use Rattle.strategy_text.specs.Text.{text_of};
+ghost use Rattle.stretch_bench.specs.Call.{Players};
+ghost use Rattle.stretch_bench.specs.Commands.{form_of, wanted_by};
+ghost use Rattle.stretch_bench.specs.Due.{IsRejected};
+ghost use Rattle.stretch_bench.specs.Lines.{usage_line};
+ghost use Rattle.stretch_bench.specs.Pieces.{IsDueWith, IsMade, IsStop, IsStopOf, IsWritable, due_text, text_of_some};
+ghost use Rattle.stretch_bench.specs.Run.{IsCut};
 ghost use Rattle.stretch_bench.specs.declared.due.Stop.TheVariants.{Read, Memory};
-ghost use Rattle.stretch_bench.specs.declared.status.Status.TheVariants.{Done};
+ghost use Rattle.stretch_bench.specs.declared.status.Status.TheVariants.{Done, Rejected, Usage};
 
-use crate::command::{Command, read_words};
-use crate::lines::{line_of_accepted, line_of_rejected, line_of_usage};
-use crate::made::{
-    due_of_canonical, due_of_refuted, due_of_replies, due_of_summary, due_of_upgraded,
-};
-use crate::searched::{due_of_drill, due_of_search};
+use crate::answering::answered;
+use crate::checking::checked;
+use crate::command::Command;
+use crate::drilling::drilled;
+use crate::lines::{line_of_rejected, line_of_usage};
+use crate::minimising::minimised;
+use crate::playing::played;
+use crate::reporting::reported;
+use crate::searching::searched;
 use crate::status::Status;
-use checker::{CheckFault, Wanted, check, load};
+use crate::upgrading::upgraded;
+use checker::{CheckFault, Wanted, load};
 use online_play::{Online, Player};
-use port_io::Source;
+use port_io::{Failed, Sink, Source, put_all};
 use std::alloc::{AllocError, Global};
-use strategy_text::{Side, Text};
+use strategy_text::{Side, Strategy, Text, write_strategy};
 
-/// A status, and the text that is due with it.
+/// A status, and what is due with it: lines, and then at most two strategies.
 #[derive(Drop)]
 pub(crate) struct Due {
     pub(crate) status: Status,
-    pub(crate) text: Text,
+    pub(crate) lines: Text,
+    pub(crate) first: Option<Strategy>,
+    pub(crate) second: Option<Strategy>,
+}
+
+impl Due {
+    /// Lines alone.
+    pub(crate) fn of_lines(status: Status, lines: Text) -> Due
+        ensures { IsDueWith status (λ text. text ≡ lines) result }
+    {
+        Due {
+            status,
+            lines,
+            first: None,
+            second: None,
+        }
+    }
+
+    /// A strategy alone. Its text is never in memory.
+    pub(crate) fn of_strategy(alloc: Global, strategy: Strategy) -> Due
+        requires { IsSpellable strategy }
+        ensures { IsDueWith Done (λ text. text ≡ text_of strategy) result }
+    {
+        Due {
+            status: Status::Done,
+            lines: Text::new(alloc),
+            first: Some(strategy),
+            second: None,
+        }
+    }
 }
 
 /// Why nothing is due.
@@ -53,185 +87,152 @@ impl From<AllocError> for Stop {
     }
 }
 
-/// What the words ask for, over the input of the source.
-pub(crate) fn due_of<S: Source>(
-    alloc: Global,
-    words: &[String],
-    players: &Vec<Player>,
-    source: &mut S,
-) -> Result<Due, Stop>
-    ensures count { S.faults source.old ≤ S.faults source.new }
-    ensures due { IfOk result (λ due. IsDue (record {
-      names = map (λ player. player.name) players.now.items;
-      answers = map (λ player. (⟦<dyn Online as Online>⟧ player.player.vtable).answer player.player.value)
-          players.now.items;
-      words = spelling_of words.now;
-      left = S.left source.old;
-      new_left = S.left source.new;
-    }) due.status due.text) }
-    ensures no_command { SpellsNone (map (λ player. player.name) players.now.items) (spelling_of words.now)
-        → (source.new ≡ source.old) × (result ≢ Err Read) }
-    ensures read { result ≡ Err Read → Rose (S.faults source.old) (S.faults source.new) }
-    ensures interrupted { result ≡ Err Read → IsCutShort (record {
-      names = map (λ player. player.name) players.now.items;
-      answers = map (λ player. (⟦<dyn Online as Online>⟧ player.player.vtable).answer player.player.value)
-          players.now.items;
-      words = spelling_of words.now;
-      left = S.left source.old;
-      new_left = S.left source.new;
-    }) }
+/// What is due for words that spell no command.
+pub(crate) fn due_of_usage(alloc: Global) -> Result<Due, Stop>
+    ensures line { IfOk result (IsDueWith Usage (λ text. text ≡ usage_line)) }
+    ensures read { result ≡ Err Read → ⊥ }
 {
-    match read_words(alloc, words, players)? {
-        Some(command) => due_of_command(alloc, players, &command, source),
-        None => Ok(Due {
-            status: Status::Usage,
-            text: line_of_usage(alloc)?,
-        }),
-    }
+    let line = line_of_usage(alloc)?;
+    Ok(Due::of_lines(Status::Usage, line))
 }
 
-// What a command comes to.
-fn due_of_command<S: Source>(
+/// What a command comes to, over the input of the source.
+pub(crate) fn due_of<S: Source>(
     alloc: Global,
     players: &Vec<Player>,
     command: &Command,
     source: &mut S,
 ) -> Result<Due, Stop>
-    requires in_range { IsInRange (length players.now.items) command.now }
+    requires allowed { (form_of (record {
+      names = map (λ player. player.name) players.now.items;
+      answers = map (λ player. (⟦<dyn Online as Online>⟧ player.player.vtable).answer player.player.value)
+          players.now.items;
+    }) command.now).IsAllowed }
     ensures count { S.faults source.old ≤ S.faults source.new }
-    ensures due { IfOk result (λ due. IsOutcome (map (λ player. player.name) players.now.items)
-        (map (λ player. (⟦<dyn Online as Online>⟧ player.player.vtable).answer player.player.value) players.now.items)
-        (S.left source.old) (S.left source.new)
-        command.now due.status due.text) }
+    ensures due { IfOk result (IsMade (record {
+      names = map (λ player. player.name) players.now.items;
+      answers = map (λ player. (⟦<dyn Online as Online>⟧ player.player.vtable).answer player.player.value)
+          players.now.items;
+    }) (S.left source.old) (S.left source.new) command.now) }
     ensures read { result ≡ Err Read → Rose (S.faults source.old) (S.faults source.new) }
-    ensures interrupted { result ≡ Err Read → IsCut (wanted_by command.now) (S.left source.old) (S.left source.new) }
+    ensures cut { let players : Players = record {
+      names = map (λ player. player.name) players.now.items;
+      answers = map (λ player. (⟦<dyn Online as Online>⟧ player.player.vtable).answer player.player.value)
+          players.now.items;
+    } in result ≡ Err Read
+        → IsCut (wanted_by players command.now) (S.left source.old) (S.left source.new) }
+    ensures unread { let players : Players = record {
+      names = map (λ player. player.name) players.now.items;
+      answers = map (λ player. (⟦<dyn Online as Online>⟧ player.player.vtable).answer player.player.value)
+          players.now.items;
+    } in wanted_by players command.now ≡ None → source.new ≡ source.old }
 {
+    match made(alloc, players, command, source) {
+        Ok(due) => Ok(due),
+        Err(fault) => due_of_fault(alloc, fault),
+    }
+}
+
+// What a command comes to, where its input has no fault: a strategy of the side that it wants is read, where it wants
+// one, and what is due is made from it.
+fn made<S: Source>(
+    alloc: Global,
+    players: &Vec<Player>,
+    command: &Command,
+    source: &mut S,
+) -> Result<Due, CheckFault>
+    requires allowed { (form_of (record {
+      names = map (λ player. player.name) players.now.items;
+      answers = map (λ player. (⟦<dyn Online as Online>⟧ player.player.vtable).answer player.player.value)
+          players.now.items;
+    }) command.now).IsAllowed }
+    ensures count { S.faults source.old ≤ S.faults source.new }
+    ensures due { IfOk result (IsMade (record {
+      names = map (λ player. player.name) players.now.items;
+      answers = map (λ player. (⟦<dyn Online as Online>⟧ player.player.vtable).answer player.player.value)
+          players.now.items;
+    }) (S.left source.old) (S.left source.new) command.now) }
+    ensures fault { let players : Players = record {
+      names = map (λ player. player.name) players.now.items;
+      answers = map (λ player. (⟦<dyn Online as Online>⟧ player.player.vtable).answer player.player.value)
+          players.now.items;
+    } in
+        IfErr result (IsStopOf (wanted_by players command.now) (S.left source.old) (S.left source.new)) }
+    ensures read { result ≡ Err check_fault.Read → Rose (S.faults source.old) (S.faults source.new) }
+    ensures unread { let players : Players = record {
+      names = map (λ player. player.name) players.now.items;
+      answers = map (λ player. (⟦<dyn Online as Online>⟧ player.player.vtable).answer player.player.value)
+          players.now.items;
+    } in wanted_by players command.now ≡ None → source.new ≡ source.old }
+{
+    let adversary = Wanted::Only(Side::Adversary);
+    let algorithm = Wanted::Only(Side::Algorithm);
     match command {
-        Command::Check => due_of_check(alloc, source),
-        Command::Play { player } => due_of_play(alloc, &players[*player], source),
-        Command::Answer { items } => due_of_answer(alloc, items.as_slice(), source),
-        Command::Minimise => due_of_minimise(alloc, source),
-        Command::Upgrade => due_of_upgrade(alloc, source),
-        Command::Report => due_of_report(alloc, source),
-        Command::Drill { number, copies } => due_of_drill(alloc, *number, *copies),
+        Command::Check => checked(alloc, source),
+        Command::Play { player } => {
+            let strategy = load(alloc, source, adversary)?;
+            Ok(played(alloc, &players[*player], strategy)?)
+        }
+        Command::Answer { items } => {
+            let strategy = load(alloc, source, algorithm)?;
+            Ok(answered(alloc, items.as_slice(), strategy)?)
+        }
+        Command::Minimise => Ok(minimised(alloc, load(alloc, source, Wanted::Either)?)?),
+        Command::Upgrade => Ok(upgraded(alloc, load(alloc, source, Wanted::Either)?)?),
+        Command::Report => Ok(reported(alloc, load(alloc, source, Wanted::Either)?)?),
+        Command::Drill { number, copies } => Ok(drilled(alloc, *number, *copies)?),
         Command::Search {
             game,
             budget,
             table,
-        } => due_of_search(alloc, game, *budget, *table),
-    }
-}
-
-// What a check comes to.
-fn due_of_check<S: Source>(alloc: Global, source: &mut S) -> Result<Due, Stop>
-    ensures count { S.faults source.old ≤ S.faults source.new }
-    ensures due { (names : List (List ℕ)) (answers : List (GameNumbers → List ℕ → ℕ)) → IfOk result (λ due.
-        IsOutcome names answers (S.left source.old) (S.left source.new) command.Check due.status due.text) }
-    ensures read { result ≡ Err Read → Rose (S.faults source.old) (S.faults source.new) }
-    ensures interrupted { result ≡ Err Read → IsCut (wanted_by command.Check) (S.left source.old)
-        (S.left source.new) }
-{
-    match check(alloc, source) {
-        Ok(accepted) => Ok(Due {
-            status: Status::Done,
-            text: line_of_accepted(alloc, &accepted)?,
-        }),
-        Err(fault) => due_of_fault(alloc, fault),
-    }
-}
-
-// What a play against this player comes to.
-fn due_of_play<S: Source>(alloc: Global, player: &Player, source: &mut S) -> Result<Due, Stop>
-    ensures count { S.faults source.old ≤ S.faults source.new }
-    ensures due { (names : List (List ℕ)) (answers : List (GameNumbers → List ℕ → ℕ)) (place : ℕ)
-        → slice_get names place ≡ Some player.now.name
-        → slice_get answers place
-        ≡ Some ((⟦<dyn Online as Online>⟧ player.now.player.vtable).answer player.now.player.value)
-        → IfOk result (λ due. IsOutcome names answers (S.left source.old) (S.left source.new) (command.Play place)
-        due.status due.text) }
-    ensures read { result ≡ Err Read → Rose (S.faults source.old) (S.faults source.new) }
-    ensures interrupted { (place : ℕ) → result ≡ Err Read → IsCut (wanted_by (command.Play place)) (S.left source.old)
-        (S.left source.new) }
-{
-    match load(alloc, source, Wanted::Only(Side::Adversary)) {
-        Ok(strategy) => due_of_refuted(alloc, player, strategy),
-        Err(fault) => due_of_fault(alloc, fault),
-    }
-}
-
-// What the answers to a list of items come to.
-fn due_of_answer<S: Source>(alloc: Global, items: &[u16], source: &mut S) -> Result<Due, Stop>
-    ensures count { S.faults source.old ≤ S.faults source.new }
-    ensures due { (names : List (List ℕ)) (answers : List (GameNumbers → List ℕ → ℕ)) → IfOk result (λ due.
-        IsOutcome names answers (S.left source.old) (S.left source.new) (command.Answer items.now) due.status
-        due.text) }
-    ensures read { result ≡ Err Read → Rose (S.faults source.old) (S.faults source.new) }
-    ensures interrupted { result ≡ Err Read → IsCut (wanted_by (command.Answer items.now)) (S.left source.old)
-        (S.left source.new) }
-{
-    match load(alloc, source, Wanted::Only(Side::Algorithm)) {
-        Ok(strategy) => due_of_replies(alloc, items, strategy),
-        Err(fault) => due_of_fault(alloc, fault),
-    }
-}
-
-// What the canonical form of the strategy that is read comes to.
-fn due_of_minimise<S: Source>(alloc: Global, source: &mut S) -> Result<Due, Stop>
-    ensures count { S.faults source.old ≤ S.faults source.new }
-    ensures due { (names : List (List ℕ)) (answers : List (GameNumbers → List ℕ → ℕ)) → IfOk result (λ due.
-        IsOutcome names answers (S.left source.old) (S.left source.new) command.Minimise due.status due.text) }
-    ensures read { result ≡ Err Read → Rose (S.faults source.old) (S.faults source.new) }
-    ensures interrupted { result ≡ Err Read → IsCut (wanted_by command.Minimise) (S.left source.old)
-        (S.left source.new) }
-{
-    match load(alloc, source, Wanted::Either) {
-        Ok(strategy) => due_of_canonical(alloc, strategy),
-        Err(fault) => due_of_fault(alloc, fault),
-    }
-}
-
-// What the upgrade of the strategy that is read comes to.
-fn due_of_upgrade<S: Source>(alloc: Global, source: &mut S) -> Result<Due, Stop>
-    ensures count { S.faults source.old ≤ S.faults source.new }
-    ensures due { (names : List (List ℕ)) (answers : List (GameNumbers → List ℕ → ℕ)) → IfOk result (λ due.
-        IsOutcome names answers (S.left source.old) (S.left source.new) command.Upgrade due.status due.text) }
-    ensures read { result ≡ Err Read → Rose (S.faults source.old) (S.faults source.new) }
-    ensures interrupted { result ≡ Err Read → IsCut (wanted_by command.Upgrade) (S.left source.old)
-        (S.left source.new) }
-{
-    match load(alloc, source, Wanted::Either) {
-        Ok(strategy) => due_of_upgraded(alloc, strategy),
-        Err(fault) => due_of_fault(alloc, fault),
-    }
-}
-
-// What the report of the strategy that is read comes to.
-fn due_of_report<S: Source>(alloc: Global, source: &mut S) -> Result<Due, Stop>
-    ensures count { S.faults source.old ≤ S.faults source.new }
-    ensures due { (names : List (List ℕ)) (answers : List (GameNumbers → List ℕ → ℕ)) → IfOk result (λ due.
-        IsOutcome names answers (S.left source.old) (S.left source.new) command.Report due.status due.text) }
-    ensures read { result ≡ Err Read → Rose (S.faults source.old) (S.faults source.new) }
-    ensures interrupted { result ≡ Err Read → IsCut (wanted_by command.Report) (S.left source.old)
-        (S.left source.new) }
-{
-    match load(alloc, source, Wanted::Either) {
-        Ok(strategy) => due_of_summary(alloc, strategy),
-        Err(fault) => due_of_fault(alloc, fault),
+        } => Ok(searched(alloc, game, *budget, *table)?),
     }
 }
 
 // The line of the fault that was found, or why there is none.
 fn due_of_fault(alloc: Global, fault: CheckFault) -> Result<Due, Stop>
-    ensures line { (wanted : Wanted) (left new_left : Option (List ℕ)) → IsFaultOf wanted [] fault left new_left
-        → IfOk result (λ due. IsFaultLine wanted left new_left due) }
+    ensures line { (wanted : Wanted) (left new_left : Option (List ℕ)) → IsStop wanted left new_left fault
+        → IfOk result (IsDueWith Rejected (IsRejected wanted left new_left)) }
     ensures read { result ≡ Err Read → fault ≡ check_fault.Read }
+    ensures memory { fault ≡ check_fault.Memory → result ≡ Err Memory }
 {
     match fault {
-        CheckFault::Rejected { line, why } => Ok(Due {
-            status: Status::Rejected,
-            text: line_of_rejected(alloc, line, why)?,
-        }),
+        CheckFault::Rejected { line, why } => {
+            let line = line_of_rejected(alloc, line, why)?;
+            Ok(Due::of_lines(Status::Rejected, line))
+        }
         CheckFault::Read => Err(Stop::Read),
         CheckFault::Memory => Err(Stop::Memory),
+    }
+}
+
+/// Writes what is due: its lines, and then its strategies, each as it is spelled. Takes no memory.
+///
+/// # Errors
+///
+/// [`Failed`] where a write failed. A prefix of the text was written then.
+pub(crate) fn write_due<K: Sink>(due: &Due, sink: &mut K) -> Result<(), Failed>
+    requires { IsWritable due.now }
+    ensures count { K.faults sink.old ≤ K.faults sink.new }
+    ensures ok { OnOk result (K.written sink.new ≡ append_known (K.written sink.old) (due_text due.now)) }
+    ensures failed { OnErr result (Rose (K.faults sink.old) (K.faults sink.new)) }
+    ensures err { OnErr result (AppendsSome (K.written sink.old) (K.written sink.new) (due_text due.now)) }
+{
+    put_all(sink, due.lines.as_slice())?;
+    write_some(&due.first, sink)?;
+    write_some(&due.second, sink)
+}
+
+// Writes a strategy, where there is one.
+fn write_some<K: Sink>(strategy: &Option<Strategy>, sink: &mut K) -> Result<(), Failed>
+    requires { IfSome strategy.now IsSpellable }
+    ensures count { K.faults sink.old ≤ K.faults sink.new }
+    ensures ok { OnOk result (K.written sink.new ≡ append_known (K.written sink.old) (text_of_some strategy.now)) }
+    ensures failed { OnErr result (Rose (K.faults sink.old) (K.faults sink.new)) }
+    ensures err { OnErr result (AppendsSome (K.written sink.old) (K.written sink.new) (text_of_some strategy.now)) }
+{
+    match strategy {
+        Some(strategy) => write_strategy(strategy, sink),
+        None => Ok(()),
     }
 }

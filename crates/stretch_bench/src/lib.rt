@@ -1,21 +1,31 @@
 //! The commands of the program `stretch`, over any source and any sink.
 #![tactic(auto)]
 
+mod answering;
 mod bench;
+mod checking;
 mod command;
+mod drilling;
 mod due;
 #[cfg(test)]
 mod failing_tests;
 #[cfg(test)]
 mod fault_tests;
+pub mod laws;
 mod lines;
-mod made;
+mod minimising;
 mod number;
-mod searched;
+mod playing;
+mod reporting;
+mod run;
+mod searching;
+mod settings;
 mod status;
 #[cfg(test)]
 mod tests;
+mod upgrading;
 
 pub use bench::run_bench;
-pub use command::{Command, MOST_ENTRIES, MOST_VISITS, read_words};
+pub use command::{Command, read_words};
+pub use settings::{MOST_ENTRIES, MOST_VISITS};
 pub use status::Status;

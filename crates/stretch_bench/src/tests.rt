@@ -20,7 +20,7 @@ end
 ";
 
 // The first one in format 2, with packings only where the play ends.
-const OF_FORMAT_2: &str = "\
+pub(crate) const OF_FORMAT_2: &str = "\
 stretch 2
 game 2 3 4
 side adversary
@@ -77,7 +77,7 @@ end
 ";
 
 // The same in format 2.
-const OF_ALGORITHM_IN_FORMAT_2: &str = "\
+pub(crate) const OF_ALGORITHM_IN_FORMAT_2: &str = "\
 stretch 2
 game 2 2 3
 side algorithm
@@ -106,7 +106,7 @@ end
 ";
 
 // The same in format 1, with no reply where all is full.
-const WITHOUT_BIG: &str = "\
+pub(crate) const WITHOUT_BIG: &str = "\
 stretch 1
 game 2 2 3
 side algorithm
@@ -125,7 +125,7 @@ pub(crate) const FINISHING: &str =
     "stretch 1\ngame 2 3 5\nside algorithm\nnodes 1\n0 loads 0 0 items - finish\nend\n";
 
 // The same for the largest game.
-const FINISHING_LARGEST: &str = "\
+pub(crate) const FINISHING_LARGEST: &str = "\
 stretch 1
 game 8 120 240
 side algorithm
@@ -217,225 +217,11 @@ pub(crate) fn is_due(alloc: Global, row: &Run) -> Result<bool, AllocError> {
     ends_calmly(alloc, row.0, row.1.as_bytes(), (row.2, row.3))
 }
 
-const CHECKS: [Run; 7] = [
-    ("check", LEGAL, 0, ACCEPTED),
-    ("check", OF_FORMAT_2, 0, ACCEPTED),
-    (
-        "check",
-        OF_ALGORITHM,
-        0,
-        "accepted algorithm 2 2 3 nodes 5\n",
-    ),
-    (
-        "check",
-        OF_ALGORITHM_IN_FORMAT_2,
-        0,
-        "accepted algorithm 2 2 3 nodes 5\n",
-    ),
-    ("check", WITH_BIG, 0, "accepted algorithm 2 2 3 nodes 6\n"),
-    ("check", FINISHING, 0, "accepted algorithm 2 3 5 nodes 1\n"),
-    (
-        "check",
-        WITH_BURSTS,
-        0,
-        "accepted adversary 2 3 4 nodes 4\n",
-    ),
-];
-
-#[test]
-fn strategies_of_both_sides_and_formats_are_accepted(rt: HostRuntime) {
-    for row in &CHECKS {
-        assert!(rt; is_due(rt.alloc(), row).unwrap_or(false), "{}", row.1);
-    }
-}
-
-const PLAYS: [Run; 15] = [
-    (
-        "play best-fit",
-        LEGAL,
-        0,
-        "play best-fit 2 3 4\nitems 1 1 2 2\nbins 0 0 1 0\nloads 4 2\npack 1 2 / 1 2\n",
-    ),
-    (
-        "play first-fit",
-        WITH_BURSTS,
-        0,
-        "play first-fit 2 3 4\nitems 1 1 2 2\nbins 0 0 1 0\nloads 4 2\npack 1 2 / 1 2\n",
-    ),
-    (
-        "play first-fit",
-        LEGAL,
-        0,
-        "play first-fit 2 3 4\nitems 1 1 2 2\nbins 0 0 1 0\nloads 4 2\npack 1 2 / 1 2\n",
-    ),
-    (
-        "play least-loaded",
-        LEGAL,
-        0,
-        "play least-loaded 2 3 4\nitems 1 1 3\nbins 0 1 0\nloads 4 1\npack 3 / 1 1\n",
-    ),
-    (
-        "play best-fit",
-        WITH_BURSTS,
-        0,
-        "play best-fit 2 3 4\nitems 1 1 2 2\nbins 0 0 1 0\nloads 4 2\npack 1 2 / 1 2\n",
-    ),
-    (
-        "play least-loaded",
-        WITH_BURSTS,
-        0,
-        "play least-loaded 2 3 4\nitems 1 1 3\nbins 0 1 0\nloads 4 1\npack 3 / 1 1\n",
-    ),
-    (
-        "play first-fit",
-        OF_ALGORITHM,
-        1,
-        "rejected line 3 rule side\n",
-    ),
-    (
-        "answer 1 2 1",
-        OF_ALGORITHM,
-        0,
-        "answer 2 2 3\nitems 1 2 1\nbins 0 1 0\nloads 2 2\n",
-    ),
-    (
-        "answer",
-        OF_ALGORITHM,
-        0,
-        "answer 2 2 3\nitems -\nbins -\nloads 0 0\n",
-    ),
-    ("answer 1 1 2 1", OF_ALGORITHM, 7, "unpackable 4\n"),
-    ("answer 3", OF_ALGORITHM, 7, "unpackable 1\n"),
-    ("answer 65535 1", OF_ALGORITHM, 7, "unpackable 1\n"),
-    (
-        "answer 2 2",
-        OF_ALGORITHM,
-        0,
-        "answer 2 2 3\nitems 2 2\nbins 0 1\nloads 2 2\n",
-    ),
-    (
-        "answer 2 2",
-        WITH_BIG,
-        0,
-        "answer 2 2 3\nitems 2 2\nbins 0 1\nloads 2 2\n",
-    ),
-    ("answer 3", LEGAL, 1, "rejected line 3 rule side\n"),
-];
-
-#[test]
-fn plays_and_answers_are_written(rt: HostRuntime) {
-    for row in &PLAYS {
-        assert!(rt; is_due(rt.alloc(), row).unwrap_or(false), "{}", row.0);
-    }
-}
-
-const MADE: [Run; 13] = [
-    ("minimise", WITH_COPIES, 0, LEGAL),
-    ("minimise", LEGAL, 0, LEGAL),
-    ("minimise", OF_ALGORITHM, 0, OF_ALGORITHM),
-    ("minimise", WITH_BURSTS, 0, WITH_BURSTS),
-    ("upgrade", WITH_BURSTS, 0, WITH_BURSTS),
-    ("upgrade", OF_ALGORITHM, 0, OF_ALGORITHM_IN_FORMAT_2),
-    ("upgrade", WITHOUT_BIG, 0, WITH_BIG),
-    (
-        "report",
-        FINISHING_LARGEST,
-        0,
-        "report algorithm 8 120 240 nodes 1 depth 0 target 2/1\n",
-    ),
-    (
-        "report",
-        WITH_BURSTS,
-        0,
-        "report adversary 2 3 4 nodes 4 depth 4 target 4/3\n",
-    ),
-    (
-        "report",
-        LEGAL,
-        0,
-        "report adversary 2 3 4 nodes 5 depth 4 target 4/3\n",
-    ),
-    (
-        "report",
-        OF_ALGORITHM,
-        0,
-        "report algorithm 2 2 3 nodes 5 depth 2 target 3/2\n",
-    ),
-    (
-        "report",
-        FINISHING,
-        0,
-        "report algorithm 2 3 5 nodes 1 depth 0 target 5/3\n",
-    ),
-    (
-        "report",
-        WITH_COPIES,
-        0,
-        "report adversary 2 3 4 nodes 7 depth 4 target 4/3\n",
-    ),
-];
-
-#[test]
-fn strategies_are_made_shorter_and_reported(rt: HostRuntime) {
-    for row in &MADE {
-        assert!(rt; is_due(rt.alloc(), row).unwrap_or(false), "{}", row.0);
-    }
-}
-
 // Words for which nothing is read, the number with which a run of them ends, and what it writes.
-type Unread = (&'static str, u8, &'static str);
+pub(crate) type Unread = (&'static str, u8, &'static str);
 
-fn is_due_unread(alloc: Global, row: &Unread) -> Result<bool, AllocError> {
+pub(crate) fn is_due_unread(alloc: Global, row: &Unread) -> Result<bool, AllocError> {
     ends_unread(alloc, row.0, (row.1, row.2))
-}
-
-const SEARCHES: [Unread; 11] = [
-    (
-        "search 2 2 3 budget=1 table=1",
-        3,
-        "undecided 2 2 3 visits 1 pass 0 path 2@0\n",
-    ),
-    (
-        "search 2 2 3 budget=4 table=1",
-        3,
-        "undecided 2 2 3 visits 4 pass 0 path 1@0 1@1\n",
-    ),
-    (
-        "search 2 2 3 budget=2 table=1",
-        3,
-        "undecided 2 2 3 visits 2 pass 0 path 1@0\n",
-    ),
-    ("search 2 2 3 budget=5 table=1", 0, OF_ALGORITHM),
-    ("search 2 2 3 budget=20 table=10", 0, OF_ALGORITHM),
-    ("search 2 2 3 budget=162 table=1", 0, OF_ALGORITHM),
-    ("search 8 120 240 budget=1 table=1", 0, FINISHING_LARGEST),
-    (
-        "search 2 3 4 budget=11 table=1",
-        3,
-        "undecided 2 3 4 visits 11 pass 0 path 1@0 1@0\n",
-    ),
-    ("search 2 3 5 budget=1 table=1", 0, FINISHING),
-    (
-        "drill 7 1",
-        0,
-        "drill 7 1 nodes 5 bytes 326 accepted minimised 5\n",
-    ),
-    (
-        "drill 7 2",
-        0,
-        "drill 7 2 nodes 9 bytes 556 accepted minimised 5\n",
-    ),
-];
-
-#[test]
-fn games_are_searched_and_drills_made_without_input(rt: HostRuntime) {
-    for row in &SEARCHES {
-        assert!(rt;
-            is_due_unread(rt.alloc(), row).unwrap_or(false),
-            "{}",
-            row.0
-        );
-    }
 }
 
 // A line without the packing that it may have: what stands before it, and after.
@@ -461,7 +247,7 @@ fn begins_but_for_packings(text: &str, front: &str) -> bool {
 
 // Words and an input, the first lines of the strategy that a run of them writes, but for their packings, and how the
 // line of a check of it begins.
-type Found = (&'static str, &'static str, &'static str, &'static str);
+pub(crate) type Found = (&'static str, &'static str, &'static str, &'static str);
 
 // The number with which a run of these words ends, and what it writes.
 fn outcome(alloc: Global, words: &str, input: &[u8]) -> Result<(u8, MemSink), AllocError> {
@@ -471,7 +257,7 @@ fn outcome(alloc: Global, words: &str, input: &[u8]) -> Result<(u8, MemSink), Al
     Ok((status.code(), sink))
 }
 
-fn is_found(alloc: Global, row: &Found) -> Result<bool, AllocError> {
+pub(crate) fn is_found(alloc: Global, row: &Found) -> Result<bool, AllocError> {
     let (code, found) = outcome(alloc, row.0, row.1.as_bytes())?;
     let (_, checked) = outcome(alloc, "check", found.bytes())?;
     let text = std::str::from_utf8(found.bytes()).unwrap_or("");
@@ -479,41 +265,6 @@ fn is_found(alloc: Global, row: &Found) -> Result<bool, AllocError> {
         return Ok(false);
     }
     Ok(checked.bytes().starts_with(row.3.as_bytes()))
-}
-
-const FOUND: [Found; 5] = [
-    ("search 2 3 4 budget=12 table=1", "", LEGAL, ACCEPTED),
-    (
-        "upgrade",
-        LEGAL,
-        WITH_BURSTS,
-        "accepted adversary 2 3 4 nodes 4\n",
-    ),
-    (
-        "search 3 3 4 budget=786432 table=1",
-        "",
-        "stretch 1\ngame 3 3 4\nside adversary\n",
-        "accepted adversary 3 3 4 ",
-    ),
-    (
-        "search 2 6 8 budget=3188646 table=100000",
-        "",
-        "stretch 1\ngame 2 6 8\nside adversary\n",
-        "accepted adversary 2 6 8 ",
-    ),
-    (
-        "search 2 6 9 budget=3188646 table=100000",
-        "",
-        "stretch 1\ngame 2 6 9\nside algorithm\n",
-        "accepted algorithm 2 6 9 ",
-    ),
-];
-
-#[test]
-fn strategies_are_found_whatever_their_packings(rt: HostRuntime) {
-    for row in &FOUND {
-        assert!(rt; is_found(rt.alloc(), row).unwrap_or(false), "{}", row.0);
-    }
 }
 
 const NO_COMMANDS: [&str; 24] = [

@@ -1,16 +1,22 @@
-use Rattle.std.proofs.Common.{[]}
-use Rattle.stretch_bench.specs.Words.{spelling_of}
-use Rattle.stretch_bench.proofs.WordLemmas.{answers_of, no_answers, none_spelled}
+use Rattle.stretch_bench.specs.Commands.{spelling_of}
+use Rattle.stretch_bench.proofs.CommandLemmas.{items_spelled, no_items, none_spelled}
 use Rattle.stretch_bench.proofs.command.read_words.Goals as goal
 
 pub returns-in-Some-2 : goal.returns-in-Some-2
 returns-in-Some-2 g c = record {
-  exact = answers_of [] (spelling_of c.args.words.now) c.in_ok-items.field-0 c.in-Some-2.items (c.in_ok-items.ensures []) c.in-Some-2.is;
+  exact = items_spelled _ (spelling_of c.args.words.now) c.in_ok-items.field-0 c.in-Some-2.items (c.in_ok-items.ensures _) c.in-Some-2.is;
 }
 
 pub returns-in-None : goal.returns-in-None
 returns-in-None g c = record {
-  exact = none_spelled _ (spelling_of c.args.words.now) c.if-is_word.ensures.exact.1 c.if-is_word-2.ensures.exact.1 c.if-is_word-3.ensures.exact.1 c.if-is_word-4.ensures.exact.1
-      c.in_default.ensures c.in_default-drill_of.ensures c.in_default-search_of.ensures
-      (no_answers [] (spelling_of c.args.words.now) c.in_ok-items.field-0 (c.in_ok-items.ensures []) c.in-None.is);
+  exact = none_spelled _ (spelling_of c.args.words.now) (record {
+    check = c.if-is_word.ensures.exact.1;
+    minimise = c.if-is_word-2.ensures.exact.1;
+    upgrade = c.if-is_word-3.ensures.exact.1;
+    report = c.if-is_word-4.ensures.exact.1;
+    play = c.in_default.ensures _;
+    drill = c.in_default-drill_of.ensures _;
+    searches = c.in_default-search_of.ensures _;
+    answer = no_items _ (spelling_of c.args.words.now) c.in_ok-items.field-0 (c.in_ok-items.ensures _) c.in-None.is;
+  });
 }

@@ -1,6 +1,6 @@
-use Rattle.stretch_bench.proofs.OutcomeLemmas.{spelled_of}
+use Rattle.stretch_bench.proofs.OutcomeLemmas.{fault_due}
 use Rattle.stretch_bench.proofs.due.due_of.Goals as goal
 
-pub returns-in-Some-clause-no_command : goal.returns-in-Some-clause-no_command
-returns-in-Some-clause-no_command g c none =
-    absurd (none c.in-Some.command (spelled_of _ _ _ _ c.in_ok-command.ensures.exact c.in-Some.is))
+pub returns-in-Err-clause-due : goal.returns-in-Err-clause-due
+returns-in-Err-clause-due g c =
+    fault_due _ _ _ c.args.command.now c.in-Err.fault c.due_of_fault.result c.in-Err.ensures.fault c.due_of_fault.ensures.line c.due_of_fault.ensures.memory

@@ -1,7 +1,0 @@
-use Rattle.std.proofs.Common.{◌≡◌, All, take, map, decimal}
-use Rattle.items.specs.Multiset.{IsSize}
-use Rattle.stretch_bench.specs.Words.{spelling_of, most_item}
-use Rattle.stretch_bench.proofs.command.item_list.Given as goal
-
-abbrev pub invariant-loop-word : goal.invariant-loop-word
-invariant-loop-word l = (spelling_of (take l.word-index l.words) ≡ map decimal l.items) × All (IsSize most_item) l.items

@@ -1,0 +1,32 @@
+use Rattle.std.proofs.Common.{◌<◌, length, refl, arith}
+use Rattle.std.proofs.lemmas.List.{length-map}
+use Rattle.stretch_bench.proofs.OutcomeLemmas.{answer_made, drill_made, made_as, play_made, search_made}
+use Rattle.stretch_bench.proofs.PlayLemmas.{named_at, place_within}
+use Rattle.stretch_bench.proofs.due.made.Goals as goal
+
+pub returns-in_ok-played-in-Play-clause-due : goal.returns-in_ok-played-in-Play-clause-due
+returns-in_ok-played-in-Play-clause-due g c =
+    let within = place_within _ c.args.command.now c.in-Play.player c.in-Play.is c.requires.allowed in
+    let inside : c.in-Play.player < length c.args.players.now.items = omega (arith, within, length-map c.args.players.now.items (λ player. player.name)) in
+    made_as _ _ _ _ _ _ c.in-Play.is
+    (play_made _ _ _ c.in-Play.player _ _ c.in_ok-strategy-in-Play.strategy c.in_ok-played-in-Play.field-0
+    (named_at _ c.args.players.now.items c.in-Play.player c.index.result.now inside c.index.ensures)
+    (named_at _ c.args.players.now.items c.in-Play.player c.index.result.now inside c.index.ensures)
+    c.in_ok-strategy-in-Play.ensures.loaded c.in_ok-played-in-Play.ensures.play)
+
+pub returns-in_ok-answered-in-Answer-clause-due : goal.returns-in_ok-answered-in-Answer-clause-due
+returns-in_ok-answered-in-Answer-clause-due g c =
+    made_as _ _ _ _ _ _ c.in-Answer.is
+    (answer_made _ _ _ c.in-Answer.items c.in_ok-strategy-in-Answer.strategy c.in_ok-answered-in-Answer.field-0
+    c.in_ok-strategy-in-Answer.ensures.loaded (rw c.as_slice.ensures.value at c.in_ok-answered-in-Answer.ensures.replies))
+
+pub returns-in_ok-drilled-in-Drill-clause-due : goal.returns-in_ok-drilled-in-Drill-clause-due
+returns-in_ok-drilled-in-Drill-clause-due g c =
+    made_as _ _ _ _ _ _ c.in-Drill.is
+    (drill_made _ _ _ c.in-Drill.number c.in-Drill.copies c.in_ok-drilled-in-Drill.field-0 refl c.in_ok-drilled-in-Drill.ensures.line)
+
+pub returns-in_ok-searched-in-Search-clause-due : goal.returns-in_ok-searched-in-Search-clause-due
+returns-in_ok-searched-in-Search-clause-due g c =
+    made_as _ _ _ _ _ _ c.in-Search.is
+    (search_made _ _ _ c.in-Search.game c.in-Search.budget c.in-Search.table c.in_ok-searched-in-Search.field-0 refl
+    c.in_ok-searched-in-Search.ensures.found)

@@ -1,0 +1,10 @@
+use Rattle.stretch_bench.proofs.RunLemmas.{answer_by, made_is_due}
+use Rattle.stretch_bench.proofs.run.run_command.Goals as goal
+
+pub returns-clause-answer : goal.returns-clause-answer
+returns-clause-answer g c words spells =
+    answer_by _ _ _ _ _ _ _ c.due_of.result c.ended.result
+    (made_is_due _ words _ _ c.args.command.now c.due_of.result spells c.due_of.ensures.due)
+    c.due_of.ensures.read
+    (λ e. record { command = c.args.command.now; spells = spells; cut = c.due_of.ensures.cut e })
+    c.ended.ensures.ending

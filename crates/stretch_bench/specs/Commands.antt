@@ -1,0 +1,51 @@
+-- The commands, and the words that spell them.
+use Rattle.std.specs.Prelude.{◌≡◌, ℕ, List, ◌∷◌, Option, map, String, string_bytes}
+use Rattle.std.specs.declared.alloc.Global.{Global}
+use Rattle.checker.specs.declared.fault.Wanted.{Wanted}
+use Rattle.stretch_bench.specs.Call.{Players}
+use Rattle.stretch_bench.specs.Form.{Form, wanted_of}
+use Rattle.stretch_bench.specs.declared.command.Command.{Command}
+use Rattle.stretch_bench.specs.declared.command.Command.TheVariants.{Check, Play, Answer, Minimise, Upgrade}
+use Rattle.stretch_bench.specs.declared.command.Command.TheVariants.{Report, Drill, Search}
+use Rattle.stretch_bench.specs.Check.{check}
+use Rattle.stretch_bench.specs.Play.{play_against}
+use Rattle.stretch_bench.specs.Answer.{answer}
+use Rattle.stretch_bench.specs.Minimise.{minimise}
+use Rattle.stretch_bench.specs.Upgrade.{upgrade}
+use Rattle.stretch_bench.specs.Report.{report}
+use Rattle.stretch_bench.specs.Drill.{drill}
+use Rattle.stretch_bench.specs.Search.{search}
+
+-- the list of commands
+abbrev pub form_of : Players → Command → Form
+form_of players Check = check
+form_of players (Play place) = play_against players place
+form_of players (Answer items) = answer items
+form_of players Minimise = minimise
+form_of players Upgrade = upgrade
+form_of players Report = report
+form_of players (Drill number copies) = drill number copies
+form_of players (Search game budget table) = search game budget table
+
+-- the side that a command wants a strategy of, where it reads one
+abbrev pub wanted_by : Players → Command → Option Wanted
+wanted_by players command = wanted_of (form_of players command).work
+
+-- the words as bytes
+abbrev pub spelling_of : List (String Global) → List (List ℕ)
+spelling_of words = map string_bytes words
+
+-- the words spell this command: its name and its arguments, and what these tell is allowed
+pub record Spells (players : Players) (words : List (List ℕ)) (command : Command) : Type 0 where
+  pub spelled : words ≡ (form_of players command).name ∷ (form_of players command).arguments
+  pub allowed : (form_of players command).IsAllowed
+
+-- the words spell no command
+abbrev pub SpellsNone : Players → List (List ℕ) → Type 0
+SpellsNone players words = (command : Command) → Spells players words command → ⊥
+
+-- words spell one command at most
+abbrev pub WordsSpellOneCommand : Type 0
+WordsSpellOneCommand =
+    (players : Players) (words : List (List ℕ)) (one other : Command)
+    → Spells players words one → Spells players words other → one ≡ other
