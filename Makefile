@@ -12,9 +12,14 @@ build:
 try:
 	cd crates/stretch && rt try -- check < ../../examples/adversary-2-3-4.txt
 
-# The gate: every proof, must-fail edit, test and program, and the examples.
+# The gate: every proof, must-fail edit, test and program, and the examples; and then what only the built program shows: the
+# examples, the searches of all small games, and each request for memory, read and write refused in turn.
 check:
 	.ci/run
+	$(MAKE) build
+	examples/check $(PROGRAM)
+	bench/searches $(PROGRAM)
+	bench/refusals $(PROGRAM)
 
 install: build
 	install -D $(PROGRAM) $(DESTDIR)$(PREFIX)/bin/stretch
