@@ -1,5 +1,6 @@
 -- Talks and plays.
-use Rattle.std.proofs.Common.{◌≡◌, ℕ, zero, suc, ◌+◌, ◌-◌, ◌*◌, ◌<◌, ◌≤◌, List, [], ◌∷◌, ◌++◌, Option, Some, None, length, take, drop, replicate, refl, ap, sym, ◌∙◌, subst, arith, ⊎_elim, ltb}
+use Rattle.std.proofs.Common.{◌≡◌, ℕ, zero, suc, ◌+◌, ◌-◌, ◌*◌, ◌<◌, ◌≤◌, List, [], ◌∷◌, ◌++◌, Option, Some, None, length, take, drop, replicate}
+use Rattle.std.proofs.Common.{refl, ap, sym, ◌∙◌, subst, arith, ⊎_elim, ltb}
 use Rattle.std.specs.Prelude.{All, Any, fold, option_map}
 use Rattle.std.specs.List.{slice_get, concat}
 use Rattle.std.specs.Option.{option_and_then, unwrap_or}
@@ -76,33 +77,33 @@ module _ (game : GameNumbers) (answer : List ℕ → ℕ) (nodes : List AdvNode)
   here items stand = record { more = []; bins = sym (append-nil (bins_of answer items)); to = refl }
 
   -- a burst is played to its end
-  module _ (number times size : ℕ) (pack : List (List ℕ)) (node : AdvNode) (history : List ℕ) (is : slice_get nodes number ≡ Some node) (s : node.step ≡ Burst times size pack) where
-    next_of_burst : (done : ℕ) → (history ++ replicate done size) ++ sent_size node.step ∷ [] ≡ history ++ replicate (done + 1) size
-    next_of_burst done = ap (λ (step : Step). (history ++ replicate done size) ++ sent_size step ∷ []) s ∙ times_more history done size
+  module _ (number times size : ℕ) (pack : List (List ℕ)) (node : AdvNode) (past : List ℕ) (is : slice_get nodes number ≡ Some node) (s : node.step ≡ Burst times size pack) where
+    next_of_burst : (done : ℕ) → (past ++ replicate done size) ++ sent_size node.step ∷ [] ≡ past ++ replicate (done + 1) size
+    next_of_burst done = ap (λ (step : Step). (past ++ replicate done size) ++ sent_size step ∷ []) s ∙ times_more past done size
 
     burst_last : (done : ℕ) → done + 1 ≡ times
-        → Leads (so_far (history ++ replicate done size) (Waits number done)) (history ++ replicate done size) (history ++ replicate times size) (Ended number)
+        → Leads (so_far (past ++ replicate done size) (Waits number done)) (past ++ replicate done size) (past ++ replicate times size) (Ended number)
     burst_last done e =
-        let before : List ℕ = history ++ replicate done size in
-        let last : history ++ replicate (done + 1) size ≡ history ++ replicate times size = ap (λ (n : ℕ). history ++ replicate n size) e in
-        then_leads number done before (history ++ replicate times size) node (Ended number) (Ended number) is
+        let before : List ℕ = past ++ replicate done size in
+        let last : past ++ replicate (done + 1) size ≡ past ++ replicate times size = ap (λ (n : ℕ). past ++ replicate n size) e in
+        then_leads number done before (past ++ replicate times size) node (Ended number) (Ended number) is
         (ap (stand_after number done (load_hit game answer before (sent_size node.step))) s
         ∙ cond-false (ltb (done + 1) times) (Waits number (done + 1)) (Ended number) (le-ltb (done + 1) times (omega arith)))
-        (subst (λ (items : List ℕ). Leads (so_far items (Ended number)) items (history ++ replicate times size) (Ended number)) (sym (next_of_burst done ∙ last))
-        (here (history ++ replicate times size) (Ended number)))
+        (subst (λ (items : List ℕ). Leads (so_far items (Ended number)) items (past ++ replicate times size) (Ended number)) (sym (next_of_burst done ∙ last))
+        (here (past ++ replicate times size) (Ended number)))
 
     burst_more : (done : ℕ) → done + 1 < times
-        → Leads (so_far (history ++ replicate (done + 1) size) (Waits number (done + 1))) (history ++ replicate (done + 1) size) (history ++ replicate times size) (Ended number)
-        → Leads (so_far (history ++ replicate done size) (Waits number done)) (history ++ replicate done size) (history ++ replicate times size) (Ended number)
+        → Leads (so_far (past ++ replicate (done + 1) size) (Waits number (done + 1))) (past ++ replicate (done + 1) size) (past ++ replicate times size) (Ended number)
+        → Leads (so_far (past ++ replicate done size) (Waits number done)) (past ++ replicate done size) (past ++ replicate times size) (Ended number)
     burst_more done l leads =
-        let before : List ℕ = history ++ replicate done size in
-        then_leads number done before (history ++ replicate times size) node (Waits number (done + 1)) (Ended number) is
+        let before : List ℕ = past ++ replicate done size in
+        then_leads number done before (past ++ replicate times size) node (Waits number (done + 1)) (Ended number) is
         (ap (stand_after number done (load_hit game answer before (sent_size node.step))) s
         ∙ cond-true (ltb (done + 1) times) (Waits number (done + 1)) (Ended number) (lt-ltb (done + 1) times l))
-        (subst (λ (items : List ℕ). Leads (so_far items (Waits number (done + 1))) items (history ++ replicate times size) (Ended number)) (sym (next_of_burst done)) leads)
+        (subst (λ (items : List ℕ). Leads (so_far items (Waits number (done + 1))) items (past ++ replicate times size) (Ended number)) (sym (next_of_burst done)) leads)
 
     burst_leads : (k done : ℕ) → (done + 1) + k ≡ times
-        → Leads (so_far (history ++ replicate done size) (Waits number done)) (history ++ replicate done size) (history ++ replicate times size) (Ended number)
+        → Leads (so_far (past ++ replicate done size) (Waits number done)) (past ++ replicate done size) (past ++ replicate times size) (Ended number)
     burst_leads zero done e = burst_last done (omega arith)
     burst_leads (suc k) done e = burst_more done (omega arith) (burst_leads k (done + 1) (omega arith))
 
@@ -161,7 +162,8 @@ plays_are_talks pool root answer end p e =
 
 -- ---- after the end of a play nothing is answered
 
-stays_by : (game : GameNumbers) (nodes : List AdvNode) (items bins more : List ℕ) (stand : Stand) → IsEnd stand → fold (answered game nodes) (talk_to items bins stand) more ≡ talk_to items bins stand
+stays_by : (game : GameNumbers) (nodes : List AdvNode) (items bins more : List ℕ) (stand : Stand) → IsEnd stand
+    → fold (answered game nodes) (talk_to items bins stand) more ≡ talk_to items bins stand
 stays_by game nodes items bins [] stand over = refl
 stays_by game nodes items bins (bin ∷ more) (Waits number done) over = absurd over
 stays_by game nodes items bins (bin ∷ more) (Ended number) over = stays_by game nodes items bins more (Ended number) over
@@ -183,7 +185,8 @@ each_talk_ends pool root bins p r below many =
     let end = has_end pool p answer algorithm (root + 1) root [] (omega arith) ready in
     let facts = ends_lost pool p answer algorithm (root + 1) root [] end.0 ready end.1 in
     let items = end.0.items in
-    let short : length items ≤ length bins = omega (arith, many, sum-Packable-le pool.game items facts.packable, length-le-sum pool.game.capacity items facts.packable.1.item_list) in
+    let short : length items ≤ length bins =
+    omega (arith, many, sum-Packable-le pool.game items facts.packable, length-le-sum pool.game.capacity items facts.packable.1.item_list) in
     let same = bins_from bins items short in
     let talk_is : talk_in pool root (take (length items) bins) ≡ talk_to items (take (length items) bins) (Ended end.0.number) =
     subst (λ (front : List ℕ). talk_in pool root front ≡ talk_to items front (Ended end.0.number)) same (plays_are_talks pool root answer end.0 p end.1) in (
@@ -231,7 +234,8 @@ ends_there pool root bins end p are over e =
     let front = bins_from bins items within in
     let ended : IsOver pool root (take n bins) = subst (λ (xs : List ℕ). IsOver pool root xs) front (subst (λ (t : Talk). IsEnd t.stand) (sym talk_is) tt) in
     let stays = stays_over pool root (take n bins) (drop n bins) ended in
-    let whole : (talk_in pool root (take n bins)).bins ≡ bins = sym (ap (λ (t : Talk). t.bins) stays) ∙ ap (λ (xs : List ℕ). (talk_in pool root xs).bins) (take-append-drop n bins) ∙ are.asked in
+    let whole : (talk_in pool root (take n bins)).bins ≡ bins =
+    sym (ap (λ (t : Talk). t.bins) stays) ∙ ap (λ (xs : List ℕ). (talk_in pool root xs).bins) (take-append-drop n bins) ∙ are.asked in
     sym (ap (λ (t : Talk). t.bins) talk_is) ∙ ap (λ (xs : List ℕ). (talk_in pool root xs).bins) front ∙ whole)
     (cases_lt (length bins) (length items))
 

@@ -109,82 +109,88 @@ packable_next game history items done (Burst times size pack) so_far left packab
 
 -- ---- one more answer
 
-module _ (pool : Pool) (p : IsPool pool) (items bins : List ℕ) (bin number : ℕ) (node : AdvNode) (history : List ℕ) (even : length bins ≡ length items) (below : All (λ b. b < pool.game.bins) bins) (within : bin < pool.game.bins) (is : slice_get pool.nodes number ≡ Some node) (comes : ComesTo pool.game (answers_from bins) history (position_of node)) (short : length history ≤ length bins) where
-  all_below : All (λ b. b < pool.game.bins) (bins ++ bin ∷ [])
-  all_below = All-push (λ b. b < pool.game.bins) bins bin below within
+module _ (pool : Pool) (p : IsPool pool) (items bins : List ℕ) (bin number : ℕ) (node : AdvNode) (history : List ℕ) (even : length bins ≡ length items) where
+  module _ (below : All (λ b. b < pool.game.bins) bins) (within : bin < pool.game.bins) (is : slice_get pool.nodes number ≡ Some node) where
+    module _ (comes : ComesTo pool.game (answers_from bins) history (position_of node)) (short : length history ≤ length bins) where
+      all_below : All (λ b. b < pool.game.bins) (bins ++ bin ∷ [])
+      all_below = All-push (λ b. b < pool.game.bins) bins bin below within
 
-  algorithm : IsAlgorithm pool.game (answers_from (bins ++ bin ∷ []))
-  algorithm = from_is_algorithm pool.game (bins ++ bin ∷ []) (omega (arith, within)) all_below
+      algorithm : IsAlgorithm pool.game (answers_from (bins ++ bin ∷ []))
+      algorithm = from_is_algorithm pool.game (bins ++ bin ∷ []) (omega (arith, within)) all_below
 
-  comes_on : ComesTo pool.game (answers_from (bins ++ bin ∷ [])) history (position_of node)
-  comes_on = comes_with_more pool.game bins (bin ∷ []) history (position_of node) short comes
+      comes_on : ComesTo pool.game (answers_from (bins ++ bin ∷ [])) history (position_of node)
+      comes_on = comes_with_more pool.game bins (bin ∷ []) history (position_of node) short comes
 
-  all_packable : Packable pool.game (history ++ sent_items node.step)
-  all_packable = ready_packable pool p (answers_from (bins ++ bin ∷ [])) algorithm number history node is comes_on
+      all_packable : Packable pool.game (history ++ sent_items node.step)
+      all_packable = ready_packable pool p (answers_from (bins ++ bin ∷ [])) algorithm number history node is comes_on
 
-  -- the load that an item hits after just this history
-  hit : (size : ℕ) → items ≡ history → load_hit pool.game (answers_from (bins ++ bin ∷ [])) history size ≡ slice_index (loads_by_bin pool.game items bins) bin
-  hit size e =
-      let answer = answers_from (bins ++ bin ∷ []) in
-      let same : bins_of answer history ≡ bins = bins_from (bins ++ bin ∷ []) history (omega (arith, short, length-append bins (bin ∷ []))) ∙ ap (λ (n : ℕ). take n (bins ++ bin ∷ [])) (sym (ap length e) ∙ sym even)
-      ∙ take-append_seam bins (bin ∷ []) in
-      let place : length (history ++ size ∷ []) - 1 ≡ length bins = omega (arith, length-append history (size ∷ []), ap length e, even) in
-      let to : answer (history ++ size ∷ []) ≡ bin = ap (λ (k : ℕ). get_or (bins ++ bin ∷ []) k 0) place ∙ get_or-append_seam bins bin [] 0 in
-      ap (λ (b : ℕ). get_or (run pool.game answer history) b 0) to ∙ ap (λ (xs : List ℕ). get_or (loads_by_bin pool.game history xs) bin 0) same
-      ∙ ap (λ (xs : List ℕ). get_or (loads_by_bin pool.game xs bins) bin 0) (sym e)
+      -- the load that an item hits after just this history
+      hit : (size : ℕ) → items ≡ history → load_hit pool.game (answers_from (bins ++ bin ∷ [])) history size ≡ slice_index (loads_by_bin pool.game items bins) bin
+      hit size e =
+          let answer = answers_from (bins ++ bin ∷ []) in
+          let same : bins_of answer history ≡ bins = bins_from (bins ++ bin ∷ []) history (omega (arith, short, length-append bins (bin ∷ [])))
+          ∙ ap (λ (n : ℕ). take n (bins ++ bin ∷ [])) (sym (ap length e) ∙ sym even)
+          ∙ take-append_seam bins (bin ∷ []) in
+          let place : length (history ++ size ∷ []) - 1 ≡ length bins = omega (arith, length-append history (size ∷ []), ap length e, even) in
+          let to : answer (history ++ size ∷ []) ≡ bin = ap (λ (k : ℕ). get_or (bins ++ bin ∷ []) k 0) place ∙ get_or-append_seam bins bin [] 0 in
+          ap (λ (b : ℕ). get_or (run pool.game answer history) b 0) to ∙ ap (λ (xs : List ℕ). get_or (loads_by_bin pool.game history xs) bin 0) same
+          ∙ ap (λ (xs : List ℕ). get_or (loads_by_bin pool.game xs bins) bin 0) (sym e)
 
-  goes_at : (size : ℕ) (placements : List Placement) (next : Then) → items ≡ history → sent_items node.step ≡ size ∷ []
-      → (h : Hits pool.game (answers_from (bins ++ bin ∷ [])) pool.nodes number history size placements)
-      → h.next ≡ next → IsSoundAt pool (items ++ size ∷ []) (bins ++ bin ∷ []) (stand_at number (Some next))
-  goes_at size placements Over e sent h then = (
-    node,
-    is,
-    λ x. ap (λ (xs : List ℕ). count x (xs ++ size ∷ [])) e ∙ Same-append history node.items (size ∷ []) (size ∷ []) comes.items (λ z. refl) x
-        ∙ ap (λ (xs : List ℕ). count x (node.items ++ xs)) (sym sent),
-    subst (λ (xs : List ℕ). Packable pool.game xs) (ap (λ (xs : List ℕ). history ++ xs) sent ∙ ap (λ (xs : List ℕ). xs ++ size ∷ []) (sym e)) all_packable,
-  )
-  goes_at size placements (To child) e sent h then =
-      let ready = h.ready child then in (
-        ready.1.0,
-        history ++ size ∷ [],
-        ready.1.1,
-        ready.1.2,
-        ap (λ (xs : List ℕ). xs ++ size ∷ []) e ∙ sym (append-nil (history ++ size ∷ [])),
-        sends_some pool p child ready.1.0 ready.1.1,
+      goes_at : (size : ℕ) (placements : List Placement) (next : Then) → items ≡ history → sent_items node.step ≡ size ∷ []
+          → (h : Hits pool.game (answers_from (bins ++ bin ∷ [])) pool.nodes number history size placements)
+          → h.next ≡ next → IsSoundAt pool (items ++ size ∷ []) (bins ++ bin ∷ []) (stand_at number (Some next))
+      goes_at size placements Over e sent h then = (
+        node,
+        is,
+        λ x. ap (λ (xs : List ℕ). count x (xs ++ size ∷ [])) e ∙ Same-append history node.items (size ∷ []) (size ∷ []) comes.items (λ z. refl) x
+            ∙ ap (λ (xs : List ℕ). count x (node.items ++ xs)) (sym sent),
+        subst (λ (xs : List ℕ). Packable pool.game xs) (ap (λ (xs : List ℕ). history ++ xs) sent ∙ ap (λ (xs : List ℕ). xs ++ size ∷ []) (sym e)) all_packable,
       )
+      goes_at size placements (To child) e sent h then =
+          let ready = h.ready child then in (
+            ready.1.0,
+            history ++ size ∷ [],
+            ready.1.1,
+            ready.1.2,
+            ap (λ (xs : List ℕ). xs ++ size ∷ []) e ∙ sym (append-nil (history ++ size ∷ [])),
+            sends_some pool p child ready.1.0 ready.1.1,
+          )
 
-  -- an item of a node goes to a bin
-  told_at : (done : ℕ) (step : Step) → node.step ≡ step → items ≡ history ++ replicate done (sent_size step) → done < length (sent_items step)
-      → IsSoundAt pool (items ++ sent_size step ∷ []) (bins ++ bin ∷ []) (stand_after number done (slice_index (loads_by_bin pool.game items bins) bin) step)
-  told_at done (Send size pack placements) s so_far left =
-      let answer = answers_from (bins ++ bin ∷ []) in
-      let none : done ≡ 0 = omega arith in
-      let e : items ≡ history = so_far ∙ ap (λ (n : ℕ). history ++ replicate n size) none ∙ append-nil history in
-      let h = hits_at pool p answer algorithm number history node size pack placements is s comes_on in
-      subst (λ (next : Option Then). IsSoundAt pool (items ++ size ∷ []) (bins ++ bin ∷ []) (stand_at number next))
-      (sym h.is ∙ ap (λ (load : ℕ). next_at load placements) (hit size e)) (goes_at size placements h.next e (ap sent_items s) h refl)
-  told_at done (Burst times size pack) s so_far left =
-      let all : items ++ size ∷ [] ≡ history ++ replicate (done + 1) size = ap (λ (xs : List ℕ). xs ++ size ∷ []) so_far ∙ times_more history done size in
-      ⊎_elim
-      (λ more. subst (IsSoundAt pool (items ++ size ∷ []) (bins ++ bin ∷ [])) (sym (cond-true (ltb (done + 1) times) (Waits number (done + 1)) (Ended number) (lt-ltb (done + 1) times more))) (
-        node,
-        history,
-        is,
-        comes_on,
-        all ∙ ap (λ (step : Step). history ++ replicate (done + 1) (sent_size step)) (sym s),
-        subst (λ (step : Step). done + 1 < length (sent_items step)) (sym s) (omega (arith, more, length-replicate times size)),
-      ))
-      (λ last.
-      let whole : done + 1 ≡ times = omega (arith, last, left, length-replicate times size) in
-      let full : items ++ size ∷ [] ≡ history ++ sent_items node.step = all ∙ ap (λ (n : ℕ). history ++ replicate n size) whole
-      ∙ ap (λ (step : Step). history ++ sent_items step) (sym s) in
-      subst (IsSoundAt pool (items ++ size ∷ []) (bins ++ bin ∷ [])) (sym (cond-false (ltb (done + 1) times) (Waits number (done + 1)) (Ended number) (le-ltb (done + 1) times last))) (
-        node,
-        is,
-        λ x. ap (count x) full ∙ Same-append history node.items (sent_items node.step) (sent_items node.step) comes.items (λ z. refl) x,
-        subst (λ (xs : List ℕ). Packable pool.game xs) (sym full) all_packable,
-      ))
-      (cases_lt (done + 1) times)
+      -- an item of a node goes to a bin
+      told_at : (done : ℕ) (step : Step) → node.step ≡ step → items ≡ history ++ replicate done (sent_size step) → done < length (sent_items step)
+          → IsSoundAt pool (items ++ sent_size step ∷ []) (bins ++ bin ∷ []) (stand_after number done (slice_index (loads_by_bin pool.game items bins) bin) step)
+      told_at done (Send size pack placements) s so_far left =
+          let answer = answers_from (bins ++ bin ∷ []) in
+          let none : done ≡ 0 = omega arith in
+          let e : items ≡ history = so_far ∙ ap (λ (n : ℕ). history ++ replicate n size) none ∙ append-nil history in
+          let h = hits_at pool p answer algorithm number history node size pack placements is s comes_on in
+          subst (λ (next : Option Then). IsSoundAt pool (items ++ size ∷ []) (bins ++ bin ∷ []) (stand_at number next))
+          (sym h.is ∙ ap (λ (load : ℕ). next_at load placements) (hit size e)) (goes_at size placements h.next e (ap sent_items s) h refl)
+      told_at done (Burst times size pack) s so_far left =
+          let all : items ++ size ∷ [] ≡ history ++ replicate (done + 1) size = ap (λ (xs : List ℕ). xs ++ size ∷ []) so_far ∙ times_more history done size in
+          ⊎_elim
+          (λ more.
+          let waits = cond-true (ltb (done + 1) times) (Waits number (done + 1)) (Ended number) (lt-ltb (done + 1) times more) in
+          subst (IsSoundAt pool (items ++ size ∷ []) (bins ++ bin ∷ [])) (sym waits) (
+            node,
+            history,
+            is,
+            comes_on,
+            all ∙ ap (λ (step : Step). history ++ replicate (done + 1) (sent_size step)) (sym s),
+            subst (λ (step : Step). done + 1 < length (sent_items step)) (sym s) (omega (arith, more, length-replicate times size)),
+          ))
+          (λ last.
+          let whole : done + 1 ≡ times = omega (arith, last, left, length-replicate times size) in
+          let full : items ++ size ∷ [] ≡ history ++ sent_items node.step = all ∙ ap (λ (n : ℕ). history ++ replicate n size) whole
+          ∙ ap (λ (step : Step). history ++ sent_items step) (sym s) in
+          let over = cond-false (ltb (done + 1) times) (Waits number (done + 1)) (Ended number) (le-ltb (done + 1) times last) in
+          subst (IsSoundAt pool (items ++ size ∷ []) (bins ++ bin ∷ [])) (sym over) (
+            node,
+            is,
+            λ x. ap (count x) full ∙ Same-append history node.items (sent_items node.step) (sent_items node.step) comes.items (λ z. refl) x,
+            subst (λ (xs : List ℕ). Packable pool.game xs) (sym full) all_packable,
+          ))
+          (cases_lt (done + 1) times)
 
 -- ---- every talk is sound
 
@@ -226,7 +232,8 @@ pub talk-nil : (game : GameNumbers) (nodes : List AdvNode) (root : ℕ) → talk
 unfolding talk
 talk-nil game nodes root = refl
 
-pub talk-push : (game : GameNumbers) (nodes : List AdvNode) (root : ℕ) (bins : List ℕ) (bin : ℕ) → talk game nodes root (bins ++ bin ∷ []) ≡ answered game nodes (talk game nodes root bins) bin
+pub talk-push : (game : GameNumbers) (nodes : List AdvNode) (root : ℕ) (bins : List ℕ) (bin : ℕ)
+    → talk game nodes root (bins ++ bin ∷ []) ≡ answered game nodes (talk game nodes root bins) bin
 unfolding talk
 talk-push game nodes root bins bin = fold-append (answered game nodes) (talk_begins root) bins (bin ∷ [])
 

@@ -214,8 +214,8 @@ module _ (pool : Pool) (root : ℕ) (reader : ReaderState) (left written : Optio
     comes_ended bins next new more not_over m =
         let h = meets bins lines.End next new m in
         comes_by why.ended next new more m.reads (not_over, h.0)
-        (if_prepended (ComesNext (met_by reader.ending) lines.End) (λ bytes. HaltsAt pool root (met_by reader.ending) answers bytes why.ended) [] (to_come now mid) (to_come now mid)
-        (sym (prepend_known-nil (to_come now mid))) (λ bytes c. (not_over, c)) h.1)
+        (if_prepended (ComesNext (met_by reader.ending) lines.End) (λ bytes. HaltsAt pool root (met_by reader.ending) answers bytes why.ended) [] (to_come now mid)
+        (to_come now mid) (sym (prepend_known-nil (to_come now mid))) (λ bytes c. (not_over, c)) h.1)
 
     pub comes_cut : (bins : ℕ) (next : ReaderState) (new more : Option (List ℕ)) → ¬ (IsOver pool root answers)
         → (Meets (asking bins now next mid new) lines.Unfinished ⊎ Meets (asking bins now next mid new) lines.TooLong)
@@ -270,26 +270,28 @@ module _ (pool : Pool) (root : ℕ) (reader : ReaderState) (left written : Optio
   pub not_ended : (s : SessionState) → s.pool ≡ pool → s.root ≡ root → (HasEnded s → ⊥) → ¬ (IsOver pool root s.answers)
   not_ended s of_pool of_root not = λ over. not (over_same s.pool pool s.root root s.answers of_pool of_root over)
 
-  module _ (s a : SessionState) (bin : ℕ) (of_pool : s.pool ≡ pool) (of_root : s.root ≡ root) (answered : a ≡ state_of s.pool s.root (s.answers ++ bin ∷ [])) (legal : IsLegal a) (now next : ReaderState) (mid told new more : Option (List ℕ)) (on : GoesOn (sitting s.answers now mid told)) (bins : ℕ) (gives : Gives (asking bins now next mid new) (bin_line bin)) where
-    still_answers : AreAnswers pool root (s.answers ++ bin ∷ [])
-    still_answers =
-        answers_same s.pool pool s.root root (s.answers ++ bin ∷ []) of_pool of_root
-        (subst (λ (state : SessionState). AreAnswers state.pool state.root state.answers) answered legal.answers)
+  module _ (s a : SessionState) (bin : ℕ) (of_pool : s.pool ≡ pool) (of_root : s.root ≡ root) where
+    module _ (answered : a ≡ state_of s.pool s.root (s.answers ++ bin ∷ [])) (legal : IsLegal a) (now next : ReaderState) where
+      module _ (mid told new more : Option (List ℕ)) (on : GoesOn (sitting s.answers now mid told)) (bins : ℕ) (gives : Gives (asking bins now next mid new) (bin_line bin)) where
+        still_answers : AreAnswers pool root (s.answers ++ bin ∷ [])
+        still_answers =
+            answers_same s.pool pool s.root root (s.answers ++ bin ∷ []) of_pool of_root
+            (subst (λ (state : SessionState). AreAnswers state.pool state.root state.answers) answered legal.answers)
 
-    still_line : line_at a.pool.game a.pool.nodes (talk_of a) ≡ line_at pool.game pool.nodes (talk_in pool root (s.answers ++ bin ∷ []))
-    still_line =
-        ap (λ (state : SessionState). line_at state.pool.game state.pool.nodes (talk_of state)) answered
-        ∙ line_same s.pool pool s.root root (s.answers ++ bin ∷ []) of_pool of_root
+        still_line : line_at a.pool.game a.pool.nodes (talk_of a) ≡ line_at pool.game pool.nodes (talk_in pool root (s.answers ++ bin ∷ []))
+        still_line =
+            ap (λ (state : SessionState). line_at state.pool.game state.pool.nodes (talk_of state)) answered
+            ∙ line_same s.pool pool s.root root (s.answers ++ bin ∷ []) of_pool of_root
 
-    pub goes_on_by : more ≡ append_known told (line_at a.pool.game a.pool.nodes (talk_of a)) → GoesOn (sitting a.answers next new more)
-    goes_on_by e =
-        subst (λ (answers : List ℕ). GoesOn (sitting answers next new more)) (sym (ap (λ (state : SessionState). state.answers) answered))
-        (goes_on s.answers now mid told on bins bin next new more still_answers gives (e ∙ ap (append_known told) still_line))
+        pub goes_on_by : more ≡ append_known told (line_at a.pool.game a.pool.nodes (talk_of a)) → GoesOn (sitting a.answers next new more)
+        goes_on_by e =
+            subst (λ (answers : List ℕ). GoesOn (sitting answers next new more)) (sym (ap (λ (state : SessionState). state.answers) answered))
+            (goes_on s.answers now mid told on bins bin next new more still_answers gives (e ∙ ap (append_known told) still_line))
 
-    pub stops_saying_by : AppendsSome told more (line_at a.pool.game a.pool.nodes (talk_of a)) → StopsSaying (sitting a.answers next new more)
-    stops_saying_by some =
-        subst (λ (answers : List ℕ). StopsSaying (sitting answers next new more)) (sym (ap (λ (state : SessionState). state.answers) answered))
-        (stops_saying s.answers now mid told on bins bin next new more still_answers gives (subst (AppendsSome told more) still_line some))
+        pub stops_saying_by : AppendsSome told more (line_at a.pool.game a.pool.nodes (talk_of a)) → StopsSaying (sitting a.answers next new more)
+        stops_saying_by some =
+            subst (λ (answers : List ℕ). StopsSaying (sitting answers next new more)) (sym (ap (λ (state : SessionState). state.answers) answered))
+            (stops_saying s.answers now mid told on bins bin next new more still_answers gives (subst (AppendsSome told more) still_line some))
 
   -- what the writing of the last line comes to
   pub closed : (answers : List ℕ) (now next : ReaderState) (mid told new more : Option (List ℕ)) (ending : Ending) (line : List ℕ) (halt : Halt) (r : Result Ending SessionFault)

@@ -9,7 +9,8 @@ use Rattle.referee_session.specs.Lines.{bin_line}
 use Rattle.referee_session.specs.declared.answer.Next.{Next}
 use Rattle.referee_session.specs.declared.answer.Next.TheVariants.{Bin, End, Cut, Other}
 
--- a call that asks for an answer of so many bins: the reader of lines and what the source has left, before it and after it
+-- a call that asks for an answer of so many bins: the reader of lines and what the source has left, before it and
+-- after it
 pub record Asking : Type 0 where
   pub bins : ℕ
   pub reader : ReaderState

@@ -48,7 +48,8 @@ pub record HasOther (pool : Pool) (met : Option Line) (line bytes : List ℕ) : 
   pub rest : List ℕ
   pub first : bytes ≡ with_lf line ++ rest
 
--- after these answers no further one is asked for, or none comes, for this reason; the bytes are those after the answers
+-- after these answers no further one is asked for, or none comes, for this reason; the bytes are those after the
+-- answers
 abbrev pub HaltsAt : Pool → ℕ → Option Line → List ℕ → List ℕ → Halt → Type 0
 HaltsAt pool root met bins bytes why.lost = IsOver pool root bins
 HaltsAt pool root met bins bytes why.ended = ¬ (IsOver pool root bins) × ComesNext met End bytes

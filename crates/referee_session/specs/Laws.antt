@@ -1,12 +1,13 @@
 -- The laws of talks, and of what is due of a referee.
-use Rattle.std.specs.Prelude.{◌≡◌, ℕ, ◌+◌, ◌*◌, ◌<◌, ◌≤◌, List, [], Option, Some, All, Any, length, take}
+use Rattle.std.specs.Prelude.{◌≡◌, ◌⊎◌, ℕ, ◌+◌, ◌*◌, ◌<◌, ◌≤◌, List, [], ◌++◌, Option, None, Some, All, Any, length, take}
 use Rattle.port_io.specs.declared.lines.Line.{Line}
 use Rattle.items.specs.Packable.{Packable}
 use Rattle.online_play.specs.Algorithm.{bins_of}
 use Rattle.adversary_graph.specs.Play.{End, Play, end_of, play}
 use Rattle.adversary_graph.specs.Pools.{IsPool, IsRoot, Pool}
-use Rattle.referee_session.specs.Due.{AreAnswers, Comes, IsOver}
+use Rattle.referee_session.specs.Due.{AreAnswers, Comes, IsOver, due_text, met_by, said_in}
 use Rattle.referee_session.specs.Halt.{Halt}
+use Rattle.referee_session.specs.Lines.{answer_lines}
 use Rattle.referee_session.specs.Session.{talk_in}
 use Rattle.referee_session.specs.Talk.{answers_from, loads_of, packing_at, talk_to}
 use Rattle.referee_session.specs.declared.stand.Stand.TheVariants.{Ended}
@@ -47,8 +48,21 @@ EachTalkEnds =
     → All (λ bin. bin < pool.game.bins) bins → length bins ≡ pool.game.bins * pool.game.capacity
     → (count : ℕ) × (count ≤ length bins) × IsLost pool root (take count bins)
 
+-- whatever comes, some list of answers comes, and then a reason to halt
+abbrev pub SomeTextIsDue : Type 0
+SomeTextIsDue =
+    (pool : Pool) (root : ℕ) (met : Option Line) (bytes : List ℕ) → IsPool pool → IsRoot pool.nodes root
+    → (bins : List ℕ) × (halt : Halt) × Comes pool root (met_by met) bytes bins halt
+
 -- whatever comes, only one list of answers comes, and only one reason to halt
 abbrev pub OneTextIsDue : Type 0
 OneTextIsDue =
     (pool : Pool) (root : ℕ) (met : Option Line) (bytes bins others : List ℕ) (halt reason : Halt) → IsPool pool
     → Comes pool root met bytes bins halt → Comes pool root met bytes others reason → (bins ≡ others) × (halt ≡ reason)
+
+-- what is said to answers that come is the front of the text that is due
+abbrev pub SaidIsAtTheFront : Type 0
+SaidIsAtTheFront =
+    (pool : Pool) (root : ℕ) (met : Option Line) (bytes bins rest all : List ℕ) (halt : Halt) → IsPool pool
+    → AreAnswers pool root bins → ((bins ≡ []) ⊎ (met ≡ None)) → bytes ≡ answer_lines bins ++ rest
+    → Comes pool root met bytes all halt → (more : List ℕ) × (due_text pool root all halt ≡ said_in pool root bins ++ more)

@@ -12,8 +12,8 @@ use Rattle.referee_session.specs.declared.refereeing.Ending.{Ending}
 use Rattle.referee_session.specs.declared.refereeing.SessionFault.{SessionFault}
 use Rattle.referee_session.specs.declared.refereeing.SessionFault.TheVariants.{Read, Write}
 
--- a call: the pool and the root of its play, and the answers of the session after it; the reader of lines, what the source
--- has left and what the sink has written, before it and after it
+-- a call: the pool and the root of its play, and the answers of the session after it; the reader of lines, what the
+-- source has left and what the sink has written, before it and after it
 pub record Sitting : Type 0 where
   pub pool : Pool
   pub root : ℕ
@@ -33,9 +33,10 @@ Takes s taken = ReadsOn s.reader.held (taken ++ s.new_reader.held) s.left s.new_
 -- that is to come where the source tells it
 pub record ComesTo (s : Sitting) (halt : Halt) : Type 0 where
   pub takes : Takes s (answer_lines s.answers ++ taken_for halt)
-  pub in_hand : Comes s.pool s.root (met_by s.reader.ending) ((answer_lines s.answers ++ taken_for halt) ++ s.new_reader.held)
-      s.answers halt
-  pub in_input : IfSome (to_come s.reader s.left) (λ bytes. Comes s.pool s.root (met_by s.reader.ending) bytes s.answers halt)
+  pub in_hand : Comes s.pool s.root (met_by s.reader.ending)
+      ((answer_lines s.answers ++ taken_for halt) ++ s.new_reader.held) s.answers halt
+  pub in_input : IfSome (to_come s.reader s.left)
+      (λ bytes. Comes s.pool s.root (met_by s.reader.ending) bytes s.answers halt)
 
 -- the lines came to this ending, and the whole text that was due then was written
 pub record HasEnding (s : Sitting) (ending : Ending) : Type 0 where

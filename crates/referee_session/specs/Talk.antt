@@ -28,8 +28,8 @@ talk_to items bins stand = record { items = items; bins = bins; stand = stand }
 abbrev pub talk_begins : ℕ → Talk
 talk_begins root = talk_to [] [] (Waits root 0)
 
--- where the play stands after the item of the node of this number went to a bin at which this follows: at the first item
--- of the child, or at the end
+-- where the play stands after the item of the node of this number went to a bin at which this follows: at the first
+-- item of the child, or at the end
 abbrev pub stand_at : ℕ → Option Then → Stand
 stand_at number None = Ended number
 stand_at number (Some Over) = Ended number
@@ -57,7 +57,8 @@ told_next game talk bin number done step = record {
 -- the talk after this answer, by where the play stands; after its end nothing is answered
 abbrev pub answered_at : GameNumbers → List AdvNode → Talk → ℕ → Stand → Talk
 answered_at game nodes talk bin (Waits number done) =
-    unwrap_or (option_map (λ (node : AdvNode). told_next game talk bin number done node.step) (slice_get nodes number)) talk
+    unwrap_or
+    (option_map (λ (node : AdvNode). told_next game talk bin number done node.step) (slice_get nodes number)) talk
 answered_at game nodes talk bin (Ended number) = talk
 
 abbrev pub answered : GameNumbers → List AdvNode → Talk → ℕ → Talk
@@ -81,7 +82,8 @@ IsEnd (Ended number) = Unit {0}
 abbrev pub packing_at : GameNumbers → List AdvNode → List ℕ → Stand → Option (List (List ℕ))
 packing_at game nodes items (Waits number done) = None
 packing_at game nodes items (Ended number) =
-    option_map (λ (bins : List (List ℕ)). without_all (beyond game (concat bins) items) bins) (end_packing nodes (number + 1) number)
+    option_map (λ (bins : List (List ℕ)). without_all (beyond game (concat bins) items) bins)
+    (end_packing nodes (number + 1) number)
 
 -- the algorithm that answers the bins of a list, one after the other, and bin 0 after the last
 abbrev pub answers_from : List ℕ → List ℕ → ℕ

@@ -1,6 +1,7 @@
 //! Laws of sessions, as contracts of functions that do nothing.
 
-ghost use Rattle.referee_session.specs.Laws.{EachTalkEnds, OneTextIsDue, PlaysAreTalks, TalksArePlays};
+ghost use Rattle.referee_session.specs.Laws.{EachTalkEnds, OneTextIsDue, PlaysAreTalks, SaidIsAtTheFront};
+ghost use Rattle.referee_session.specs.Laws.{SomeTextIsDue, TalksArePlays};
 ghost use Rattle.referee_session.specs.Turns.{IsLegal};
 
 use crate::session::Session;
@@ -12,8 +13,8 @@ pub fn session_is_legal(session: &Session)
     session.see_legal();
 }
 
-/// A talk is the play against the algorithm that answers its bins, and the play against any algorithm is the talk of the
-/// bins that it answers.
+/// A talk is the play against the algorithm that answers its bins, and the play against any algorithm is the talk of
+/// the bins that it answers.
 pub fn talks_are_plays()
     ensures plays { PlaysAreTalks }
     ensures talks { TalksArePlays }
@@ -25,7 +26,10 @@ pub fn each_talk_ends()
     ensures ends { EachTalkEnds }
 {}
 
-/// Of each input one text is due: only one list of answers comes, and only one reason to ask for no further one.
+/// Of each input one text is due: some list of answers comes, and then a reason to ask for no further one, and only
+/// these. What is said to answers that come is at the front of that text.
 pub fn one_text_is_due()
+    ensures some { SomeTextIsDue }
     ensures one { OneTextIsDue }
+    ensures front { SaidIsAtTheFront }
 {}

@@ -1,6 +1,7 @@
 //! A session.
 
-ghost use Rattle.std.specs.Prelude.{◌≡◌, ◌↔◌, ◌<◌, ◌≤◌, ◌+◌, ◌++◌, ◌∷◌, [], IfOk, IfSome, IsNone, IsSome, Some, None, length};
+ghost use Rattle.std.specs.Prelude.{◌≡◌, ◌↔◌, ◌<◌, ◌≤◌, ◌+◌, ◌++◌, ◌∷◌, [], IfOk};
+ghost use Rattle.std.specs.Prelude.{IfSome, IsNone, IsSome, Some, None, length};
 ghost use Rattle.items.specs.Packable.{IsPacking};
 ghost use Rattle.adversary_graph.specs.Pools.{IsRoot};
 ghost use Rattle.referee_session.specs.Session.{HasEnded, due_of, packing_of, state_of, talk_of};
@@ -110,8 +111,8 @@ impl Session {
         self.loads.as_slice()
     }
 
-    /// How the items of the play fit into the bins, once it has ended: the end packing of the last node without what that
-    /// has beyond the items. None exactly where an item is due.
+    /// How the items of the play fit into the bins, once it has ended: the end packing of the last node without what
+    /// that has beyond the items. None exactly where an item is due.
     ///
     /// # Errors
     ///

@@ -34,7 +34,8 @@ pub(crate) fn sent_size(step: &Step) -> u16
     }
 }
 
-// Where a play stands after one more item of a node, of which so many had their bins before, went to a bin of this load.
+// Where a play stands after one more item of a node, of which so many had their bins before, went to a bin of this
+// load.
 pub(crate) fn stand_after(number: u32, done: u16, load: u16, step: &Step) -> Stand
     requires { done < 65535 }
     ensures { result ≡ stand_after number done load step.now }

@@ -15,7 +15,8 @@ returns-in-Ok-clause-ok g c =
     let line = line_at s.pool.game s.pool.nodes (talk_of s) in
     let w0 = g.K.Sink.written c.args.sink.now in
     let all = opening s first c.requires (c.as_slice.ensures ∙ c.session_line.ensures ∙ ap session_line c.game.ensures.value) in
-    on_ok_weaker c.tell.result (λ e. e ∙ ap (λ (w : Option (List ℕ)). append_known w line) c.in-Ok.ensures.ok ∙ append_known-append w0 first line ∙ ap (append_known w0) all) c.tell.ensures.ok
+    let whole = ap (λ (w : Option (List ℕ)). append_known w line) c.in-Ok.ensures.ok ∙ append_known-append w0 first line ∙ ap (append_known w0) all in
+    on_ok_weaker c.tell.result (λ e. e ∙ whole) c.tell.ensures.ok
 
 pub returns-in-Ok-clause-err : goal.returns-in-Ok-clause-err
 returns-in-Ok-clause-err g c =

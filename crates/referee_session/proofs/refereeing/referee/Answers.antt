@@ -110,7 +110,8 @@ returns-in-End-clause-outcome g c =
     let next = subst (IsNext (asking p.pool p.root reader left written c.m.result c.loop-lines.lines c.next_answer.new.lines mid new)) c.in-End.is c.in-Ok.ensures.ok in
     let not_over = not_ended p.pool p.root reader left written now i.pool i.root going in
     let comes = comes_ended p.pool p.root reader left written now.answers c.loop-lines.lines mid told i.on c.m.result c.next_answer.new.lines new told not_over next in
-    closed p.pool p.root reader left written now.answers c.loop-lines.lines c.next_answer.new.lines mid told new more _ c.ended_line.result why.ended c.close.result _ i.on comes refl
+    closed p.pool p.root reader left written now.answers c.loop-lines.lines c.next_answer.new.lines mid told new more _
+    c.ended_line.result why.ended c.close.result _ i.on comes refl
     (c.ended_line.ensures ∙ ap ended_line c.count.ensures.count) c.close.ensures.closed
 
 pub returns-in-Cut-clause-outcome : goal.returns-in-Cut-clause-outcome
@@ -129,7 +130,8 @@ returns-in-Cut-clause-outcome g c =
     let next = subst (IsNext (asking p.pool p.root reader left written c.m.result c.loop-lines.lines c.next_answer.new.lines mid new)) c.in-Cut.is c.in-Ok.ensures.ok in
     let not_over = not_ended p.pool p.root reader left written now i.pool i.root going in
     let comes = comes_cut p.pool p.root reader left written now.answers c.loop-lines.lines mid told i.on c.m.result c.next_answer.new.lines new told not_over next in
-    closed p.pool p.root reader left written now.answers c.loop-lines.lines c.next_answer.new.lines mid told new more _ c.bad_line.result why.cut c.close-in-Cut.result _ i.on comes refl
+    closed p.pool p.root reader left written now.answers c.loop-lines.lines c.next_answer.new.lines mid told new more _
+    c.bad_line.result why.cut c.close-in-Cut.result _ i.on comes refl
     (c.bad_line.ensures ∙ ap (λ (n : ℕ). bad_line (n + 1)) c.count-in-Cut.ensures.count) c.close-in-Cut.ensures.closed
 
 pub returns-in-Other-clause-outcome : goal.returns-in-Other-clause-outcome
@@ -149,6 +151,7 @@ returns-in-Other-clause-outcome g c =
     let not_over = not_ended p.pool p.root reader left written now i.pool i.root going in
     let of_game = c.m.ensures.value ∙ ap (λ (game : GameNumbers). game.bins) c.game.ensures.value ∙ ap (λ (pool : Pool). pool.game.bins) i.pool in
     let comes = comes_other p.pool p.root reader left written now.answers c.loop-lines.lines mid told i.on c.m.result next.0 c.next_answer.new.lines new told of_game not_over next.1 in
-    closed p.pool p.root reader left written now.answers c.loop-lines.lines c.next_answer.new.lines mid told new more _ c.bad_line-in-Other.result (why.other next.0)
+    closed p.pool p.root reader left written now.answers c.loop-lines.lines c.next_answer.new.lines mid told new more _
+    c.bad_line-in-Other.result (why.other next.0)
     c.close-in-Other.result _ i.on comes refl (c.bad_line-in-Other.ensures ∙ ap (λ (n : ℕ). bad_line (n + 1)) c.count-in-Other.ensures.count)
     c.close-in-Other.ensures.closed
