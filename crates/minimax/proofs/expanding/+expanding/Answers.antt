@@ -301,7 +301,7 @@ try_size-returns-clause-found g t c =
     let i = c.loop-i.invariant in
     let ds : List ℕ = distinct c.args.position.now.loads in
     let end : c.loop-i.i ≡ c.count_of-count.result = omega (arith, c.loop-i-test.false, c.loop-i.auto.i-end) in
-    let made = c.in_ok-placements.ensures ∙ sym (ap (λ k. take k c.loop-i.placements) end) in
+    let made = c.in_ok-placements.ensures.ok ∙ sym (ap (λ k. take k c.loop-i.placements) end) in
     let bound : ℕ = get_or (game.target ∷ ds) c.loop-i.i 0 in (
       past_size game c.args.pass c.args.search.now c.loop-i.search c.args.position.now c.args.size bound (g.M.Memo.entries c.loop-i.memo) c.requires.may_come.packable i.went,
       (
