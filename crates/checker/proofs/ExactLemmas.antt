@@ -18,7 +18,7 @@ use Rattle.checker.proofs.LegalText.{head_of, legal_is_head, legal_judged, legal
 use Rattle.checker.proofs.ProgressLemmas.{told_split}
 
 -- a first fault in a line of the text, where the bytes begin with a legal text
-no_fault_in_text : (wanted : Wanted) (bytes : List ℕ) (line : ℕ) (cause : Why) → BeginsWithLegalText wanted bytes → FirstFault wanted bytes line cause
+pub no_fault_in_text : (wanted : Wanted) (bytes : List ℕ) (line : ℕ) (cause : Why) → BeginsWithLegalText wanted bytes → FirstFault wanted bytes line cause
     → IsTextLine wanted bytes line → ⊥
 no_fault_in_text wanted bytes line cause b first of_text =
     let head = head_of b.strategy in

@@ -50,17 +50,18 @@ impl StdSink {
 impl Sink for StdSink {
     ghost faults = { λ s. s.faults };
 
-    // A write of 0 bytes of a nonempty piece is a fault.
+    // A write of 0 bytes of a nonempty piece is a fault, and so is a flush that fails: each piece is out before the next
+    // read, so that whoever answers a session sees what it answers.
     fn write(&mut self, piece: &[u8]) -> Result<usize, Failed> {
         if piece.is_empty() {
             return Ok(0);
         }
-        match self.output.write(piece) {
-            Ok(count) if count > 0 => Ok(count),
-            _ => {
-                self.faults = self.faults.saturating_add(1);
-                Err(Failed)
+        if let Ok(count) = self.output.write(piece) {
+            if count > 0 && self.output.flush().is_ok() {
+                return Ok(count);
             }
         }
+        self.faults = self.faults.saturating_add(1);
+        Err(Failed)
     }
 }

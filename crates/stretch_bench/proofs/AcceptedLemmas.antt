@@ -4,6 +4,7 @@ use Rattle.std.proofs.Common.{Option, Some, None, inl, inr, refl, ap, sym, subst
 use Rattle.std.proofs.lemmas.List.{append_cancel_left, length-map}
 use Rattle.std.specs.Prelude.{unwrap_or}
 use Rattle.std.specs.Io.KnownBytes.{append_known}
+use Rattle.port_io.specs.Told.{AppendsSome}
 use Rattle.items.specs.Game.{GameNumbers, IsGame}
 use Rattle.items.specs.Multiset.{sizes_of}
 use Rattle.online_play.specs.Algorithm.{ForcesEvery}
@@ -20,28 +21,35 @@ use Rattle.strategy_text.specs.Writing.{spaced}
 use Rattle.strategy_text.proofs.Spaced.{line_spaced}
 use Rattle.algorithm_graph.proofs.BelowLemmas.{legal_replies_keep_below}
 use Rattle.algorithm_graph.proofs.ReplayLemmas.{replies_are_an_algorithm}
-use Rattle.checker.specs.Accepted.{Accepts, IsLoaded}
+use Rattle.checker.specs.Accepted.{Accepts, BeginsWithLegalText, IsLoaded}
 use Rattle.checker.specs.FirstFault.{IsLegalText}
 use Rattle.strategies.specs.AnyNode.{AreLegalNodes}
 use Rattle.checker.specs.declared.fault.Accepted.{Accepted}
 use Rattle.checker.specs.declared.fault.Wanted.{Wanted}
 use Rattle.checker.specs.declared.fault.Wanted.TheVariants.{Either, Only}
 use Rattle.checker.proofs.ForcedLemmas as forced
+use Rattle.checker.proofs.ExactLemmas.{no_fault_in_text}
 use Rattle.checker.proofs.LegalText.{legal_text_has_no_fault}
 use Rattle.match_player.specs.Lines.{answer_text, game_words, pack_line, play_text, run_lines}
 use Rattle.match_player.specs.declared.answered.Answered.{Answered}
+use Rattle.adversary_graph.specs.Pools.{Pool}
+use Rattle.referee_session.specs.Due.{closing, said_in}
+use Rattle.referee_session.specs.Lines.{said}
+use Rattle.referee_session.specs.declared.refereeing.Ending.{Ending}
 use Rattle.stretch_bench.specs.Call.{Call, Players}
 use Rattle.stretch_bench.specs.Check.{accepted_line, accepted_of, adversary_accepted, algorithm_accepted}
-use Rattle.stretch_bench.specs.Commands.{Spells, SpellsNone, form_of, wanted_by}
-use Rattle.stretch_bench.specs.Due.{IsDue, IsOutcome, IsRejected, commanded, done, rejected, undecided, unpackable, usage}
-use Rattle.stretch_bench.specs.Form.{IsDone, Work, of_strategy, of_words, wanted_of}
+use Rattle.stretch_bench.specs.Commands.{Spells, SpellsNone, form_of, reads_by}
+use Rattle.stretch_bench.specs.Due.{IsDue, IsFrontRejected, IsOutcome, IsRejected, bad_answer, commanded, done, input_ended, rejected, rejected_front}
+use Rattle.stretch_bench.specs.Due.{undecided, unpackable, usage}
+use Rattle.stretch_bench.specs.Form.{IsDone, IsReadFirst, Reads, Work, in_turns, of_strategy, of_words, reads_front, reads_nothing, reads_of, reads_whole}
 use Rattle.stretch_bench.specs.Replying.{Replying}
-use Rattle.stretch_bench.specs.Run.{IsAnswer, IsExact, IsServed, IsStopped, Run, memory_refused, read_failed, write_failed, wrote}
+use Rattle.stretch_bench.specs.Run.{IsAnswer, IsExact, IsServed, IsStopped, Run, answer_unread, memory_refused, read_failed, talk_unsaid, write_failed, wrote}
+use Rattle.stretch_bench.specs.Session.{IsTalkOf, last_of, pool_in}
 use Rattle.stretch_bench.specs.Written.{WritesFirst}
 use Rattle.stretch_bench.specs.declared.command.Command.{Command}
-use Rattle.stretch_bench.specs.declared.command.Command.TheVariants.{Check, Play, Answer, Minimise, Upgrade, Report, Drill, Search}
+use Rattle.stretch_bench.specs.declared.command.Command.TheVariants.{Check, Play, Answer, Minimise, Upgrade, Report, Drill, Search, Session}
 use Rattle.stretch_bench.specs.declared.status.Status.{Status}
-use Rattle.stretch_bench.specs.declared.status.Status.TheVariants.{Done, Rejected, Usage, ReadFault, WriteFault, OutOfMemory}
+use Rattle.stretch_bench.specs.declared.status.Status.TheVariants.{Done, Rejected, Usage, WriteFault, OutOfMemory}
 use Rattle.stretch_bench.proofs.Fronts.{HasSmallNumbers, same_line}
 use Rattle.stretch_bench.proofs.OnceLemmas.{words_spell_one_command}
 
@@ -94,6 +102,20 @@ not_spelled : (strategy : Strategy) (accepted : Accepted) (more : List ℕ) → 
 not_spelled strategy accepted more e =
     absurd (let other : 115 ≡ 97 = sym (first_letter strategy.format _) ∙ ap (λ (l : List ℕ). get_or l 0 0) e in omega arith)
 
+-- what is said in a talk begins with another letter
+said_letter : (pool : Pool) (root : ℕ) (bins rest : List ℕ) → get_or (said_in pool root bins ++ rest) 0 0 ≡ 115
+unfolding said
+said_letter pool root bins rest = refl
+
+not_said : (pool : Pool) (root : ℕ) (bins rest : List ℕ) (accepted : Accepted) (more : List ℕ) → said_in pool root bins ++ rest ≡ accepted_line accepted ++ more → ⊥
+not_said pool root bins rest accepted more e =
+    absurd (let other : 115 ≡ 97 = sym (said_letter pool root bins rest) ∙ ap (λ (l : List ℕ). get_or l 0 0) e in omega arith)
+
+not_talked : (ending : Ending) (strategy : Strategy) (rest : List ℕ) (new_left : Option (List ℕ)) (text : List ℕ) (accepted : Accepted) (more : List ℕ)
+    → IsTalkOf ending strategy rest new_left text → text ≡ accepted_line accepted ++ more → ⊥
+not_talked ending strategy rest new_left text accepted more talk e =
+    not_said (pool_in strategy talk.nodes) (last_of talk.nodes) talk.bins (closing (length talk.bins) talk.halt) accepted more (sym talk.spelled ∙ e)
+
 -- only the text of a check that was done begins with an accepted line, and a legal strategy stands behind it
 done_stands : (players : Players) (left new_left : Option (List ℕ)) (command : Command) (text : List ℕ) (accepted : Accepted) (more : List ℕ)
     → IsDone (form_of players command).work left new_left text → text ≡ accepted_line accepted ++ more → Accepts Either accepted left new_left
@@ -115,16 +137,23 @@ done_stands players left new_left (Drill number copies) text accepted more due e
     absurd (let other : 100 ≡ 97 = ap (λ (l : List ℕ). get_or l 0 0) (sym due.1 ∙ e) in omega arith)
 done_stands players left new_left (Search game budget table) text accepted more due e =
     absurd (not_spelled due.1.strategy accepted more (sym due.1.spelled ∙ e))
+done_stands players left new_left Session text accepted more due e = absurd (not_talked _ due.strategy due.rest new_left text accepted more due.is e)
 
 outcome_stands : (players : Players) (left new_left : Option (List ℕ)) (command : Command) (status : Status) (text : List ℕ) (accepted : Accepted) (more : List ℕ)
     → IsOutcome players left new_left command status text → text ≡ accepted_line accepted ++ more → Accepts Either accepted left new_left
 outcome_stands players left new_left command status text accepted more (done s is) e = done_stands players left new_left command text accepted more is e
 outcome_stands players left new_left command status text accepted more (rejected wanted s w is) e =
     absurd (let other : 114 ≡ 97 = ap (λ (l : List ℕ). get_or l 0 0) (sym is.line ∙ e) in omega arith)
+outcome_stands players left new_left command status text accepted more (rejected_front wanted s w is) e =
+    absurd (let other : 114 ≡ 97 = ap (λ (l : List ℕ). get_or l 0 0) (sym is.line ∙ e) in omega arith)
 outcome_stands players left new_left command status text accepted more (unpackable items s c is) e =
     absurd (let other : 117 ≡ 97 = ap (λ (l : List ℕ). get_or l 0 0) (sym is.is.line ∙ e) in omega arith)
 outcome_stands players left new_left command status text accepted more (undecided game budget table s c l is) e =
     absurd (let other : 117 ≡ 97 = ap (λ (l : List ℕ). get_or l 0 0) (sym is.line ∙ e) in omega arith)
+outcome_stands players left new_left command status text accepted more (input_ended s c is) e =
+    absurd (not_talked _ is.strategy is.rest new_left text accepted more is.is e)
+outcome_stands players left new_left command status text accepted more (bad_answer s c is) e =
+    absurd (not_talked _ is.strategy is.rest new_left text accepted more is.is e)
 
 stands_after : (call : Call) (status : Status) (text : List ℕ) (accepted : Accepted) (more : List ℕ) → IsDue call status text
     → text ≡ accepted_line accepted ++ more → Accepts Either accepted call.left call.new_left
@@ -152,22 +181,48 @@ none_written known accepted first =
     let found = first_of known known [] (accepted_line accepted) (known_nil known) first in
     not_empty (accepted_line accepted ++ found.0) found.1 refl
 
--- a legal strategy stands after an accepted line that was written
-pub accepted_stands : (run : Run) (status : Status) → IsAnswer run status → (status ≡ ReadFault → run.new_written ≡ run.written)
-    → (status ≡ OutOfMemory → run.new_written ≡ run.written) → (accepted : Accepted) → WritesFirst run.written run.new_written (accepted_line accepted)
-    → Accepts Either accepted run.call.left run.call.new_left
-accepted_stands run status (wrote text due whole) unread unmade accepted first =
-    let found = first_of run.written run.new_written text (accepted_line accepted) whole first in
-    stands_after run.call status text accepted found.0 due found.1
-accepted_stands run status (write_failed what text s rose due some) unread unmade accepted first =
+-- an accepted line at the front of a text that was written
+whole_front : (old new : Option (List ℕ)) (text : List ℕ) (accepted : Accepted) → new ≡ append_known old text → WritesFirst old new (accepted_line accepted)
+    → (more : List ℕ) × (text ≡ accepted_line accepted ++ more)
+whole_front old new text accepted whole first = first_of old new text (accepted_line accepted) whole first
+
+-- and of a text of which a prefix was written
+part_front : (old new : Option (List ℕ)) (text : List ℕ) (accepted : Accepted) → AppendsSome old new text → WritesFirst old new (accepted_line accepted)
+    → (more : List ℕ) × (text ≡ accepted_line accepted ++ more)
+part_front old new text accepted some first =
     let n = some.0 in
-    let found = first_of run.written run.new_written (take n text) (accepted_line accepted) some.2 first in
-    stands_after run.call what text accepted (found.0 ++ drop n text) due
-    (sym (take-append-drop n text) ∙ ap (λ (l : List ℕ). l ++ drop n text) found.1 ∙ append_assoc (accepted_line accepted) found.0 (drop n text))
-accepted_stands run status (read_failed s rose cut) unread unmade accepted first =
-    absurd (none_written run.written accepted (subst (λ (w : Option (List ℕ)). WritesFirst run.written w (accepted_line accepted)) (unread s) first))
-accepted_stands run status (memory_refused s) unread unmade accepted first =
-    absurd (none_written run.written accepted (subst (λ (w : Option (List ℕ)). WritesFirst run.written w (accepted_line accepted)) (unmade s) first))
+    let found = first_of old new (take n text) (accepted_line accepted) some.2 first in (
+      found.0 ++ drop n text,
+      sym (take-append-drop n text) ∙ ap (λ (l : List ℕ). l ++ drop n text) found.1 ∙ append_assoc (accepted_line accepted) found.0 (drop n text),
+    )
+
+-- what is said in a talk is no accepted line
+said_nothing : (pool : Pool) (root : ℕ) (bins text : List ℕ) (accepted : Accepted) → text ≡ said_in pool root bins
+    → (more : List ℕ) × (text ≡ accepted_line accepted ++ more) → ⊥
+said_nothing pool root bins text accepted e front =
+    not_said pool root bins [] accepted front.0 (append-nil (said_in pool root bins) ∙ sym e ∙ front.1)
+
+-- a legal strategy stands after an accepted line that was written
+pub accepted_stands : (run : Run) (status : Status) → IsAnswer run status → (accepted : Accepted) → WritesFirst run.written run.new_written (accepted_line accepted)
+    → Accepts Either accepted run.call.left run.call.new_left
+accepted_stands run status (wrote text due whole) accepted first =
+    let front = whole_front run.written run.new_written text accepted whole first in
+    stands_after run.call status text accepted front.0 due front.1
+accepted_stands run status (write_failed what text s rose due some) accepted first =
+    let front = part_front run.written run.new_written text accepted some first in
+    stands_after run.call what text accepted front.0 due front.1
+accepted_stands run status (read_failed s rose cut same) accepted first =
+    absurd (none_written run.written accepted (subst (λ (w : Option (List ℕ)). WritesFirst run.written w (accepted_line accepted)) same first))
+accepted_stands run status (answer_unread s rose cut) accepted first =
+    let un = cut.unanswered in
+    let talk = un.talk.is in
+    absurd (said_nothing (pool_in un.talk.strategy talk.nodes) (last_of talk.nodes) talk.bins un.text accepted talk.spelled (whole_front run.written run.new_written un.text accepted un.told first))
+accepted_stands run status (talk_unsaid s rose cut) accepted first =
+    let un = cut.unsaid in
+    let talk = un.talk.is in
+    absurd (said_nothing (pool_in un.talk.strategy talk.nodes) (last_of talk.nodes) talk.bins un.text accepted talk.spelled (part_front run.written run.new_written un.text accepted un.some first))
+accepted_stands run status (memory_refused s same) accepted first =
+    absurd (none_written run.written accepted (subst (λ (w : Option (List ℕ)). WritesFirst run.written w (accepted_line accepted)) same first))
 
 -- ---- where a command is served
 
@@ -188,60 +243,102 @@ legal_bytes wanted strategy bytes (Some rest) loads =
 -- a status is no other
 not_rejected : (status : Status) → status ≡ Rejected → IsServed status → ⊥
 not_rejected status e (inl d) = absurd cc
-not_rejected status e (inr u) = absurd cc
+not_rejected status e (inr (inl u)) = absurd cc
+not_rejected status e (inr (inr (inl n))) = absurd cc
+not_rejected status e (inr (inr (inr b))) = absurd cc
+
+-- where more bytes were read, they begin with the text of the strategy
+begins_with : (wanted : Wanted) (bytes : List ℕ) (new_left : Option (List ℕ)) (Is : Strategy → List ℕ → Type 0) → IsReadFirst wanted (Some bytes) new_left Is
+    → BeginsWithLegalText wanted bytes
+begins_with wanted bytes None Is first = let gone : Some bytes ≡ None = first.gone in absurd cc
+begins_with wanted bytes (Some more) Is first =
+    let all : bytes ≡ (text_of first.strategy ++ first.rest) ++ more =
+    (let gone : Some bytes ≡ Some ((text_of first.strategy ++ first.rest) ++ more) = first.gone in cc) in
+    record {
+      strategy = first.strategy;
+      legal = first.legal;
+      wanted_side = first.wanted_side;
+      rest = first.rest ++ more;
+      begins = all ∙ append_assoc (text_of first.strategy) first.rest more;
+    }
+
+-- a session that was served
+session_exact : (wanted : Wanted) (bytes : List ℕ) (new_left : Option (List ℕ)) (status : Status) (Is : Strategy → List ℕ → Type 0) → IsServed status
+    → IsReadFirst wanted (Some bytes) new_left Is → IsExact (reads_front wanted) (Some bytes) status
+session_exact wanted bytes new_left status Is served first = λ on. (λ is. begins_with wanted bytes new_left Is first, λ begins. served)
 
 -- a command that was done is served exactly where the bytes are a legal text of the side that it wants
 done_exact : (work : Work) (bytes : List ℕ) (new_left : Option (List ℕ)) (status : Status) (text : List ℕ) → status ≡ Done
-    → IsDone work (Some bytes) new_left text → IsExact (wanted_of work) (Some bytes) status
+    → IsDone work (Some bytes) new_left text → IsExact (reads_of work) (Some bytes) status
 done_exact (of_words Is) bytes new_left status text s is = tt
 done_exact (of_strategy wanted Is) bytes new_left status text s is =
     λ on. (λ served. legal_bytes wanted is.strategy bytes new_left is.loaded, λ legal. inl s)
+done_exact (in_turns wanted Is) bytes new_left status text s is = session_exact wanted bytes new_left status _ (inl s) is
 
-rejected_exact : (wanted : Option Wanted) (w : Wanted) (bytes : List ℕ) (new_left : Option (List ℕ)) (status : Status) (text : List ℕ) → status ≡ Rejected
-    → wanted ≡ Some w → IsRejected w (Some bytes) new_left text → IsExact wanted (Some bytes) status
-rejected_exact wanted w bytes new_left status text s e is =
-    subst (λ (o : Option Wanted). IsExact o (Some bytes) status) (sym e)
+rejected_exact : (reads : Reads) (w : Wanted) (bytes : List ℕ) (new_left : Option (List ℕ)) (status : Status) (text : List ℕ) → status ≡ Rejected
+    → reads ≡ reads_whole w → IsRejected w (Some bytes) new_left text → IsExact reads (Some bytes) status
+rejected_exact reads w bytes new_left status text s e is =
+    subst (λ (o : Reads). IsExact o (Some bytes) status) (sym e)
     (λ on. (λ served. absurd (not_rejected status s served), λ legal. absurd (legal_text_has_no_fault w bytes legal is.at is.why is.rejects.first_of_input.has)))
 
+front_exact : (reads : Reads) (w : Wanted) (bytes : List ℕ) (new_left : Option (List ℕ)) (status : Status) (text : List ℕ) → status ≡ Rejected
+    → reads ≡ reads_front w → IsFrontRejected w (Some bytes) new_left text → IsExact reads (Some bytes) status
+front_exact reads w bytes new_left status text s e is =
+    subst (λ (o : Reads). IsExact o (Some bytes) status) (sym e)
+    (λ on. (
+      λ served. absurd (not_rejected status s served),
+      λ begins. absurd (no_fault_in_text w bytes is.at is.why begins is.rejects.rejects.first_of_input is.rejects.of_text_of_input),
+    ))
+
 outcome_exact : (players : Players) (bytes : List ℕ) (new_left : Option (List ℕ)) (command : Command) (status : Status) (text : List ℕ)
-    → IsOutcome players (Some bytes) new_left command status text → IsExact (wanted_by players command) (Some bytes) status
+    → IsOutcome players (Some bytes) new_left command status text → IsExact (reads_by players command) (Some bytes) status
 outcome_exact players bytes new_left command status text (done s is) = done_exact (form_of players command).work bytes new_left status text s is
 outcome_exact players bytes new_left command status text (rejected wanted s w is) =
-    rejected_exact (wanted_by players command) wanted bytes new_left status text s w is
+    rejected_exact (reads_by players command) wanted bytes new_left status text s w is
+outcome_exact players bytes new_left command status text (rejected_front wanted s w is) =
+    front_exact (reads_by players command) wanted bytes new_left status text s w is
 outcome_exact players bytes new_left command status text (unpackable items s c is) =
-    subst (λ (x : Command). IsExact (wanted_by players x) (Some bytes) status) (sym c)
-    (λ on. (λ served. legal_bytes (Only Algorithm) is.strategy bytes new_left is.loaded, λ legal. inr s))
+    subst (λ (x : Command). IsExact (reads_by players x) (Some bytes) status) (sym c)
+    (λ on. (λ served. legal_bytes (Only Algorithm) is.strategy bytes new_left is.loaded, λ legal. inr (inl s)))
 outcome_exact players bytes new_left command status text (undecided game budget table s c l is) =
-    subst (λ (x : Command). IsExact (wanted_by players x) (Some bytes) status) (sym c) tt
+    subst (λ (x : Command). IsExact (reads_by players x) (Some bytes) status) (sym c) tt
+outcome_exact players bytes new_left command status text (input_ended s c is) =
+    subst (λ (x : Command). IsExact (reads_by players x) (Some bytes) status) (sym c) (session_exact _ bytes new_left status _ (inr (inr (inl s))) is)
+outcome_exact players bytes new_left command status text (bad_answer s c is) =
+    subst (λ (x : Command). IsExact (reads_by players x) (Some bytes) status) (sym c) (session_exact _ bytes new_left status _ (inr (inr (inr s))) is)
 
 -- nothing is claimed of a source that tells nothing
-untold : (wanted : Option Wanted) (status : Status) → IsExact wanted None status
-untold None status = tt
-untold (Some wanted) status = tt
+untold : (reads : Reads) (status : Status) → IsExact reads None status
+untold reads_nothing status = tt
+untold (reads_whole wanted) status = tt
+untold (reads_front wanted) status = tt
 
 due_exact : (call : Call) (left : Option (List ℕ)) (status : Status) (text : List ℕ) (command : Command) → left ≡ call.left → IsDue call status text
-    → Spells call.players call.words command → IsExact (wanted_by call.players command) left status
-due_exact call None status text command e due spells = untold (wanted_by call.players command) status
+    → Spells call.players call.words command → IsExact (reads_by call.players command) left status
+due_exact call None status text command e due spells = untold (reads_by call.players command) status
 due_exact call (Some bytes) status text command e (commanded other other_spells is) spells =
-    subst (λ (x : Command). IsExact (wanted_by call.players x) (Some bytes) status)
+    subst (λ (x : Command). IsExact (reads_by call.players x) (Some bytes) status)
     (words_spell_one_command call.players call.words other command other_spells spells)
     (outcome_exact call.players bytes call.new_left other status text
     (subst (λ (l : Option (List ℕ)). IsOutcome call.players l call.new_left other status text) (sym e) is))
 due_exact call (Some bytes) status text command e (usage s none l is) spells = absurd (none command spells)
 
 -- a run that was stopped says nothing of the input
-stopped_exact : (wanted : Option Wanted) (left : Option (List ℕ)) (status : Status) → IsStopped status → IsExact wanted left status
-stopped_exact None left status h = tt
-stopped_exact (Some wanted) None status h = tt
-stopped_exact (Some wanted) (Some bytes) status h = λ on. absurd (on h)
+stopped_exact : (reads : Reads) (left : Option (List ℕ)) (status : Status) → IsStopped status → IsExact reads left status
+stopped_exact reads_nothing left status h = tt
+stopped_exact reads None status h = untold reads status
+stopped_exact (reads_whole wanted) (Some bytes) status h = λ on. absurd (on h)
+stopped_exact (reads_front wanted) (Some bytes) status h = λ on. absurd (on h)
 
 pub exact_answer : (run : Run) (status : Status) → IsAnswer run status → (command : Command) → Spells run.call.players run.call.words command
-    → IsExact (wanted_by run.call.players command) run.call.left status
+    → IsExact (reads_by run.call.players command) run.call.left status
 exact_answer run status (wrote text due whole) command spells = due_exact run.call run.call.left status text command refl due spells
-exact_answer run status (read_failed s rose cut) command spells = stopped_exact (wanted_by run.call.players command) run.call.left status (inl s)
+exact_answer run status (read_failed s rose cut same) command spells = stopped_exact (reads_by run.call.players command) run.call.left status (inl s)
 exact_answer run status (write_failed what text s rose due some) command spells =
-    stopped_exact (wanted_by run.call.players command) run.call.left status (inr (inl s))
-exact_answer run status (memory_refused s) command spells = stopped_exact (wanted_by run.call.players command) run.call.left status (inr (inr s))
+    stopped_exact (reads_by run.call.players command) run.call.left status (inr (inl s))
+exact_answer run status (answer_unread s rose cut) command spells = stopped_exact (reads_by run.call.players command) run.call.left status (inl s)
+exact_answer run status (talk_unsaid s rose cut) command spells = stopped_exact (reads_by run.call.players command) run.call.left status (inr (inl s))
+exact_answer run status (memory_refused s same) command spells = stopped_exact (reads_by run.call.players command) run.call.left status (inr (inr s))
 
 -- ---- words that spell no command
 
@@ -249,9 +346,11 @@ pub usage_answer : (run : Run) (status : Status) → IsAnswer run status → Spe
     → (status ≡ Usage) ⊎ (status ≡ WriteFault) ⊎ (status ≡ OutOfMemory)
 usage_answer run status (wrote text (commanded command spells is) whole) none = absurd (none command spells)
 usage_answer run status (wrote text (usage s un l is) whole) none = inl s
-usage_answer run status (read_failed s rose cut) none = absurd (none cut.command cut.spells)
+usage_answer run status (read_failed s rose cut same) none = absurd (none cut.command cut.spells)
+usage_answer run status (answer_unread s rose cut) none = absurd (none Session cut.spells)
+usage_answer run status (talk_unsaid s rose cut) none = absurd (none Session cut.spells)
 usage_answer run status (write_failed what text s rose due some) none = inr (inl s)
-usage_answer run status (memory_refused s) none = inr (inr s)
+usage_answer run status (memory_refused s same) none = inr (inr s)
 
 -- ---- what an accepted strategy does
 

@@ -5,7 +5,7 @@ use Rattle.items.specs.Game.{GameNumbers}
 use Rattle.stretch_bench.specs.Call.{Players}
 use Rattle.stretch_bench.specs.Commands.{Spells, SpellsNone}
 use Rattle.stretch_bench.specs.declared.command.Command.{Command}
-use Rattle.stretch_bench.specs.declared.command.Command.TheVariants.{Check, Play, Answer, Minimise, Upgrade, Report, Drill, Search}
+use Rattle.stretch_bench.specs.declared.command.Command.TheVariants.{Check, Play, Answer, Minimise, Upgrade, Report, Drill, Search, Session}
 
 -- what was read is spelled
 pub items_spelled : (players : Players) (words : List (List ℕ)) (r : Option (List ℕ)) (items : List ℕ)
@@ -29,6 +29,7 @@ pub record FindsNone (players : Players) (words : List (List ℕ)) : Type 0 wher
   pub minimise : words ≡ codes "minimise" ∷ [] → IsTrue false
   pub upgrade : words ≡ codes "upgrade" ∷ [] → IsTrue false
   pub report : words ≡ codes "report" ∷ [] → IsTrue false
+  pub session : words ≡ codes "session" ∷ [] → IsTrue false
   pub play : (place : ℕ) → Spells players words (Play place) → ⊥
   pub drill : (number copies : ℕ) → Spells players words (Drill number copies) → ⊥
   pub searches : (game : GameNumbers) (budget table : ℕ) → Spells players words (Search game budget table) → ⊥
@@ -40,6 +41,7 @@ none_spelled players words none Check spells = untrue (none.check spells.spelled
 none_spelled players words none Minimise spells = untrue (none.minimise spells.spelled)
 none_spelled players words none Upgrade spells = untrue (none.upgrade spells.spelled)
 none_spelled players words none Report spells = untrue (none.report spells.spelled)
+none_spelled players words none Session spells = untrue (none.session spells.spelled)
 none_spelled players words none (Play place) spells = none.play place spells
 none_spelled players words none (Drill number copies) spells = none.drill number copies spells
 none_spelled players words none (Search game budget table) spells = none.searches game budget table spells
@@ -53,3 +55,7 @@ spelled_of players words r command told is = subst (λ (o : Option Command). Mat
 pub none_of : (players : Players) (words : List (List ℕ)) (r : Option Command)
     → MatchOption r (SpellsNone players words) (Spells players words) → r ≡ None → SpellsNone players words
 none_of players words r told is = subst (λ (o : Option Command). MatchOption o (SpellsNone players words) (Spells players words)) is told
+
+-- the words spell a command under another name
+pub spells_as : (players : Players) (words : List (List ℕ)) (one other : Command) → one ≡ other → Spells players words one → Spells players words other
+spells_as players words one other e spells = subst (Spells players words) e spells

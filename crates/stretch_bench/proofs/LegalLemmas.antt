@@ -1,11 +1,10 @@
 -- Legal strategies of a side, and what is written of them.
-use Rattle.std.proofs.Common.{◌≡◌, ◌⊎◌, List, [], ℕ, Option, Some, inl, inr, sym, subst, ap, refl, ◌∙◌}
+use Rattle.std.proofs.Common.{◌≡◌, List, [], ℕ, Option, Some, sym, subst, ap, refl, ◌∙◌}
 use Rattle.items.specs.Game.{GameNumbers}
 use Rattle.items.specs.Multiset.{sizes_of}
 use Rattle.strategy_text.specs.Spelling.{IsSpellable}
 use Rattle.strategy_text.specs.Text.{side_of}
 use Rattle.strategy_text.specs.declared.node.Format.{Format}
-use Rattle.strategy_text.specs.declared.node.Format.TheVariants.{Two}
 use Rattle.strategy_text.specs.declared.node.Nodes.{Nodes}
 use Rattle.strategy_text.specs.declared.node.Nodes.TheVariants as nodes_of_side
 use Rattle.strategy_text.specs.declared.node.Side.TheVariants.{Adversary, Algorithm}

@@ -8,5 +8,6 @@ mod AnswerLemmas
 mod OutcomeLemmas
 mod WriteLemmas
 mod RunLemmas
+mod TalkLemmas
 mod AcceptedLemmas
 mod CommandLemmas

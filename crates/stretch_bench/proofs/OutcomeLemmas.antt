@@ -1,11 +1,11 @@
 -- What the work of a command comes to.
 use Rattle.std.proofs.Common.{◌≡◌, ◌*◌, ◌≤◌, ◌<◌, ◌+◌, ℕ, List, [], length, ⊎_elim}
-use Rattle.std.proofs.Common.{Option, Some, None, Result, Ok, Err, IfOk, inl, inr, sym, ap, subst, refl, ◌∙◌, arith}
+use Rattle.std.proofs.Common.{Option, Some, Result, Ok, Err, IfOk, inl, inr, sym, ap, subst, refl, ◌∙◌, arith}
 use Rattle.std.proofs.lemmas.Bool.{cases_lt}
 use Rattle.std.specs.Prelude.{slice_get}
 use Rattle.items.specs.Game.{GameNumbers}
 use Rattle.items.specs.Multiset.{sizes_of}
-use Rattle.checker.specs.Accepted.{Accepts, IsFaultOf, IsLoaded}
+use Rattle.checker.specs.Accepted.{Accepts, IsFaultOf, IsLoaded, IsTextFaultOf}
 use Rattle.checker.specs.declared.fault.Accepted.{Accepted}
 use Rattle.checker.specs.declared.fault.CheckFault.{CheckFault}
 use Rattle.checker.specs.declared.fault.CheckFault.TheVariants as check_fault
@@ -31,13 +31,13 @@ use Rattle.strategy_text.specs.declared.node.Strategy.{Strategy}
 use Rattle.stretch_bench.specs.Answer.{IsAnswerOf, IsUnpackable}
 use Rattle.stretch_bench.specs.Call.{Players}
 use Rattle.stretch_bench.specs.Check.{IsAcceptedLine, accepted_line}
-use Rattle.stretch_bench.specs.Commands.{form_of, wanted_by}
+use Rattle.stretch_bench.specs.Commands.{form_of, reads_by}
 use Rattle.stretch_bench.specs.Drill.{drilled}
-use Rattle.stretch_bench.specs.Due.{IsRejected, done, rejected, undecided, unpackable}
-use Rattle.stretch_bench.specs.Form.{IsDone, IsRead}
+use Rattle.stretch_bench.specs.Due.{IsFrontRejected, IsRejected, done, rejected, rejected_front, undecided, unpackable}
+use Rattle.stretch_bench.specs.Form.{IsDone, IsRead, Reads, reads_front, reads_nothing, reads_whole}
 use Rattle.stretch_bench.specs.Lines.{rejected_line}
 use Rattle.stretch_bench.specs.Minimise.{IsMinimised}
-use Rattle.stretch_bench.specs.Pieces.{IsDueWith, IsEither, IsMade, IsStop, IsStopOf, due_text}
+use Rattle.stretch_bench.specs.Pieces.{IsDueWith, IsEither, IsFrontStop, IsMade, IsStop, IsStopOf, due_text}
 use Rattle.stretch_bench.specs.Play.{IsPlayOf}
 use Rattle.stretch_bench.specs.Report.{IsSummaryOf}
 use Rattle.stretch_bench.specs.Search.{IsFound, IsUndecided, undecided_line}
@@ -123,20 +123,25 @@ module _ (players : Players) (left new_left : Option (List ℕ)) where
       record { outcome = undecided game budget table with.status_is refl unread with.text; writable = with.writable }
 
   -- the line of a fault
-  fault_by : (command : Command) (wanted : Option Wanted) (fault : CheckFault) (r : Result Due Stop) → wanted_by players command ≡ wanted
-      → IsStopOf wanted left new_left fault
+  fault_by : (command : Command) (reads : Reads) (fault : CheckFault) (r : Result Due Stop) → reads_by players command ≡ reads
+      → IsStopOf reads left new_left fault
       → ((w : Wanted) (l n : Option (List ℕ)) → IsStop w l n fault → IfOk r (IsDueWith Rejected (IsRejected w l n)))
+      → ((w : Wanted) (l n : Option (List ℕ)) → IsFrontStop w l n fault → IfOk r (IsDueWith Rejected (IsFrontRejected w l n)))
       → (fault ≡ check_fault.Memory → r ≡ Err Memory) → IfOk r (IsMade players left new_left command)
-  fault_by command None fault (Ok due) e stop gives memory = absurd (let never : Ok due ≡ Err Memory = memory stop in cc)
-  fault_by command (Some wanted) fault (Ok due) e stop gives memory =
+  fault_by command reads_nothing fault (Ok due) e stop gives fronts memory = absurd (let never : Ok due ≡ Err Memory = memory stop in cc)
+  fault_by command (reads_whole wanted) fault (Ok due) e stop gives fronts memory =
       let with : IsDueWith Rejected (IsRejected wanted left new_left) due = gives wanted left new_left stop in
       record { outcome = rejected wanted with.status_is e with.text; writable = with.writable }
-  fault_by command wanted fault (Err why) e stop gives memory = tt
+  fault_by command (reads_front wanted) fault (Ok due) e stop gives fronts memory =
+      let with : IsDueWith Rejected (IsFrontRejected wanted left new_left) due = fronts wanted left new_left stop in
+      record { outcome = rejected_front wanted with.status_is e with.text; writable = with.writable }
+  fault_by command reads fault (Err why) e stop gives fronts memory = tt
 
-  pub fault_due : (command : Command) (fault : CheckFault) (r : Result Due Stop) → IsStopOf (wanted_by players command) left new_left fault
+  pub fault_due : (command : Command) (fault : CheckFault) (r : Result Due Stop) → IsStopOf (reads_by players command) left new_left fault
       → ((w : Wanted) (l n : Option (List ℕ)) → IsStop w l n fault → IfOk r (IsDueWith Rejected (IsRejected w l n)))
+      → ((w : Wanted) (l n : Option (List ℕ)) → IsFrontStop w l n fault → IfOk r (IsDueWith Rejected (IsFrontRejected w l n)))
       → (fault ≡ check_fault.Memory → r ≡ Err Memory) → IfOk r (IsMade players left new_left command)
-  fault_due command fault r stop gives memory = fault_by command (wanted_by players command) fault r refl stop gives memory
+  fault_due command fault r stop gives fronts memory = fault_by command (reads_by players command) fault r refl stop gives fronts memory
 
 -- ---- what is made
 
@@ -221,4 +226,14 @@ rejected_due wanted left new_left fault at why line due e (inl memory) told with
 rejected_due wanted left new_left fault at why line due e (inr of) told with =
     due_is Rejected (IsRejected wanted left new_left) line due
     (record { at = at; why = why; rejects = subst (λ (f : CheckFault). IsFaultOf wanted [] f left new_left) e of; line = told })
+    with
+
+-- the same in a line of the text that the input begins with
+pub front_due : (wanted : Wanted) (left new_left : Option (List ℕ)) (fault : CheckFault) (at : ℕ) (why : Why) (line : List ℕ) (due : Due)
+    → fault ≡ check_fault.Rejected at why → IsFrontStop wanted left new_left fault → line ≡ rejected_line at why
+    → IsDueWith Rejected (λ text. text ≡ line) due → IsDueWith Rejected (IsFrontRejected wanted left new_left) due
+front_due wanted left new_left fault at why line due e (inl memory) told with = absurd cc
+front_due wanted left new_left fault at why line due e (inr of) told with =
+    due_is Rejected (IsFrontRejected wanted left new_left) line due
+    (record { at = at; why = why; rejects = subst (λ (f : CheckFault). IsTextFaultOf wanted [] f left new_left) e of; line = told })
     with

@@ -1,13 +1,13 @@
 -- What a run comes to, by what was made and how the writing of it ended.
-use Rattle.std.proofs.Common.{◌≡◌, ◌⊎◌, ℕ, List, [], Option, Some, None, Result, Ok, Err, IfOk, IfErr, inl, inr, sym, subst}
-use Rattle.checker.specs.Accepted.{IsFaultOf}
+use Rattle.std.proofs.Common.{◌≡◌, ◌⊎◌, ℕ, List, [], Option, Result, Ok, Err, IfOk, IfErr, inl, inr, sym, subst}
+use Rattle.checker.specs.Accepted.{IsFaultOf, IsTextFaultOf}
 use Rattle.checker.specs.declared.fault.CheckFault.{CheckFault}
 use Rattle.checker.specs.declared.fault.CheckFault.TheVariants as check_fault
-use Rattle.checker.specs.declared.fault.Wanted.{Wanted}
 use Rattle.port_io.specs.Faults.{Rose}
 use Rattle.stretch_bench.specs.Call.{Call, Players}
 use Rattle.stretch_bench.specs.Commands.{Spells, SpellsNone}
-use Rattle.stretch_bench.specs.Due.{IsDue, IsOutcome, done, rejected, undecided, unpackable, commanded, usage}
+use Rattle.stretch_bench.specs.Due.{IsDue, IsOutcome, bad_answer, done, input_ended, rejected, rejected_front, undecided, unpackable, commanded, usage}
+use Rattle.stretch_bench.specs.Form.{Reads, reads_front, reads_nothing, reads_whole}
 use Rattle.stretch_bench.specs.Lines.{usage_line}
 use Rattle.stretch_bench.specs.Pieces.{IsDueWith, IsEnding, IsMade, IsStopOf, all, due_text, some, unmade, unread}
 use Rattle.stretch_bench.specs.Run.{IsAnswer, IsCut, IsCutShort, IsStopped, Run, memory_refused, read_failed, write_failed, wrote}
@@ -16,7 +16,7 @@ use Rattle.stretch_bench.specs.declared.due.Due.{Due}
 use Rattle.stretch_bench.specs.declared.due.Stop.{Stop}
 use Rattle.stretch_bench.specs.declared.due.Stop.TheVariants.{Read}
 use Rattle.stretch_bench.specs.declared.status.Status.{Status}
-use Rattle.stretch_bench.specs.declared.status.Status.TheVariants.{Done, Rejected, Usage, Undecided, ReadFault, OutOfMemory, Unpackable}
+use Rattle.stretch_bench.specs.declared.status.Status.TheVariants.{Done, Rejected, Usage, Undecided, ReadFault, OutOfMemory, Unpackable, Ended, BadAnswer}
 
 abbrev pub call_of : Players → List (List ℕ) → Option (List ℕ) → Option (List ℕ) → Call
 call_of players words left new_left = record { players = players; words = words; left = left; new_left = new_left }
@@ -61,12 +61,25 @@ unpackable_goes (inl e) = absurd cc
 unpackable_goes (inr (inl e)) = absurd cc
 unpackable_goes (inr (inr e)) = absurd cc
 
+ended_goes : IsStopped Ended → ⊥
+ended_goes (inl e) = absurd cc
+ended_goes (inr (inl e)) = absurd cc
+ended_goes (inr (inr e)) = absurd cc
+
+bad_answer_goes : IsStopped BadAnswer → ⊥
+bad_answer_goes (inl e) = absurd cc
+bad_answer_goes (inr (inl e)) = absurd cc
+bad_answer_goes (inr (inr e)) = absurd cc
+
 outcome_goes : (players : Players) (left new_left : Option (List ℕ)) (command : Command) (status : Status) (text : List ℕ)
     → IsOutcome players left new_left command status text → IsStopped status → ⊥
 outcome_goes players left new_left command status text (done e is) stopped = stop_differs status Done e stopped done_goes
 outcome_goes players left new_left command status text (rejected wanted e w is) stopped = stop_differs status Rejected e stopped rejected_goes
+outcome_goes players left new_left command status text (rejected_front wanted e w is) stopped = stop_differs status Rejected e stopped rejected_goes
 outcome_goes players left new_left command status text (unpackable items e c is) stopped = stop_differs status Unpackable e stopped unpackable_goes
 outcome_goes players left new_left command status text (undecided game budget table e c l is) stopped = stop_differs status Undecided e stopped undecided_goes
+outcome_goes players left new_left command status text (input_ended e c is) stopped = stop_differs status Ended e stopped ended_goes
+outcome_goes players left new_left command status text (bad_answer e c is) stopped = stop_differs status BadAnswer e stopped bad_answer_goes
 
 pub due_goes : (call : Call) (status : Status) (text : List ℕ) → IsDue call status text → IsStopped status → ⊥
 due_goes call status text (commanded command spells is) stopped = outcome_goes call.players call.left call.new_left command status text is stopped
@@ -89,8 +102,8 @@ module _ (call : Call) (reads new_reads : ℕ) (old new : Option (List ℕ)) (wr
       wrote (due_text what) (subst (λ (t : Status). IsDue call t (due_text what)) (sym s) (subst (λ (r : Result Due Stop). IfOk r (IsDueIn call)) e due)) whole
   answer_by made status due rose cut (some what e s failed part) =
       write_failed what.status (due_text what) s failed (subst (λ (r : Result Due Stop). IfOk r (IsDueIn call)) e due) part
-  answer_by made status due rose cut (unread e s) = read_failed s (rose e) (cut e)
-  answer_by made status due rose cut (unmade e s) = memory_refused s
+  answer_by made status due rose cut (unread e s same) = read_failed s (rose e) (cut e) same
+  answer_by made status due rose cut (unmade e s same) = memory_refused s same
 
   -- nothing was written where the run was stopped before
   pub same_where : (Same : Type 0) (made : Result Due Stop) (status : Status) → IfOk made (IsDueIn call) → IfErr made (λ stop. Same)
@@ -99,8 +112,8 @@ module _ (call : Call) (reads new_reads : ℕ) (old new : Option (List ℕ)) (wr
       absurd (due_goes call what.status (due_text what) (subst (λ (r : Result Due Stop). IfOk r (IsDueIn call)) e due) (subst IsStopped s (stopped_so status stopped)))
   same_where Same made status due same (some what e s failed part) (inl r) = absurd cc
   same_where Same made status due same (some what e s failed part) (inr r) = absurd cc
-  same_where Same made status due same (unread e s) stopped = subst (λ (r : Result Due Stop). IfErr r (λ (stop : Stop). Same)) e same
-  same_where Same made status due same (unmade e s) stopped = subst (λ (r : Result Due Stop). IfErr r (λ (stop : Stop). Same)) e same
+  same_where Same made status due same (unread e s old_is) stopped = subst (λ (r : Result Due Stop). IfErr r (λ (stop : Stop). Same)) e same
+  same_where Same made status due same (unmade e s old_is) stopped = subst (λ (r : Result Due Stop). IfErr r (λ (stop : Stop). Same)) e same
 
 -- what a command comes to is due where the words spell it
 pub made_is_due : (players : Players) (words : List (List ℕ)) (left new_left : Option (List ℕ)) (command : Command) (made : Result Due Stop)
@@ -114,8 +127,10 @@ usage_is_due players words left new_left (Ok due) none same is = usage is.status
 usage_is_due players words left new_left (Err stop) none same is = tt
 
 -- a read that failed for a command
-pub cut_for : (players : Players) (left new_left : Option (List ℕ)) (wanted : Option Wanted) (fault : CheckFault)
-    → IsStopOf wanted left new_left fault → fault ≡ check_fault.Read → IsCut wanted left new_left
-cut_for players left new_left None fault stop e = absurd cc
-cut_for players left new_left (Some wanted) fault (inl memory) e = absurd cc
-cut_for players left new_left (Some wanted) fault (inr of) e = subst (λ (f : CheckFault). IsFaultOf wanted [] f left new_left) e of
+pub cut_for : (players : Players) (left new_left : Option (List ℕ)) (reads : Reads) (fault : CheckFault)
+    → IsStopOf reads left new_left fault → fault ≡ check_fault.Read → IsCut reads left new_left
+cut_for players left new_left reads_nothing fault stop e = absurd cc
+cut_for players left new_left (reads_whole wanted) fault (inl memory) e = absurd cc
+cut_for players left new_left (reads_whole wanted) fault (inr of) e = subst (λ (f : CheckFault). IsFaultOf wanted [] f left new_left) e of
+cut_for players left new_left (reads_front wanted) fault (inl memory) e = absurd cc
+cut_for players left new_left (reads_front wanted) fault (inr of) e = subst (λ (f : CheckFault). IsTextFaultOf wanted [] f left new_left) e of

@@ -1,12 +1,11 @@
 -- The commands, and the words that spell them.
-use Rattle.std.specs.Prelude.{◌≡◌, ℕ, List, ◌∷◌, Option, map, String, string_bytes}
+use Rattle.std.specs.Prelude.{◌≡◌, ℕ, List, ◌∷◌, map, String, string_bytes}
 use Rattle.std.specs.declared.alloc.Global.{Global}
-use Rattle.checker.specs.declared.fault.Wanted.{Wanted}
 use Rattle.stretch_bench.specs.Call.{Players}
-use Rattle.stretch_bench.specs.Form.{Form, wanted_of}
+use Rattle.stretch_bench.specs.Form.{Form, Reads, reads_of}
 use Rattle.stretch_bench.specs.declared.command.Command.{Command}
 use Rattle.stretch_bench.specs.declared.command.Command.TheVariants.{Check, Play, Answer, Minimise, Upgrade}
-use Rattle.stretch_bench.specs.declared.command.Command.TheVariants.{Report, Drill, Search}
+use Rattle.stretch_bench.specs.declared.command.Command.TheVariants.{Report, Drill, Search, Session}
 use Rattle.stretch_bench.specs.Check.{check}
 use Rattle.stretch_bench.specs.Play.{play_against}
 use Rattle.stretch_bench.specs.Answer.{answer}
@@ -15,6 +14,7 @@ use Rattle.stretch_bench.specs.Upgrade.{upgrade}
 use Rattle.stretch_bench.specs.Report.{report}
 use Rattle.stretch_bench.specs.Drill.{drill}
 use Rattle.stretch_bench.specs.Search.{search}
+use Rattle.stretch_bench.specs.Session.{session}
 
 -- the list of commands
 abbrev pub form_of : Players → Command → Form
@@ -26,10 +26,11 @@ form_of players Upgrade = upgrade
 form_of players Report = report
 form_of players (Drill number copies) = drill number copies
 form_of players (Search game budget table) = search game budget table
+form_of players Session = session
 
--- the side that a command wants a strategy of, where it reads one
-abbrev pub wanted_by : Players → Command → Option Wanted
-wanted_by players command = wanted_of (form_of players command).work
+-- what a command reads
+abbrev pub reads_by : Players → Command → Reads
+reads_by players command = reads_of (form_of players command).work
 
 -- the words as bytes
 abbrev pub spelling_of : List (String Global) → List (List ℕ)

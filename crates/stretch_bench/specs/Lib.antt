@@ -10,6 +10,7 @@ pub mod Upgrade
 pub mod Report
 pub mod Drill
 pub mod Search
+pub mod Session
 pub mod Commands
 pub mod Due
 pub mod Run
@@ -18,3 +19,4 @@ pub mod Replying
 pub mod Codes
 pub mod Spelled
 pub mod Pieces
+pub mod Talking

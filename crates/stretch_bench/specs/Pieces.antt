@@ -1,7 +1,7 @@
 -- What the private contracts of a command's work cite; nothing here has to be believed.
 use Rattle.std.specs.Prelude.{◌≡◌, ◌⊎◌, ℕ, List, [], ◌++◌, Option, Some, None, IfSome, Result, Ok, Err}
 use Rattle.std.specs.Io.KnownBytes.{append_known}
-use Rattle.checker.specs.Accepted.{IsFaultOf}
+use Rattle.checker.specs.Accepted.{IsFaultOf, IsTextFaultOf}
 use Rattle.checker.specs.declared.fault.CheckFault.{CheckFault}
 use Rattle.checker.specs.declared.fault.CheckFault.TheVariants as faults
 use Rattle.checker.specs.declared.fault.Wanted.{Wanted}
@@ -12,6 +12,7 @@ use Rattle.strategy_text.specs.Text.{text_of}
 use Rattle.strategy_text.specs.declared.node.Strategy.{Strategy}
 use Rattle.stretch_bench.specs.Call.{Players}
 use Rattle.stretch_bench.specs.Due.{IsOutcome}
+use Rattle.stretch_bench.specs.Form.{Reads, reads_front, reads_nothing, reads_whole}
 use Rattle.stretch_bench.specs.declared.command.Command.{Command}
 use Rattle.stretch_bench.specs.declared.due.Due.{Due}
 use Rattle.stretch_bench.specs.declared.due.Stop.{Stop}
@@ -52,10 +53,15 @@ pub record IsMade (players : Players) (left new_left : Option (List ℕ)) (comma
 abbrev pub IsStop : Wanted → Option (List ℕ) → Option (List ℕ) → CheckFault → Type 0
 IsStop wanted left new_left fault = (fault ≡ faults.Memory) ⊎ IsFaultOf wanted [] fault left new_left
 
--- the same where perhaps nothing is read
-abbrev pub IsStopOf : Option Wanted → Option (List ℕ) → Option (List ℕ) → CheckFault → Type 0
-IsStopOf None left new_left fault = fault ≡ faults.Memory
-IsStopOf (Some wanted) left new_left fault = IsStop wanted left new_left fault
+-- the same where the input begins with the text of a strategy
+abbrev pub IsFrontStop : Wanted → Option (List ℕ) → Option (List ℕ) → CheckFault → Type 0
+IsFrontStop wanted left new_left fault = (fault ≡ faults.Memory) ⊎ IsTextFaultOf wanted [] fault left new_left
+
+-- the same by what is read
+abbrev pub IsStopOf : Reads → Option (List ℕ) → Option (List ℕ) → CheckFault → Type 0
+IsStopOf reads_nothing left new_left fault = fault ≡ faults.Memory
+IsStopOf (reads_whole wanted) left new_left fault = IsStop wanted left new_left fault
+IsStopOf (reads_front wanted) left new_left fault = IsFrontStop wanted left new_left fault
 
 -- how the writing of what was made ended, over what was written and how many writes had failed before and after
 pub data IsEnding (made : Result Due Stop) (old new : Option (List ℕ)) (faults new_faults : ℕ)
@@ -64,5 +70,5 @@ pub data IsEnding (made : Result Due Stop) (old new : Option (List ℕ)) (faults
       → IsEnding made old new faults new_faults status
   some : (due : Due) → made ≡ Ok due → status ≡ WriteFault → Rose faults new_faults
       → AppendsSome old new (due_text due) → IsEnding made old new faults new_faults status
-  unread : made ≡ Err Read → status ≡ ReadFault → IsEnding made old new faults new_faults status
-  unmade : made ≡ Err Memory → status ≡ OutOfMemory → IsEnding made old new faults new_faults status
+  unread : made ≡ Err Read → status ≡ ReadFault → new ≡ old → IsEnding made old new faults new_faults status
+  unmade : made ≡ Err Memory → status ≡ OutOfMemory → new ≡ old → IsEnding made old new faults new_faults status

@@ -1,6 +1,6 @@
 //! The top call.
 
-ghost use Rattle.std.specs.Prelude.{◌≡◌, ◌≤◌, ◌⊎◌, ℕ, None, map};
+ghost use Rattle.std.specs.Prelude.{◌≡◌, ◌≤◌, ◌⊎◌, ℕ, map};
 ghost use Rattle.items.specs.Game.{GameNumbers};
 ghost use Rattle.online_play.specs.Algorithm.{ForcesEvery};
 ghost use Rattle.checker.specs.Accepted.{Accepts};
@@ -8,11 +8,14 @@ ghost use Rattle.checker.specs.declared.fault.Accepted.{Accepted};
 ghost use Rattle.checker.specs.declared.fault.Wanted.TheVariants.{Either};
 ghost use Rattle.stretch_bench.specs.Check.{accepted_line, adversary_accepted, algorithm_accepted};
 ghost use Rattle.stretch_bench.specs.Call.{Players};
-ghost use Rattle.stretch_bench.specs.Commands.{Spells, SpellsNone, spelling_of, wanted_by};
+ghost use Rattle.stretch_bench.specs.Commands.{Spells, SpellsNone, reads_by, spelling_of};
+ghost use Rattle.stretch_bench.specs.Form.{reads_nothing};
 ghost use Rattle.stretch_bench.specs.Replying.{Replying};
 ghost use Rattle.stretch_bench.specs.Run.{IsAnswer, IsExact};
+ghost use Rattle.stretch_bench.specs.Session.{IsUnanswered};
 ghost use Rattle.stretch_bench.specs.Written.{WritesFirst};
 ghost use Rattle.stretch_bench.specs.declared.command.Command.{Command};
+ghost use Rattle.stretch_bench.specs.declared.command.Command.TheVariants as commands;
 
 use crate::run::run_words;
 use crate::status::Status;
@@ -21,7 +24,8 @@ use port_io::{Sink, Source};
 use std::alloc::Global;
 
 /// Runs the command that the words spell: first the words, then the reading line by line, then the work, then the
-/// writing. All memory is taken before the first write. It does all that the program does.
+/// writing; a session reads its strategy first, and then writes what is due and reads the next answer in turns. All
+/// memory is taken before the first write. It does all that the program does.
 ///
 /// - `check` reads the text of a strategy and writes that it is legal: `accepted SIDE M G T nodes N`.
 /// - `play NAME` reads a strategy of the adversary, and writes its play against the first player with this name.
@@ -34,14 +38,20 @@ use std::alloc::Global;
 ///   `drill NUMBER COPIES nodes N bytes B accepted minimised K`.
 /// - `search M G T budget=B table=N` searches the game, and writes the canonical form of the strategy that it finds, or
 ///   `undecided M G T visits V pass K path MOVES` where its budget was spent.
+/// - `session` reads a strategy of the adversary and plays it against the lines `bin B` that follow its text: it writes
+///   `session M G T`, and in turns `item S` and reads the item's bin, until `lost loads LIST` at the play's end,
+///   `ended K` where the input ends after K answers, or `badanswer K` where line K after the text is no answer. It ends
+///   each play by a game's bins times its capacity answers at the latest, and an answer costs the same for any strategy.
 ///
 /// Each command that reads writes the first fault of the input where it has one, `rejected line L syntax` or
-/// `rejected line L rule NAME`. For words that spell no command it writes `usage`. Each line ends in a line feed.
+/// `rejected line L rule NAME`; a session looks for it in the text of the strategy alone. For words that spell no
+/// command it writes `usage`. Each line ends in a line feed.
 ///
 /// # Errors
 ///
-/// A read that failed gives [`Status::ReadFault`], memory that was refused [`Status::OutOfMemory`], and
-/// nothing is written then. A write that failed gives [`Status::WriteFault`] in place of any other answer.
+/// A read that failed gives [`Status::ReadFault`], memory that was refused [`Status::OutOfMemory`], and nothing is
+/// written then; but where a read fails while a session waits for an answer, what it said before is written. A write
+/// that failed gives [`Status::WriteFault`] in place of any other answer.
 pub fn run_bench<S: Source, K: Sink>(
     alloc: Global,
     words: &[String],
@@ -78,7 +88,15 @@ pub fn run_bench<S: Source, K: Sink>(
     } in SpellsNone players (spelling_of words.now)
         → (source.new ≡ source.old)
         × ((result ≡ Status.Usage) ⊎ (result ≡ Status.WriteFault) ⊎ (result ≡ Status.OutOfMemory)) }
-    ensures read_fault { result ≡ Status.ReadFault → sink.new ≡ sink.old }
+
+    // Where a read failed, nothing was written, or in a session what is said to the answers that came.
+    ensures read_fault { let players : Players = record {
+      names = map (λ player. player.name) players.now.items;
+      answers = map (λ player. (⟦<dyn Online as Online>⟧ player.player.vtable).answer player.player.value)
+          players.now.items;
+    } in result ≡ Status.ReadFault → (sink.new ≡ sink.old)
+        ⊎ (Spells players (spelling_of words.now) commands.Session
+        × IsUnanswered (S.left source.old) (S.left source.new) (K.written sink.old) (K.written sink.new)) }
     ensures memory { result ≡ Status.OutOfMemory → sink.new ≡ sink.old }
 
     // A command that wants no strategy leaves the source as it was, whatever the status.
@@ -87,7 +105,7 @@ pub fn run_bench<S: Source, K: Sink>(
       answers = map (λ player. (⟦<dyn Online as Online>⟧ player.player.vtable).answer player.player.value)
           players.now.items;
     } in (command : Command)
-        → Spells players (spelling_of words.now) command → wanted_by players command ≡ None → source.new ≡ source.old }
+        → Spells players (spelling_of words.now) command → reads_by players command ≡ reads_nothing → source.new ≡ source.old }
 
     // A command is carried out exactly where the input is the text of a legal strategy of the side that it wants.
     ensures exact { let players : Players = record {
@@ -96,7 +114,7 @@ pub fn run_bench<S: Source, K: Sink>(
           players.now.items;
     } in (command : Command)
         → Spells players (spelling_of words.now) command
-        → IsExact (wanted_by players command) (S.left source.old) result }
+        → IsExact (reads_by players command) (S.left source.old) result }
 
     // A legal strategy stands after an accepted line that was written, whatever the status.
     ensures accepted { (accepted : Accepted)

@@ -49,6 +49,8 @@ pub enum Command {
         /// The most entries that its table may have, from 1 to 4,000,000.
         table: u32,
     },
+    /// Reads a strategy of the adversary, and lets it play against the answers that follow it line by line.
+    Session,
 }
 
 /// The command that the words spell; None exactly where they spell none. A player is asked for by its name, and the
@@ -81,6 +83,9 @@ pub fn read_words(
     }
     if is_word(words, "report") {
         return Ok(Some(Command::Report));
+    }
+    if is_word(words, "session") {
+        return Ok(Some(Command::Session));
     }
     if let Some(player) = player_of(words, players) {
         return Ok(Some(Command::Play { player }));

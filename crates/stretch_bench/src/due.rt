@@ -1,6 +1,6 @@
 //! What is due to be written: all of it is made before anything is written.
 
-ghost use Rattle.std.specs.Prelude.{◌≡◌, ◌≤◌, [], Err, IfErr, IfOk, IfSome, None, OnErr, OnOk, Option, List, ℕ, map};
+ghost use Rattle.std.specs.Prelude.{◌≡◌, ◌≤◌, [], Err, IfErr, IfOk, IfSome, OnErr, OnOk, Option, List, ℕ, map};
 ghost use Rattle.std.specs.Io.KnownBytes.{append_known};
 ghost use Rattle.checker.specs.declared.fault.CheckFault.TheVariants as check_fault;
 ghost use Rattle.checker.specs.declared.fault.Wanted.{Wanted};
@@ -9,11 +9,14 @@ ghost use Rattle.port_io.specs.Told.{AppendsSome};
 ghost use Rattle.strategy_text.specs.Spelling.{IsSpellable};
 ghost use Rattle.strategy_text.specs.Text.{text_of};
 ghost use Rattle.stretch_bench.specs.Call.{Players};
-ghost use Rattle.stretch_bench.specs.Commands.{form_of, wanted_by};
-ghost use Rattle.stretch_bench.specs.Due.{IsRejected};
+ghost use Rattle.stretch_bench.specs.Commands.{form_of, reads_by};
+ghost use Rattle.stretch_bench.specs.Due.{IsFrontRejected, IsRejected};
+ghost use Rattle.stretch_bench.specs.Form.{reads_nothing};
 ghost use Rattle.stretch_bench.specs.Lines.{usage_line};
-ghost use Rattle.stretch_bench.specs.Pieces.{IsDueWith, IsMade, IsStop, IsStopOf, IsWritable, due_text, text_of_some};
+ghost use Rattle.stretch_bench.specs.Pieces.{IsDueWith, IsEnding, IsFrontStop, IsMade, IsStop, IsStopOf, IsWritable};
+ghost use Rattle.stretch_bench.specs.Pieces.{due_text, text_of_some};
 ghost use Rattle.stretch_bench.specs.Run.{IsCut};
+ghost use Rattle.stretch_bench.specs.declared.command.Command.TheVariants as commands;
 ghost use Rattle.stretch_bench.specs.declared.due.Stop.TheVariants.{Read, Memory};
 ghost use Rattle.stretch_bench.specs.declared.status.Status.TheVariants.{Done, Rejected, Usage};
 
@@ -96,7 +99,7 @@ pub(crate) fn due_of_usage(alloc: Global) -> Result<Due, Stop>
     Ok(Due::of_lines(Status::Usage, line))
 }
 
-/// What a command comes to, over the input of the source.
+/// What a command comes to, over the input of the source. It is none that reads and writes in turns.
 pub(crate) fn due_of<S: Source>(
     alloc: Global,
     players: &Vec<Player>,
@@ -108,6 +111,7 @@ pub(crate) fn due_of<S: Source>(
       answers = map (λ player. (⟦<dyn Online as Online>⟧ player.player.vtable).answer player.player.value)
           players.now.items;
     }) command.now).IsAllowed }
+    requires whole { command.now ≡ commands.Session → ⊥ }
     ensures count { S.faults source.old ≤ S.faults source.new }
     ensures due { IfOk result (IsMade (record {
       names = map (λ player. player.name) players.now.items;
@@ -120,12 +124,12 @@ pub(crate) fn due_of<S: Source>(
       answers = map (λ player. (⟦<dyn Online as Online>⟧ player.player.vtable).answer player.player.value)
           players.now.items;
     } in result ≡ Err Read
-        → IsCut (wanted_by players command.now) (S.left source.old) (S.left source.new) }
+        → IsCut (reads_by players command.now) (S.left source.old) (S.left source.new) }
     ensures unread { let players : Players = record {
       names = map (λ player. player.name) players.now.items;
       answers = map (λ player. (⟦<dyn Online as Online>⟧ player.player.vtable).answer player.player.value)
           players.now.items;
-    } in wanted_by players command.now ≡ None → source.new ≡ source.old }
+    } in reads_by players command.now ≡ reads_nothing → source.new ≡ source.old }
 {
     match made(alloc, players, command, source) {
         Ok(due) => Ok(due),
@@ -146,6 +150,7 @@ fn made<S: Source>(
       answers = map (λ player. (⟦<dyn Online as Online>⟧ player.player.vtable).answer player.player.value)
           players.now.items;
     }) command.now).IsAllowed }
+    requires whole { command.now ≡ commands.Session → ⊥ }
     ensures count { S.faults source.old ≤ S.faults source.new }
     ensures due { IfOk result (IsMade (record {
       names = map (λ player. player.name) players.now.items;
@@ -157,13 +162,13 @@ fn made<S: Source>(
       answers = map (λ player. (⟦<dyn Online as Online>⟧ player.player.vtable).answer player.player.value)
           players.now.items;
     } in
-        IfErr result (IsStopOf (wanted_by players command.now) (S.left source.old) (S.left source.new)) }
+        IfErr result (IsStopOf (reads_by players command.now) (S.left source.old) (S.left source.new)) }
     ensures read { result ≡ Err check_fault.Read → Rose (S.faults source.old) (S.faults source.new) }
     ensures unread { let players : Players = record {
       names = map (λ player. player.name) players.now.items;
       answers = map (λ player. (⟦<dyn Online as Online>⟧ player.player.vtable).answer player.player.value)
           players.now.items;
-    } in wanted_by players command.now ≡ None → source.new ≡ source.old }
+    } in reads_by players command.now ≡ reads_nothing → source.new ≡ source.old }
 {
     let adversary = Wanted::Only(Side::Adversary);
     let algorithm = Wanted::Only(Side::Algorithm);
@@ -186,13 +191,18 @@ fn made<S: Source>(
             budget,
             table,
         } => Ok(searched(alloc, game, *budget, *table)?),
+        Command::Session => unreachable!(),
     }
 }
 
-// The line of the fault that was found, or why there is none.
-fn due_of_fault(alloc: Global, fault: CheckFault) -> Result<Due, Stop>
+/// The line of the fault that was found, or why there is none.
+pub(crate) fn due_of_fault(alloc: Global, fault: CheckFault) -> Result<Due, Stop>
     ensures line { (wanted : Wanted) (left new_left : Option (List ℕ)) → IsStop wanted left new_left fault
         → IfOk result (IsDueWith Rejected (IsRejected wanted left new_left)) }
+    ensures front { (wanted : Wanted) (left new_left : Option (List ℕ)) → IsFrontStop wanted left new_left fault
+        → IfOk result (IsDueWith Rejected (IsFrontRejected wanted left new_left)) }
+    ensures writable { IfOk result IsWritable }
+    ensures status { IfOk result (λ due. due.status ≡ Rejected) }
     ensures read { result ≡ Err Read → fault ≡ check_fault.Read }
     ensures memory { fault ≡ check_fault.Memory → result ≡ Err Memory }
 {
@@ -206,12 +216,27 @@ fn due_of_fault(alloc: Global, fault: CheckFault) -> Result<Due, Stop>
     }
 }
 
-/// Writes what is due: its lines, and then its strategies, each as it is spelled. Takes no memory.
-///
-/// # Errors
-///
-/// [`Failed`] where a write failed. A prefix of the text was written then.
-pub(crate) fn write_due<K: Sink>(due: &Due, sink: &mut K) -> Result<(), Failed>
+/// Writes what is due, where it was made, and tells how that ended.
+pub(crate) fn ended<K: Sink>(made: Result<Due, Stop>, sink: &mut K) -> Status
+    requires { IfOk made IsWritable }
+    ensures count { K.faults sink.old ≤ K.faults sink.new }
+    ensures ending { IsEnding made (K.written sink.old) (K.written sink.new) (K.faults sink.old) (K.faults sink.new)
+        result }
+    ensures same { IfErr made (λ _. sink.new ≡ sink.old) }
+{
+    match made {
+        Ok(due) => match write_due(&due, sink) {
+            Ok(()) => due.status,
+            Err(_) => Status::WriteFault,
+        },
+        Err(Stop::Read) => Status::ReadFault,
+        Err(Stop::Memory) => Status::OutOfMemory,
+    }
+}
+
+// Writes what is due: its lines, and then its strategies, each as it is spelled. Takes no memory. Fails where a write
+// failed; a prefix of the text was written then.
+fn write_due<K: Sink>(due: &Due, sink: &mut K) -> Result<(), Failed>
     requires { IsWritable due.now }
     ensures count { K.faults sink.old ≤ K.faults sink.new }
     ensures ok { OnOk result (K.written sink.new ≡ append_known (K.written sink.old) (due_text due.now)) }

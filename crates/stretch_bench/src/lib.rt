@@ -21,6 +21,7 @@ mod run;
 mod searching;
 mod settings;
 mod status;
+mod talking;
 #[cfg(test)]
 mod tests;
 mod upgrading;

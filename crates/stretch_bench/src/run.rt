@@ -1,15 +1,18 @@
 //! A run of the words: what is due is made, and then it is written.
 
-ghost use Rattle.std.specs.Prelude.{◌≡◌, ◌≤◌, IfErr, IfOk, List, None, ℕ, map};
+ghost use Rattle.std.specs.Prelude.{◌≡◌, ◌≤◌, ◌↔◌, ◌⊎◌, IsTrue, List, ℕ, map};
 ghost use Rattle.stretch_bench.specs.Call.{Players};
-ghost use Rattle.stretch_bench.specs.Commands.{Spells, SpellsNone, form_of, spelling_of, wanted_by};
-ghost use Rattle.stretch_bench.specs.Pieces.{IsEnding, IsWritable};
+ghost use Rattle.stretch_bench.specs.Commands.{Spells, SpellsNone, form_of, reads_by, spelling_of};
+ghost use Rattle.stretch_bench.specs.Form.{reads_nothing};
 ghost use Rattle.stretch_bench.specs.Run.{IsAnswer};
+ghost use Rattle.stretch_bench.specs.Session.{IsUnanswered};
 ghost use Rattle.stretch_bench.specs.declared.command.Command.{Command};
+ghost use Rattle.stretch_bench.specs.declared.command.Command.TheVariants as commands;
 
 use crate::command::{Command, read_words};
-use crate::due::{Due, Stop, due_of, due_of_usage, write_due};
+use crate::due::{due_of, due_of_usage, ended};
 use crate::status::Status;
+use crate::talking::talked;
 use online_play::{Online, Player};
 use port_io::{Sink, Source};
 use std::alloc::Global;
@@ -42,7 +45,13 @@ pub(crate) fn run_words<S: Source, K: Sink>(
       writes_failed = K.faults sink.old;
       new_writes_failed = K.faults sink.new;
     }) result }
-    ensures read_fault { result ≡ Status.ReadFault → sink.new ≡ sink.old }
+    ensures read_fault { let players : Players = record {
+      names = map (λ player. player.name) players.now.items;
+      answers = map (λ player. (⟦<dyn Online as Online>⟧ player.player.vtable).answer player.player.value)
+          players.now.items;
+    } in result ≡ Status.ReadFault → (sink.new ≡ sink.old)
+        ⊎ (Spells players (spelling_of words.now) commands.Session
+        × IsUnanswered (S.left source.old) (S.left source.new) (K.written sink.old) (K.written sink.new)) }
     ensures memory { result ≡ Status.OutOfMemory → sink.new ≡ sink.old }
     ensures no_command { let players : Players = record {
       names = map (λ player. player.name) players.now.items;
@@ -54,7 +63,7 @@ pub(crate) fn run_words<S: Source, K: Sink>(
       answers = map (λ player. (⟦<dyn Online as Online>⟧ player.player.vtable).answer player.player.value)
           players.now.items;
     } in (command : Command) → Spells players (spelling_of words.now) command
-        → wanted_by players command ≡ None → source.new ≡ source.old }
+        → reads_by players command ≡ reads_nothing → source.new ≡ source.old }
 {
     match read_words(alloc, words, players) {
         Ok(Some(command)) => run_command(alloc, players, &command, source, sink),
@@ -96,31 +105,25 @@ fn run_command<S: Source, K: Sink>(
       writes_failed = K.faults sink.old;
       new_writes_failed = K.faults sink.new;
     }) result }
-    ensures read_fault { result ≡ Status.ReadFault → sink.new ≡ sink.old }
+    ensures read_fault { result ≡ Status.ReadFault → (sink.new ≡ sink.old)
+        ⊎ ((command.now ≡ commands.Session)
+        × IsUnanswered (S.left source.old) (S.left source.new) (K.written sink.old) (K.written sink.new)) }
     ensures memory { result ≡ Status.OutOfMemory → sink.new ≡ sink.old }
     ensures unread { let players : Players = record {
       names = map (λ player. player.name) players.now.items;
       answers = map (λ player. (⟦<dyn Online as Online>⟧ player.player.vtable).answer player.player.value)
           players.now.items;
-    } in wanted_by players command.now ≡ None → source.new ≡ source.old }
+    } in reads_by players command.now ≡ reads_nothing → source.new ≡ source.old }
 {
+    if is_session(command) {
+        return talked(alloc, source, sink);
+    }
     ended(due_of(alloc, players, command, source), sink)
 }
 
-// Writes what is due, where it was made, and tells how that ended.
-fn ended<K: Sink>(made: Result<Due, Stop>, sink: &mut K) -> Status
-    requires { IfOk made IsWritable }
-    ensures count { K.faults sink.old ≤ K.faults sink.new }
-    ensures ending { IsEnding made (K.written sink.old) (K.written sink.new) (K.faults sink.old) (K.faults sink.new)
-        result }
-    ensures same { IfErr made (λ _. sink.new ≡ sink.old) }
+// Whether a command reads and writes in turns.
+fn is_session(command: &Command) -> bool
+    ensures { IsTrue result ↔ (command.now ≡ commands.Session) }
 {
-    match made {
-        Ok(due) => match write_due(&due, sink) {
-            Ok(()) => due.status,
-            Err(_) => Status::WriteFault,
-        },
-        Err(Stop::Read) => Status::ReadFault,
-        Err(Stop::Memory) => Status::OutOfMemory,
-    }
+    matches!(command, Command::Session)
 }

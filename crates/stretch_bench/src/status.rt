@@ -14,7 +14,7 @@ pub enum Status {
     Usage,
     /// A search ended at its budget.
     Undecided,
-    /// A read failed. Nothing was written.
+    /// A read failed. Nothing was written, or in a session what is said to the answers that were read.
     ReadFault,
     /// A write failed. What was written is the front of the text that was due.
     WriteFault,
@@ -22,10 +22,16 @@ pub enum Status {
     OutOfMemory,
     /// The items of the words do not fit into the bins.
     Unpackable,
+    /// The strategy has no scaled or weakened one of this number.
+    NoTransfer,
+    /// The input of a session ended before the play did.
+    Ended,
+    /// A line of a session is no answer.
+    BadAnswer,
 }
 
 impl Status {
-    /// The number that the program ends with, from 0 to 7. Takes no memory.
+    /// The number that the program ends with, from 0 to 10. Takes no memory.
     pub fn code(self) -> u8
         ensures value { result ≡ code_of self }
     {

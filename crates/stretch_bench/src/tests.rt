@@ -154,7 +154,7 @@ fn player(alloc: Global, name: &str, player: Box<dyn Online>) -> Result<Player, 
 }
 
 // The status of a run of these words against the three named players.
-fn run<S: Source, K: Sink>(
+pub(crate) fn run<S: Source, K: Sink>(
     alloc: Global,
     line: &str,
     source: &mut S,
@@ -267,7 +267,7 @@ pub(crate) fn is_found(alloc: Global, row: &Found) -> Result<bool, AllocError> {
     Ok(checked.bytes().starts_with(row.3.as_bytes()))
 }
 
-const NO_COMMANDS: [&str; 24] = [
+const NO_COMMANDS: [&str; 26] = [
     "",
     "check now",
     "play",
@@ -292,6 +292,8 @@ const NO_COMMANDS: [&str; 24] = [
     "answer 01",
     "search 2 3 3 budget=1 table=1",
     "search 2 121 130 budget=1 table=1",
+    "session now",
+    "sessions",
 ];
 
 fn is_usage(alloc: Global, words: &str) -> Result<bool, AllocError> {

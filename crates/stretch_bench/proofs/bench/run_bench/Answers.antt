@@ -1,4 +1,3 @@
-use Rattle.std.proofs.Common.{ap}
 use Rattle.stretch_bench.specs.Check.{adversary_accepted, algorithm_accepted}
 use Rattle.stretch_bench.proofs.AcceptedLemmas.{accepted_forces, accepted_replies, accepted_stands, exact_answer, usage_answer}
 use Rattle.stretch_bench.proofs.bench.run_bench.Goals as goal
@@ -11,17 +10,14 @@ returns-clause-exact g c command spells = exact_answer _ c.run_words.result c.ru
 
 pub returns-clause-accepted : goal.returns-clause-accepted
 returns-clause-accepted g c accepted first =
-    accepted_stands _ c.run_words.result c.run_words.ensures.answer (λ e. ap (λ sink. g.K.Sink.written sink) (c.run_words.ensures.read_fault e))
-    (λ e. ap (λ sink. g.K.Sink.written sink) (c.run_words.ensures.memory e)) accepted first
+    accepted_stands _ c.run_words.result c.run_words.ensures.answer accepted first
 
 pub returns-clause-forced : goal.returns-clause-forced
 returns-clause-forced g c game nodes first =
     accepted_forces game nodes _ _
-    (accepted_stands _ c.run_words.result c.run_words.ensures.answer (λ e. ap (λ sink. g.K.Sink.written sink) (c.run_words.ensures.read_fault e))
-    (λ e. ap (λ sink. g.K.Sink.written sink) (c.run_words.ensures.memory e)) (adversary_accepted game nodes) first)
+    (accepted_stands _ c.run_words.result c.run_words.ensures.answer (adversary_accepted game nodes) first)
 
 pub returns-clause-kept : goal.returns-clause-kept
 returns-clause-kept g c game nodes first =
     accepted_replies game nodes _ _
-    (accepted_stands _ c.run_words.result c.run_words.ensures.answer (λ e. ap (λ sink. g.K.Sink.written sink) (c.run_words.ensures.read_fault e))
-    (λ e. ap (λ sink. g.K.Sink.written sink) (c.run_words.ensures.memory e)) (algorithm_accepted game nodes) first)
+    (accepted_stands _ c.run_words.result c.run_words.ensures.answer (algorithm_accepted game nodes) first)

@@ -14,6 +14,7 @@ returns-in-None g c = record {
     minimise = c.if-is_word-2.ensures.exact.1;
     upgrade = c.if-is_word-3.ensures.exact.1;
     report = c.if-is_word-4.ensures.exact.1;
+    session = c.if-is_word-5.ensures.exact.1;
     play = c.in_default.ensures _;
     drill = c.in_default-drill_of.ensures _;
     searches = c.in_default-search_of.ensures _;

@@ -1,3 +1,6 @@
+use Rattle.std.proofs.Common.{refl}
+use Rattle.stretch_bench.specs.declared.command.Command.TheVariants.{Session}
+use Rattle.stretch_bench.proofs.CommandLemmas.{spells_as}
 use Rattle.stretch_bench.proofs.RunLemmas.{answer_by, made_is_due}
 use Rattle.stretch_bench.proofs.run.run_command.Goals as goal
 
@@ -8,3 +11,7 @@ returns-clause-answer g c words spells =
     c.due_of.ensures.read
     (λ e. record { command = c.args.command.now; spells = spells; cut = c.due_of.ensures.cut e })
     c.ended.ensures.ending
+
+pub returns-then-is_session-clause-answer : goal.returns-then-is_session-clause-answer
+returns-then-is_session-clause-answer g c words spells =
+    c.talked.ensures.answer _ words (spells_as _ words c.args.command.now Session (c.if-is_session.ensures.0 refl) spells)
