@@ -14,7 +14,7 @@ use Rattle.strategy_text.specs.declared.node.Format.{Format}
 use Rattle.strategy_text.specs.declared.node.Format.TheVariants.{One, Two}
 use Rattle.strategy_text.specs.declared.node.Nodes.{Nodes}
 use Rattle.strategy_text.specs.declared.node.Nodes.TheVariants as sides
-use Rattle.strategy_text.specs.declared.node.Side.TheVariants.{Algorithm}
+use Rattle.strategy_text.specs.declared.node.Side.TheVariants.{Adversary, Algorithm}
 use Rattle.strategy_text.specs.declared.node.Strategy.{Strategy}
 use Rattle.strategy_text.specs.Writing.{spaced}
 use Rattle.strategy_text.proofs.Spaced.{line_spaced}
@@ -33,13 +33,13 @@ use Rattle.match_player.specs.declared.answered.Answered.{Answered}
 use Rattle.stretch_bench.specs.Call.{Call, Players}
 use Rattle.stretch_bench.specs.Check.{accepted_line, accepted_of, adversary_accepted, algorithm_accepted}
 use Rattle.stretch_bench.specs.Commands.{Spells, SpellsNone, form_of, wanted_by}
-use Rattle.stretch_bench.specs.Due.{IsDue, IsOutcome, IsRejected, commanded, done, rejected, undecided, unpackable, usage}
+use Rattle.stretch_bench.specs.Due.{IsDue, IsOutcome, IsRejected, commanded, done, rejected, undecided, unpackable, unscaled, unweakened, usage}
 use Rattle.stretch_bench.specs.Form.{IsDone, Work, of_strategy, of_words, wanted_of}
 use Rattle.stretch_bench.specs.Replying.{Replying}
 use Rattle.stretch_bench.specs.Run.{IsAnswer, IsExact, IsServed, IsStopped, Run, memory_refused, read_failed, write_failed, wrote}
 use Rattle.stretch_bench.specs.Written.{WritesFirst}
 use Rattle.stretch_bench.specs.declared.command.Command.{Command}
-use Rattle.stretch_bench.specs.declared.command.Command.TheVariants.{Check, Play, Answer, Minimise, Upgrade, Report, Drill, Search}
+use Rattle.stretch_bench.specs.declared.command.Command.TheVariants.{Check, Play, Answer, Minimise, Upgrade, Report, Drill, Search, Scale, Weaken}
 use Rattle.stretch_bench.specs.declared.status.Status.{Status}
 use Rattle.stretch_bench.specs.declared.status.Status.TheVariants.{Done, Rejected, Usage, ReadFault, WriteFault, OutOfMemory}
 use Rattle.stretch_bench.proofs.Fronts.{HasSmallNumbers, same_line}
@@ -115,6 +115,8 @@ done_stands players left new_left (Drill number copies) text accepted more due e
     absurd (let other : 100 ≡ 97 = ap (λ (l : List ℕ). get_or l 0 0) (sym due.1 ∙ e) in omega arith)
 done_stands players left new_left (Search game budget table) text accepted more due e =
     absurd (not_spelled due.1.strategy accepted more (sym due.1.spelled ∙ e))
+done_stands players left new_left (Scale factor) text accepted more due e = absurd (not_spelled _ accepted more (sym due.is.spelled ∙ e))
+done_stands players left new_left (Weaken target) text accepted more due e = absurd (not_spelled _ accepted more (sym due.is.spelled ∙ e))
 
 outcome_stands : (players : Players) (left new_left : Option (List ℕ)) (command : Command) (status : Status) (text : List ℕ) (accepted : Accepted) (more : List ℕ)
     → IsOutcome players left new_left command status text → text ≡ accepted_line accepted ++ more → Accepts Either accepted left new_left
@@ -125,6 +127,10 @@ outcome_stands players left new_left command status text accepted more (unpackab
     absurd (let other : 117 ≡ 97 = ap (λ (l : List ℕ). get_or l 0 0) (sym is.is.line ∙ e) in omega arith)
 outcome_stands players left new_left command status text accepted more (undecided game budget table s c l is) e =
     absurd (let other : 117 ≡ 97 = ap (λ (l : List ℕ). get_or l 0 0) (sym is.line ∙ e) in omega arith)
+outcome_stands players left new_left command status text accepted more (unscaled factor s c is) e =
+    absurd (let other : 110 ≡ 97 = ap (λ (l : List ℕ). get_or l 0 0) (sym is.is.line ∙ e) in omega arith)
+outcome_stands players left new_left command status text accepted more (unweakened target s c is) e =
+    absurd (let other : 110 ≡ 97 = ap (λ (l : List ℕ). get_or l 0 0) (sym is.is.line ∙ e) in omega arith)
 
 stands_after : (call : Call) (status : Status) (text : List ℕ) (accepted : Accepted) (more : List ℕ) → IsDue call status text
     → text ≡ accepted_line accepted ++ more → Accepts Either accepted call.left call.new_left
@@ -188,7 +194,8 @@ legal_bytes wanted strategy bytes (Some rest) loads =
 -- a status is no other
 not_rejected : (status : Status) → status ≡ Rejected → IsServed status → ⊥
 not_rejected status e (inl d) = absurd cc
-not_rejected status e (inr u) = absurd cc
+not_rejected status e (inr (inl u)) = absurd cc
+not_rejected status e (inr (inr n)) = absurd cc
 
 -- a command that was done is served exactly where the bytes are a legal text of the side that it wants
 done_exact : (work : Work) (bytes : List ℕ) (new_left : Option (List ℕ)) (status : Status) (text : List ℕ) → status ≡ Done
@@ -210,9 +217,15 @@ outcome_exact players bytes new_left command status text (rejected wanted s w is
     rejected_exact (wanted_by players command) wanted bytes new_left status text s w is
 outcome_exact players bytes new_left command status text (unpackable items s c is) =
     subst (λ (x : Command). IsExact (wanted_by players x) (Some bytes) status) (sym c)
-    (λ on. (λ served. legal_bytes (Only Algorithm) is.strategy bytes new_left is.loaded, λ legal. inr s))
+    (λ on. (λ served. legal_bytes (Only Algorithm) is.strategy bytes new_left is.loaded, λ legal. inr (inl s)))
 outcome_exact players bytes new_left command status text (undecided game budget table s c l is) =
     subst (λ (x : Command). IsExact (wanted_by players x) (Some bytes) status) (sym c) tt
+outcome_exact players bytes new_left command status text (unscaled factor s c is) =
+    subst (λ (x : Command). IsExact (wanted_by players x) (Some bytes) status) (sym c)
+    (λ on. (λ served. legal_bytes (Only Adversary) is.strategy bytes new_left is.loaded, λ legal. inr (inr s)))
+outcome_exact players bytes new_left command status text (unweakened target s c is) =
+    subst (λ (x : Command). IsExact (wanted_by players x) (Some bytes) status) (sym c)
+    (λ on. (λ served. legal_bytes Either is.strategy bytes new_left is.loaded, λ legal. inr (inr s)))
 
 -- nothing is claimed of a source that tells nothing
 untold : (wanted : Option Wanted) (status : Status) → IsExact wanted None status

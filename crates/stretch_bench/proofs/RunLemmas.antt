@@ -7,7 +7,7 @@ use Rattle.checker.specs.declared.fault.Wanted.{Wanted}
 use Rattle.port_io.specs.Faults.{Rose}
 use Rattle.stretch_bench.specs.Call.{Call, Players}
 use Rattle.stretch_bench.specs.Commands.{Spells, SpellsNone}
-use Rattle.stretch_bench.specs.Due.{IsDue, IsOutcome, done, rejected, undecided, unpackable, commanded, usage}
+use Rattle.stretch_bench.specs.Due.{IsDue, IsOutcome, done, rejected, undecided, unpackable, unscaled, unweakened, commanded, usage}
 use Rattle.stretch_bench.specs.Lines.{usage_line}
 use Rattle.stretch_bench.specs.Pieces.{IsDueWith, IsEnding, IsMade, IsStopOf, all, due_text, some, unmade, unread}
 use Rattle.stretch_bench.specs.Run.{IsAnswer, IsCut, IsCutShort, IsStopped, Run, memory_refused, read_failed, write_failed, wrote}
@@ -16,7 +16,7 @@ use Rattle.stretch_bench.specs.declared.due.Due.{Due}
 use Rattle.stretch_bench.specs.declared.due.Stop.{Stop}
 use Rattle.stretch_bench.specs.declared.due.Stop.TheVariants.{Read}
 use Rattle.stretch_bench.specs.declared.status.Status.{Status}
-use Rattle.stretch_bench.specs.declared.status.Status.TheVariants.{Done, Rejected, Usage, Undecided, ReadFault, OutOfMemory, Unpackable}
+use Rattle.stretch_bench.specs.declared.status.Status.TheVariants.{Done, Rejected, Usage, Undecided, ReadFault, OutOfMemory, Unpackable, NoTransfer}
 
 abbrev pub call_of : Players → List (List ℕ) → Option (List ℕ) → Option (List ℕ) → Call
 call_of players words left new_left = record { players = players; words = words; left = left; new_left = new_left }
@@ -61,12 +61,19 @@ unpackable_goes (inl e) = absurd cc
 unpackable_goes (inr (inl e)) = absurd cc
 unpackable_goes (inr (inr e)) = absurd cc
 
+no_transfer_goes : IsStopped NoTransfer → ⊥
+no_transfer_goes (inl e) = absurd cc
+no_transfer_goes (inr (inl e)) = absurd cc
+no_transfer_goes (inr (inr e)) = absurd cc
+
 outcome_goes : (players : Players) (left new_left : Option (List ℕ)) (command : Command) (status : Status) (text : List ℕ)
     → IsOutcome players left new_left command status text → IsStopped status → ⊥
 outcome_goes players left new_left command status text (done e is) stopped = stop_differs status Done e stopped done_goes
 outcome_goes players left new_left command status text (rejected wanted e w is) stopped = stop_differs status Rejected e stopped rejected_goes
 outcome_goes players left new_left command status text (unpackable items e c is) stopped = stop_differs status Unpackable e stopped unpackable_goes
 outcome_goes players left new_left command status text (undecided game budget table e c l is) stopped = stop_differs status Undecided e stopped undecided_goes
+outcome_goes players left new_left command status text (unscaled factor e c is) stopped = stop_differs status NoTransfer e stopped no_transfer_goes
+outcome_goes players left new_left command status text (unweakened target e c is) stopped = stop_differs status NoTransfer e stopped no_transfer_goes
 
 pub due_goes : (call : Call) (status : Status) (text : List ℕ) → IsDue call status text → IsStopped status → ⊥
 due_goes call status text (commanded command spells is) stopped = outcome_goes call.players call.left call.new_left command status text is stopped

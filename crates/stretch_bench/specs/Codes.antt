@@ -1,7 +1,7 @@
 use Rattle.std.specs.Prelude.{ℕ}
 use Rattle.stretch_bench.specs.declared.status.Status.{Status}
 use Rattle.stretch_bench.specs.declared.status.Status.TheVariants.{Done, Rejected, Usage, Undecided, ReadFault}
-use Rattle.stretch_bench.specs.declared.status.Status.TheVariants.{WriteFault, OutOfMemory, Unpackable}
+use Rattle.stretch_bench.specs.declared.status.Status.TheVariants.{WriteFault, OutOfMemory, Unpackable, NoTransfer}
 
 -- the number that the program ends with
 abbrev pub code_of : Status → ℕ
@@ -13,3 +13,4 @@ code_of ReadFault = 4
 code_of WriteFault = 5
 code_of OutOfMemory = 6
 code_of Unpackable = 7
+code_of NoTransfer = 8

@@ -10,6 +10,8 @@ pub mod Upgrade
 pub mod Report
 pub mod Drill
 pub mod Search
+pub mod Scale
+pub mod Weaken
 pub mod Commands
 pub mod Due
 pub mod Run

@@ -9,6 +9,7 @@ use Rattle.port_io.specs.Told.{AppendsSome}
 use Rattle.stretch_bench.specs.declared.command.Command.{Command}
 use Rattle.stretch_bench.specs.declared.status.Status.{Status}
 use Rattle.stretch_bench.specs.declared.status.Status.TheVariants.{Done, ReadFault, WriteFault, OutOfMemory, Unpackable}
+use Rattle.stretch_bench.specs.declared.status.Status.TheVariants.{NoTransfer}
 use Rattle.stretch_bench.specs.Call.{Call}
 use Rattle.stretch_bench.specs.Commands.{Spells, wanted_by}
 use Rattle.stretch_bench.specs.Due.{IsDue}
@@ -53,9 +54,9 @@ pub data IsAnswer (run : Run) (status : Status) : Type 0 where
 abbrev pub IsStopped : Status → Type 0
 IsStopped status = (status ≡ ReadFault) ⊎ (status ≡ WriteFault) ⊎ (status ≡ OutOfMemory)
 
--- the command was carried out, or would have been with other items
+-- the command was carried out, or would have been with other items or numbers
 abbrev pub IsServed : Status → Type 0
-IsServed status = (status ≡ Done) ⊎ (status ≡ Unpackable)
+IsServed status = (status ≡ Done) ⊎ (status ≡ Unpackable) ⊎ (status ≡ NoTransfer)
 
 -- a command that reads is served exactly where the bytes are the text of a legal strategy of the side that it wants
 abbrev pub IsExact : Option Wanted → Option (List ℕ) → Status → Type 0

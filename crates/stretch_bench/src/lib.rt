@@ -18,12 +18,14 @@ mod number;
 mod playing;
 mod reporting;
 mod run;
+mod scaling;
 mod searching;
 mod settings;
 mod status;
 #[cfg(test)]
 mod tests;
 mod upgrading;
+mod weakening;
 
 pub use bench::run_bench;
 pub use command::{Command, read_words};

@@ -22,10 +22,12 @@ pub enum Status {
     OutOfMemory,
     /// The items of the words do not fit into the bins.
     Unpackable,
+    /// The strategy can't be moved to the game that was asked for.
+    NoTransfer,
 }
 
 impl Status {
-    /// The number that the program ends with, from 0 to 7. Takes no memory.
+    /// The number that the program ends with, from 0 to 8. Takes no memory.
     pub fn code(self) -> u8
         ensures value { result ≡ code_of self }
     {
