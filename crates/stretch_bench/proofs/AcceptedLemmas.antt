@@ -15,7 +15,7 @@ use Rattle.strategy_text.specs.declared.node.Format.{Format}
 use Rattle.strategy_text.specs.declared.node.Format.TheVariants.{One, Two}
 use Rattle.strategy_text.specs.declared.node.Nodes.{Nodes}
 use Rattle.strategy_text.specs.declared.node.Nodes.TheVariants as sides
-use Rattle.strategy_text.specs.declared.node.Side.TheVariants.{Algorithm}
+use Rattle.strategy_text.specs.declared.node.Side.TheVariants.{Adversary, Algorithm}
 use Rattle.strategy_text.specs.declared.node.Strategy.{Strategy}
 use Rattle.strategy_text.specs.Writing.{spaced}
 use Rattle.strategy_text.proofs.Spaced.{line_spaced}
@@ -40,7 +40,7 @@ use Rattle.stretch_bench.specs.Call.{Call, Players}
 use Rattle.stretch_bench.specs.Check.{accepted_line, accepted_of, adversary_accepted, algorithm_accepted}
 use Rattle.stretch_bench.specs.Commands.{Spells, SpellsNone, form_of, reads_by}
 use Rattle.stretch_bench.specs.Due.{IsDue, IsFrontRejected, IsOutcome, IsRejected, bad_answer, commanded, done, input_ended, rejected, rejected_front}
-use Rattle.stretch_bench.specs.Due.{undecided, unpackable, usage}
+use Rattle.stretch_bench.specs.Due.{undecided, unpackable, unscaled, unweakened, usage}
 use Rattle.stretch_bench.specs.Form.{IsDone, IsReadFirst, Reads, Work, in_turns, of_strategy, of_words, reads_front, reads_nothing, reads_of, reads_whole}
 use Rattle.stretch_bench.specs.Replying.{Replying}
 use Rattle.stretch_bench.specs.Run.{IsAnswer, IsExact, IsServed, IsStopped, Run, answer_unread, memory_refused, read_failed, talk_unsaid, write_failed, wrote}
@@ -48,6 +48,7 @@ use Rattle.stretch_bench.specs.Session.{IsTalkOf, last_of, pool_in}
 use Rattle.stretch_bench.specs.Written.{WritesFirst}
 use Rattle.stretch_bench.specs.declared.command.Command.{Command}
 use Rattle.stretch_bench.specs.declared.command.Command.TheVariants.{Check, Play, Answer, Minimise, Upgrade, Report, Drill, Search, Session}
+use Rattle.stretch_bench.specs.declared.command.Command.TheVariants.{Scale, Weaken}
 use Rattle.stretch_bench.specs.declared.status.Status.{Status}
 use Rattle.stretch_bench.specs.declared.status.Status.TheVariants.{Done, Rejected, Usage, WriteFault, OutOfMemory}
 use Rattle.stretch_bench.proofs.Fronts.{HasSmallNumbers, same_line}
@@ -138,6 +139,8 @@ done_stands players left new_left (Drill number copies) text accepted more due e
 done_stands players left new_left (Search game budget table) text accepted more due e =
     absurd (not_spelled due.1.strategy accepted more (sym due.1.spelled ∙ e))
 done_stands players left new_left Session text accepted more due e = absurd (not_talked _ due.strategy due.rest new_left text accepted more due.is e)
+done_stands players left new_left (Scale factor) text accepted more due e = absurd (not_spelled _ accepted more (sym due.is.spelled ∙ e))
+done_stands players left new_left (Weaken target) text accepted more due e = absurd (not_spelled _ accepted more (sym due.is.spelled ∙ e))
 
 outcome_stands : (players : Players) (left new_left : Option (List ℕ)) (command : Command) (status : Status) (text : List ℕ) (accepted : Accepted) (more : List ℕ)
     → IsOutcome players left new_left command status text → text ≡ accepted_line accepted ++ more → Accepts Either accepted left new_left
@@ -154,6 +157,10 @@ outcome_stands players left new_left command status text accepted more (input_en
     absurd (not_talked _ is.strategy is.rest new_left text accepted more is.is e)
 outcome_stands players left new_left command status text accepted more (bad_answer s c is) e =
     absurd (not_talked _ is.strategy is.rest new_left text accepted more is.is e)
+outcome_stands players left new_left command status text accepted more (unscaled factor s c is) e =
+    absurd (let other : 110 ≡ 97 = ap (λ (l : List ℕ). get_or l 0 0) (sym is.is.line ∙ e) in omega arith)
+outcome_stands players left new_left command status text accepted more (unweakened target s c is) e =
+    absurd (let other : 110 ≡ 97 = ap (λ (l : List ℕ). get_or l 0 0) (sym is.is.line ∙ e) in omega arith)
 
 stands_after : (call : Call) (status : Status) (text : List ℕ) (accepted : Accepted) (more : List ℕ) → IsDue call status text
     → text ≡ accepted_line accepted ++ more → Accepts Either accepted call.left call.new_left
@@ -245,7 +252,8 @@ not_rejected : (status : Status) → status ≡ Rejected → IsServed status →
 not_rejected status e (inl d) = absurd cc
 not_rejected status e (inr (inl u)) = absurd cc
 not_rejected status e (inr (inr (inl n))) = absurd cc
-not_rejected status e (inr (inr (inr b))) = absurd cc
+not_rejected status e (inr (inr (inr (inl d)))) = absurd cc
+not_rejected status e (inr (inr (inr (inr b)))) = absurd cc
 
 -- where more bytes were read, they begin with the text of the strategy
 begins_with : (wanted : Wanted) (bytes : List ℕ) (new_left : Option (List ℕ)) (Is : Strategy → List ℕ → Type 0) → IsReadFirst wanted (Some bytes) new_left Is
@@ -303,9 +311,15 @@ outcome_exact players bytes new_left command status text (unpackable items s c i
 outcome_exact players bytes new_left command status text (undecided game budget table s c l is) =
     subst (λ (x : Command). IsExact (reads_by players x) (Some bytes) status) (sym c) tt
 outcome_exact players bytes new_left command status text (input_ended s c is) =
-    subst (λ (x : Command). IsExact (reads_by players x) (Some bytes) status) (sym c) (session_exact _ bytes new_left status _ (inr (inr (inl s))) is)
+    subst (λ (x : Command). IsExact (reads_by players x) (Some bytes) status) (sym c) (session_exact _ bytes new_left status _ (inr (inr (inr (inl s)))) is)
 outcome_exact players bytes new_left command status text (bad_answer s c is) =
-    subst (λ (x : Command). IsExact (reads_by players x) (Some bytes) status) (sym c) (session_exact _ bytes new_left status _ (inr (inr (inr s))) is)
+    subst (λ (x : Command). IsExact (reads_by players x) (Some bytes) status) (sym c) (session_exact _ bytes new_left status _ (inr (inr (inr (inr s)))) is)
+outcome_exact players bytes new_left command status text (unscaled factor s c is) =
+    subst (λ (x : Command). IsExact (reads_by players x) (Some bytes) status) (sym c)
+    (λ on. (λ served. legal_bytes (Only Adversary) is.strategy bytes new_left is.loaded, λ legal. inr (inr (inl s))))
+outcome_exact players bytes new_left command status text (unweakened target s c is) =
+    subst (λ (x : Command). IsExact (reads_by players x) (Some bytes) status) (sym c)
+    (λ on. (λ served. legal_bytes Either is.strategy bytes new_left is.loaded, λ legal. inr (inr (inl s))))
 
 -- nothing is claimed of a source that tells nothing
 untold : (reads : Reads) (status : Status) → IsExact reads None status

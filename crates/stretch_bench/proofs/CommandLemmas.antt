@@ -6,6 +6,7 @@ use Rattle.stretch_bench.specs.Call.{Players}
 use Rattle.stretch_bench.specs.Commands.{Spells, SpellsNone}
 use Rattle.stretch_bench.specs.declared.command.Command.{Command}
 use Rattle.stretch_bench.specs.declared.command.Command.TheVariants.{Check, Play, Answer, Minimise, Upgrade, Report, Drill, Search, Session}
+use Rattle.stretch_bench.specs.declared.command.Command.TheVariants.{Scale, Weaken}
 
 -- what was read is spelled
 pub items_spelled : (players : Players) (words : List (List ℕ)) (r : Option (List ℕ)) (items : List ℕ)
@@ -33,6 +34,8 @@ pub record FindsNone (players : Players) (words : List (List ℕ)) : Type 0 wher
   pub play : (place : ℕ) → Spells players words (Play place) → ⊥
   pub drill : (number copies : ℕ) → Spells players words (Drill number copies) → ⊥
   pub searches : (game : GameNumbers) (budget table : ℕ) → Spells players words (Search game budget table) → ⊥
+  pub scales : (factor : ℕ) → Spells players words (Scale factor) → ⊥
+  pub weakens : (target : ℕ) → Spells players words (Weaken target) → ⊥
   pub answer : (items : List ℕ) → Spells players words (Answer items) → ⊥
 
 -- words that spell none of the commands
@@ -45,6 +48,8 @@ none_spelled players words none Session spells = untrue (none.session spells.spe
 none_spelled players words none (Play place) spells = none.play place spells
 none_spelled players words none (Drill number copies) spells = none.drill number copies spells
 none_spelled players words none (Search game budget table) spells = none.searches game budget table spells
+none_spelled players words none (Scale factor) spells = none.scales factor spells
+none_spelled players words none (Weaken target) spells = none.weakens target spells
 none_spelled players words none (Answer items) spells = none.answer items spells
 
 -- the command that was read is spelled

@@ -1,5 +1,5 @@
 -- Legal strategies of a side, and what is written of them.
-use Rattle.std.proofs.Common.{◌≡◌, List, [], ℕ, Option, Some, sym, subst, ap, refl, ◌∙◌}
+use Rattle.std.proofs.Common.{◌≡◌, List, [], ℕ, Option, Some, inl, sym, subst, ap, refl, ◌∙◌}
 use Rattle.items.specs.Game.{GameNumbers}
 use Rattle.items.specs.Multiset.{sizes_of}
 use Rattle.strategy_text.specs.Spelling.{IsSpellable}
@@ -20,6 +20,7 @@ use Rattle.algorithm_graph.specs.Pools as algorithm
 use Rattle.checker.specs.Accepted.{IsFaultOf}
 use Rattle.checker.specs.FirstFault.{IsLegalText}
 use Rattle.strategies.specs.AnyNode.{AreLegalNodes, IsLegal}
+use Rattle.strategies.proofs.SideLemmas.{legal_of_one_side}
 use Rattle.checker.specs.declared.fault.CheckFault.{CheckFault}
 use Rattle.checker.specs.declared.fault.CheckFault.TheVariants as check_fault
 use Rattle.checker.specs.declared.fault.Wanted.TheVariants.{Either}
@@ -35,6 +36,10 @@ use Rattle.stretch_bench.specs.Canonical.{IsAlike, IsCanonical}
 -- a legal strategy has a text
 pub spellable : (strategy : Strategy) → IsLegal strategy → IsSpellable strategy
 spellable strategy legal = legal_is_spellable strategy legal
+
+-- of one side, it is one of either
+pub adversary_legal_too : (strategy : Strategy) → adversary.IsLegalOfAdversary strategy → IsLegal strategy
+adversary_legal_too strategy legal = (legal_of_one_side strategy).1 (inl legal)
 
 pub legal_adversary : (format : Format) (game : GameNumbers) (nodes : Nodes) → AreLegalNodes format game (sizes_of game) nodes → Adversary ≡ side_of nodes
     → adversary.AreLegal format game nodes

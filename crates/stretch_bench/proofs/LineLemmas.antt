@@ -18,6 +18,7 @@ use Rattle.stretch_bench.specs.Answer.{unpackable_line}
 use Rattle.stretch_bench.specs.Check.{accepted_line}
 use Rattle.stretch_bench.specs.Lines.{rejected_line}
 use Rattle.stretch_bench.specs.Report.{report_line, report_words}
+use Rattle.stretch_bench.specs.Scale.{no_transfer_line}
 use Rattle.stretch_bench.specs.Search.{move_word, move_words, undecided_line}
 use Rattle.strategy_text.specs.Rules.{rule_word}
 use Rattle.strategy_text.specs.Text.{line_of, side_word}
@@ -44,6 +45,11 @@ rule_text line fault rule name e same =
 
 pub unpackable_text : (place : ℕ) → codes "unpackable " ++ (decimal place ++ codes "\n") ≡ unpackable_line place
 unpackable_text place = refl
+
+pub no_transfer_text : (bins capacity target : ℕ)
+    → codes "notransfer " ++ (decimal bins ++ (codes " " ++ (decimal capacity ++ (codes " " ++ (decimal target ++ codes "\n")))))
+    ≡ no_transfer_line bins capacity target
+no_transfer_text bins capacity target = refl
 
 pub report_text : (report : Report) (side : List ℕ) (bins capacity target : ℕ) → side ≡ side_word report.side → bins ≡ report.game.bins
     → capacity ≡ report.game.capacity → target ≡ report.game.target

@@ -11,6 +11,7 @@ use Rattle.stretch_bench.specs.Answer.{most_item}
 use Rattle.stretch_bench.specs.Commands.{WordsSpellOneCommand, form_of}
 use Rattle.stretch_bench.specs.Play.{IsFirstNamed, name_at}
 use Rattle.stretch_bench.specs.declared.command.Command.TheVariants.{Check, Play, Answer, Minimise, Upgrade, Report, Drill, Search, Session}
+use Rattle.stretch_bench.specs.declared.command.Command.TheVariants.{Scale, Weaken}
 
 -- two names that differ
 differ : (a b : List ℕ) (words rest more : List (List ℕ)) → pointwise nat_eq a b ≡ false → words ≡ a ∷ rest → words ≡ b ∷ more → ⊥
@@ -78,6 +79,10 @@ words_spell_one_command players words (Search game budget table) (Search other v
     (ap (λ (word : List ℕ). drop 6 word) (at 5 words _ _ e.spelled f.spelled)) in
     λ i. Search (games i) (budgets i) (tables i)
 words_spell_one_command players words Session Session e f = refl
+words_spell_one_command players words (Scale factor) (Scale other) e f =
+    ap Scale (decimal_injective factor other (omega (arith, e.allowed.most)) (omega (arith, f.allowed.most)) (at 1 words _ _ e.spelled f.spelled))
+words_spell_one_command players words (Weaken target) (Weaken other) e f =
+    ap Weaken (decimal_injective target other (omega (arith, e.allowed.most)) (omega (arith, f.allowed.most)) (at 1 words _ _ e.spelled f.spelled))
 words_spell_one_command players words one other e f =
     absurd (differ (form_of players one).name (form_of players other).name words (form_of players one).arguments (form_of players other).arguments refl e.spelled
     f.spelled)

@@ -33,7 +33,7 @@ use Rattle.stretch_bench.specs.Call.{Players}
 use Rattle.stretch_bench.specs.Check.{IsAcceptedLine, accepted_line}
 use Rattle.stretch_bench.specs.Commands.{form_of, reads_by}
 use Rattle.stretch_bench.specs.Drill.{drilled}
-use Rattle.stretch_bench.specs.Due.{IsFrontRejected, IsRejected, done, rejected, rejected_front, undecided, unpackable}
+use Rattle.stretch_bench.specs.Due.{IsFrontRejected, IsRejected, done, rejected, rejected_front, undecided, unpackable, unscaled, unweakened}
 use Rattle.stretch_bench.specs.Form.{IsDone, IsRead, Reads, reads_front, reads_nothing, reads_whole}
 use Rattle.stretch_bench.specs.Lines.{rejected_line}
 use Rattle.stretch_bench.specs.Minimise.{IsMinimised}
@@ -41,14 +41,20 @@ use Rattle.stretch_bench.specs.Pieces.{IsDueWith, IsEither, IsFrontStop, IsMade,
 use Rattle.stretch_bench.specs.Play.{IsPlayOf}
 use Rattle.stretch_bench.specs.Report.{IsSummaryOf}
 use Rattle.stretch_bench.specs.Search.{IsFound, IsUndecided, undecided_line}
+use Rattle.stretch_bench.specs.Scale.{IsScaled, IsUnscaled, no_transfer_line}
+use Rattle.stretch_bench.specs.Weaken.{IsUnweakened, IsWeakened}
 use Rattle.stretch_bench.specs.Upgrade.{IsUpgraded}
 use Rattle.stretch_bench.specs.declared.command.Command.{Command}
-use Rattle.stretch_bench.specs.declared.command.Command.TheVariants.{Check, Play, Answer, Minimise, Upgrade, Report, Drill, Search}
+use Rattle.stretch_bench.specs.declared.command.Command.TheVariants.{Check, Play, Answer, Minimise, Upgrade, Report, Drill, Search, Scale, Weaken}
 use Rattle.stretch_bench.specs.declared.due.Due.{Due}
 use Rattle.stretch_bench.specs.declared.due.Stop.{Stop}
 use Rattle.stretch_bench.specs.declared.due.Stop.TheVariants.{Memory}
 use Rattle.stretch_bench.specs.declared.status.Status.{Status}
-use Rattle.stretch_bench.specs.declared.status.Status.TheVariants.{Done, Rejected, Undecided, Unpackable}
+use Rattle.stretch_bench.specs.declared.status.Status.TheVariants.{Done, Rejected, Undecided, Unpackable, NoTransfer}
+use Rattle.strategy_transfer.specs.Scaled.{scaled_strategy}
+use Rattle.strategy_transfer.specs.Targets.{CanScaleStrategy, CanWeakenStrategy}
+use Rattle.strategy_transfer.specs.Weakened.{weakened_strategy}
+use Rattle.adversary_graph.specs.Pools.{IsLegalOfAdversary}
 use Rattle.stretch_bench.proofs.LegalLemmas.{canonical_alike, canonical_is, upgrade_alike, upgrade_is}
 
 -- another kind of text
@@ -122,6 +128,24 @@ module _ (players : Players) (left new_left : Option (List ℕ)) where
   search_made game budget table due unread (inr with) =
       record { outcome = undecided game budget table with.status_is refl unread with.text; writable = with.writable }
 
+  pub scale_made : (factor : ℕ) (strategy : Strategy) (due : Due) → IsLoaded (Only Adversary) strategy left new_left
+      → IsEither Done (IsScaled factor strategy) NoTransfer (IsUnscaled factor strategy) due → IsMade players left new_left (Scale factor) due
+  scale_made factor strategy due loads (inl with) =
+      done_with (Scale factor) (IsScaled factor strategy) due (λ text is. record { strategy = strategy; loaded = loads; is = is }) with
+  scale_made factor strategy due loads (inr with) = record {
+    outcome = unscaled factor with.status_is refl (record { strategy = strategy; loaded = loads; is = with.text });
+    writable = with.writable;
+  }
+
+  pub weaken_made : (target : ℕ) (strategy : Strategy) (due : Due) → IsLoaded Either strategy left new_left
+      → IsEither Done (IsWeakened target strategy) NoTransfer (IsUnweakened target strategy) due → IsMade players left new_left (Weaken target) due
+  weaken_made target strategy due loads (inl with) =
+      done_with (Weaken target) (IsWeakened target strategy) due (λ text is. record { strategy = strategy; loaded = loads; is = is }) with
+  weaken_made target strategy due loads (inr with) = record {
+    outcome = unweakened target with.status_is refl (record { strategy = strategy; loaded = loads; is = with.text });
+    writable = with.writable;
+  }
+
   -- the line of a fault
   fault_by : (command : Command) (reads : Reads) (fault : CheckFault) (r : Result Due Stop) → reads_by players command ≡ reads
       → IsStopOf reads left new_left fault
@@ -158,6 +182,45 @@ pub upgrade_due : (strategy made : Strategy) (due : Due) → IsLegal strategy �
 upgrade_due strategy made due legal is with =
     due_is Done (IsUpgraded strategy) (text_of made) due
     (record { made = made; upgrade = is; canonical = upgrade_is strategy made legal is; alike = upgrade_alike strategy made is; spelled = refl })
+    with
+
+-- a strategy on another scale
+pub scaled_due : (factor : ℕ) (strategy made : Strategy) (due : Due) → CanScaleStrategy factor strategy → made ≡ scaled_strategy factor strategy
+    → IsLegalOfAdversary made → IsDueWith Done (λ text. text ≡ text_of made) due → IsDueWith Done (IsScaled factor strategy) due
+scaled_due factor strategy made due can is legal with =
+    due_is Done (IsScaled factor strategy) (text_of made) due
+    (record { can = can; legal = subst IsLegalOfAdversary is legal; spelled = ap text_of is })
+    with
+
+-- the canonical form of a strategy at another target
+pub weakened_due : (target : ℕ) (strategy weaker made : Strategy) (due : Due) → CanWeakenStrategy target strategy → weaker ≡ weakened_strategy target strategy
+    → IsLegal weaker → side_of weaker.nodes ≡ side_of strategy.nodes → made ≡ canonical_form weaker → IsDueWith Done (λ text. text ≡ text_of made) due
+    → IsDueWith Done (IsWeakened target strategy) due
+weakened_due target strategy weaker made due can is legal side form with =
+    let same : made ≡ canonical_form (weakened_strategy target strategy) = form ∙ ap canonical_form is in
+    due_is Done (IsWeakened target strategy) (text_of made) due
+    (record {
+      can = can;
+      canonical = canonical_is (weakened_strategy target strategy) (subst IsLegal is legal);
+      game = refl;
+      side = (canonical_alike (weakened_strategy target strategy)).side ∙ subst (λ (s : Strategy). side_of s.nodes ≡ side_of strategy.nodes) is side;
+      spelled = ap text_of same;
+    })
+    with
+
+-- the line of a game to which a strategy can't be moved
+pub unscaled_due : (factor : ℕ) (strategy : Strategy) (line : List ℕ) (due : Due) → ¬ CanScaleStrategy factor strategy
+    → line ≡ no_transfer_line strategy.game.bins (strategy.game.capacity * factor) (strategy.game.target * factor)
+    → IsDueWith NoTransfer (λ text. text ≡ line) due → IsDueWith NoTransfer (IsUnscaled factor strategy) due
+unscaled_due factor strategy line due cannot told with =
+    due_is NoTransfer (IsUnscaled factor strategy) line due (record { cannot = cannot; line = told }) with
+
+pub unweakened_due : (target bins capacity : ℕ) (strategy : Strategy) (line : List ℕ) (due : Due) → ¬ CanWeakenStrategy target strategy
+    → bins ≡ strategy.game.bins → capacity ≡ strategy.game.capacity → line ≡ no_transfer_line bins capacity target
+    → IsDueWith NoTransfer (λ text. text ≡ line) due → IsDueWith NoTransfer (IsUnweakened target strategy) due
+unweakened_due target bins capacity strategy line due cannot m g told with =
+    due_is NoTransfer (IsUnweakened target strategy) line due
+    (record { cannot = cannot; line = told ∙ λ i. no_transfer_line (m i) (g i) target })
     with
 
 -- the canonical form of a strategy that was found

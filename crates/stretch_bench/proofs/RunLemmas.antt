@@ -6,7 +6,7 @@ use Rattle.checker.specs.declared.fault.CheckFault.TheVariants as check_fault
 use Rattle.port_io.specs.Faults.{Rose}
 use Rattle.stretch_bench.specs.Call.{Call, Players}
 use Rattle.stretch_bench.specs.Commands.{Spells, SpellsNone}
-use Rattle.stretch_bench.specs.Due.{IsDue, IsOutcome, bad_answer, done, input_ended, rejected, rejected_front, undecided, unpackable, commanded, usage}
+use Rattle.stretch_bench.specs.Due.{IsDue, IsOutcome, bad_answer, done, input_ended, rejected, rejected_front, undecided, unpackable, unscaled, unweakened, commanded, usage}
 use Rattle.stretch_bench.specs.Form.{Reads, reads_front, reads_nothing, reads_whole}
 use Rattle.stretch_bench.specs.Lines.{usage_line}
 use Rattle.stretch_bench.specs.Pieces.{IsDueWith, IsEnding, IsMade, IsStopOf, all, due_text, some, unmade, unread}
@@ -17,6 +17,7 @@ use Rattle.stretch_bench.specs.declared.due.Stop.{Stop}
 use Rattle.stretch_bench.specs.declared.due.Stop.TheVariants.{Read}
 use Rattle.stretch_bench.specs.declared.status.Status.{Status}
 use Rattle.stretch_bench.specs.declared.status.Status.TheVariants.{Done, Rejected, Usage, Undecided, ReadFault, OutOfMemory, Unpackable, Ended, BadAnswer}
+use Rattle.stretch_bench.specs.declared.status.Status.TheVariants.{NoTransfer}
 
 abbrev pub call_of : Players → List (List ℕ) → Option (List ℕ) → Option (List ℕ) → Call
 call_of players words left new_left = record { players = players; words = words; left = left; new_left = new_left }
@@ -71,6 +72,11 @@ bad_answer_goes (inl e) = absurd cc
 bad_answer_goes (inr (inl e)) = absurd cc
 bad_answer_goes (inr (inr e)) = absurd cc
 
+no_transfer_goes : IsStopped NoTransfer → ⊥
+no_transfer_goes (inl e) = absurd cc
+no_transfer_goes (inr (inl e)) = absurd cc
+no_transfer_goes (inr (inr e)) = absurd cc
+
 outcome_goes : (players : Players) (left new_left : Option (List ℕ)) (command : Command) (status : Status) (text : List ℕ)
     → IsOutcome players left new_left command status text → IsStopped status → ⊥
 outcome_goes players left new_left command status text (done e is) stopped = stop_differs status Done e stopped done_goes
@@ -80,6 +86,8 @@ outcome_goes players left new_left command status text (unpackable items e c is)
 outcome_goes players left new_left command status text (undecided game budget table e c l is) stopped = stop_differs status Undecided e stopped undecided_goes
 outcome_goes players left new_left command status text (input_ended e c is) stopped = stop_differs status Ended e stopped ended_goes
 outcome_goes players left new_left command status text (bad_answer e c is) stopped = stop_differs status BadAnswer e stopped bad_answer_goes
+outcome_goes players left new_left command status text (unscaled factor e c is) stopped = stop_differs status NoTransfer e stopped no_transfer_goes
+outcome_goes players left new_left command status text (unweakened target e c is) stopped = stop_differs status NoTransfer e stopped no_transfer_goes
 
 pub due_goes : (call : Call) (status : Status) (text : List ℕ) → IsDue call status text → IsStopped status → ⊥
 due_goes call status text (commanded command spells is) stopped = outcome_goes call.players call.left call.new_left command status text is stopped

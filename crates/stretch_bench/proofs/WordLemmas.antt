@@ -1,5 +1,5 @@
 -- Words and the commands that they spell.
-use Rattle.std.proofs.Common.{◌≡◌, ◌≢◌, ◌-◌, ◌^◌, true, false, Result, Ok, IsTrue, ◌⊎◌, Bool, ⊎_elim, ◌<◌, ◌≤◌}
+use Rattle.std.proofs.Common.{◌≡◌, ◌≢◌, ◌-◌, ◌^◌, true, false, Result, Ok, Option, Some, None, IsTrue, ◌⊎◌, Bool, ⊎_elim, ◌<◌, ◌≤◌}
 use Rattle.std.proofs.Common.{ℕ, List, [], ◌∷◌, length, get_or, take, drop, decimal, String, string_bytes, sym, ap, refl, ◌∙◌, subst, arith}
 use Rattle.std.proofs.lemmas.List.{take_all, get_or-map, length-map}
 use Rattle.std.proofs.lemmas.Fmt.{decimal_injective, parse-decimal}
@@ -8,7 +8,7 @@ use Rattle.items.specs.declared.game.GameFault.{GameFault}
 use Rattle.checker.proofs.HeadLemmas.{no_game as is_no_game}
 use Rattle.std.specs.Str.Parse.{ParsesUnsigned}
 use Rattle.std.specs.Cmp.Lexicographic.{pointwise, same_text, bytes_decides}
-use Rattle.std.specs.Prelude.{nat_eq, not, ◌↔◌}
+use Rattle.std.specs.Prelude.{MatchOption, nat_eq, not, ◌↔◌}
 use Rattle.std.specs.declared.alloc.Global.{Global}
 use Rattle.items.specs.Game.{GameNumbers, IsGame, numbers}
 use Rattle.stretch_bench.specs.Commands.{spelling_of}
@@ -41,6 +41,11 @@ pub was_same : (b : Bool) → false ≡ not b → true ≡ b
 was_same true e = refl
 was_same false e = absurd cc
 
+-- a test that found one
+pub was_other : (b : Bool) → true ≡ not b → false ≡ b
+was_other true e = absurd cc
+was_other false e = refl
+
 -- ---- one word
 
 pub one_of : (ws : List (List ℕ)) → length ws ≡ 1 → ws ≡ get_or ws 0 [] ∷ []
@@ -64,6 +69,9 @@ two_of [] e = absurd (omega (arith, e))
 two_of (a ∷ []) e = absurd (omega (arith, e))
 two_of (a ∷ b ∷ []) e = refl
 two_of (a ∷ b ∷ c ∷ ws) e = absurd (omega (arith, e))
+
+pub two_words : (ws : List (List ℕ)) (a b : List ℕ) → length ws ≡ 2 → get_or ws 0 [] ≡ a → get_or ws 1 [] ≡ b → ws ≡ a ∷ b ∷ []
+two_words ws a b n p q = two_of ws n ∙ rw (p, q) refl
 
 pub rest_spelled : (words : List (String Global)) (first : String Global) (read word : List ℕ) → 1 ≤ length words → first ≡ get_or words 0 first
     → read ≡ string_bytes first → true ≡ pointwise nat_eq read word → spelling_of words ≡ word ∷ spelling_of (take (length words - 1) (drop 1 words))
@@ -132,6 +140,13 @@ pub not_within : {E : Type 0} (word : List ℕ) (low high number : ℕ) (r : Res
 not_within word low high number r fits parses is out n above below e =
     let same = number_told word n number high r below fits parses is e in
     ⊎_elim (λ (under : number < low). absurd (omega (arith, same))) (λ (over : high < number). absurd (omega (arith, same))) out
+
+-- a number after a name, as its word tells it or not
+pub told_after : (words : List (List ℕ)) (name word : List ℕ) (high : ℕ) (r : Option ℕ) → words ≡ name ∷ word ∷ []
+    → MatchOption r ((n : ℕ) → 1 ≤ n → n ≤ high → word ≢ decimal n) (λ n. (word ≡ decimal n) × (1 ≤ n) × (n ≤ high))
+    → MatchOption r ((n : ℕ) → 1 ≤ n → n ≤ high → words ≢ name ∷ decimal n ∷ []) (λ n. (words ≡ name ∷ decimal n ∷ []) × (1 ≤ n) × (n ≤ high))
+told_after words name word high None e none = λ n low up same. none n low up (ap (λ (ws : List (List ℕ)). get_or ws 1 []) (sym e ∙ same))
+told_after words name word high (Some n) e told = (e ∙ ap (λ (w : List ℕ). name ∷ w ∷ []) told.0, told.1, told.2)
 
 -- ---- games
 

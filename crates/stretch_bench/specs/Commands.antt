@@ -6,6 +6,7 @@ use Rattle.stretch_bench.specs.Form.{Form, Reads, reads_of}
 use Rattle.stretch_bench.specs.declared.command.Command.{Command}
 use Rattle.stretch_bench.specs.declared.command.Command.TheVariants.{Check, Play, Answer, Minimise, Upgrade}
 use Rattle.stretch_bench.specs.declared.command.Command.TheVariants.{Report, Drill, Search, Session}
+use Rattle.stretch_bench.specs.declared.command.Command.TheVariants.{Report, Drill, Search, Scale, Weaken}
 use Rattle.stretch_bench.specs.Check.{check}
 use Rattle.stretch_bench.specs.Play.{play_against}
 use Rattle.stretch_bench.specs.Answer.{answer}
@@ -15,6 +16,8 @@ use Rattle.stretch_bench.specs.Report.{report}
 use Rattle.stretch_bench.specs.Drill.{drill}
 use Rattle.stretch_bench.specs.Search.{search}
 use Rattle.stretch_bench.specs.Session.{session}
+use Rattle.stretch_bench.specs.Scale.{scale}
+use Rattle.stretch_bench.specs.Weaken.{weaken}
 
 -- the list of commands
 abbrev pub form_of : Players → Command → Form
@@ -27,6 +30,8 @@ form_of players Report = report
 form_of players (Drill number copies) = drill number copies
 form_of players (Search game budget table) = search game budget table
 form_of players Session = session
+form_of players (Scale factor) = scale factor
+form_of players (Weaken target) = weaken target
 
 -- what a command reads
 abbrev pub reads_by : Players → Command → Reads

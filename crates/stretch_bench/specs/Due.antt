@@ -2,7 +2,7 @@
 use Rattle.std.specs.Prelude.{◌≡◌, ℕ, List, [], Option}
 use Rattle.checker.specs.Accepted.{Rejects, RejectsTextLine}
 use Rattle.checker.specs.declared.fault.Wanted.{Wanted}
-use Rattle.checker.specs.declared.fault.Wanted.TheVariants.{Only}
+use Rattle.checker.specs.declared.fault.Wanted.TheVariants.{Either, Only}
 use Rattle.checker.specs.declared.fault.Why.{Why}
 use Rattle.items.specs.Game.{GameNumbers}
 use Rattle.referee_session.specs.declared.refereeing.Ending.TheVariants as endings
@@ -10,7 +10,7 @@ use Rattle.strategy_text.specs.declared.node.Side.TheVariants.{Adversary, Algori
 use Rattle.stretch_bench.specs.declared.command.Command.{Command}
 use Rattle.stretch_bench.specs.declared.command.Command.TheVariants as commands
 use Rattle.stretch_bench.specs.declared.status.Status.{Status}
-use Rattle.stretch_bench.specs.declared.status.Status.TheVariants.{Done, Rejected, Usage, Undecided, Unpackable}
+use Rattle.stretch_bench.specs.declared.status.Status.TheVariants.{Done, NoTransfer, Rejected, Usage, Undecided, Unpackable}
 use Rattle.stretch_bench.specs.declared.status.Status.TheVariants as statuses
 use Rattle.stretch_bench.specs.Answer.{IsUnpackable}
 use Rattle.stretch_bench.specs.Call.{Call, Players}
@@ -19,6 +19,8 @@ use Rattle.stretch_bench.specs.Form.{IsDone, IsRead, IsReadFirst, reads_front, r
 use Rattle.stretch_bench.specs.Lines.{rejected_line, usage_line}
 use Rattle.stretch_bench.specs.Search.{IsUndecided}
 use Rattle.stretch_bench.specs.Session.{IsTalkOf}
+use Rattle.stretch_bench.specs.Scale.{IsUnscaled}
+use Rattle.stretch_bench.specs.Weaken.{IsUnweakened}
 
 -- a fault was found, the first one of the bytes read and of the whole input
 pub record IsRejected (wanted : Wanted) (left new_left : Option (List ℕ)) (text : List ℕ) : Type 0 where
@@ -61,6 +63,14 @@ pub data IsOutcome (players : Players) (left new_left : Option (List ℕ)) (comm
   -- a line of a session is no answer
   bad_answer : status ≡ statuses.BadAnswer → command ≡ commands.Session
       → IsReadFirst (Only Adversary) left new_left (λ strategy rest. IsTalkOf endings.Bad strategy rest new_left text)
+      → IsOutcome players left new_left command status text
+  -- the strategy cannot be moved to the greater game
+  unscaled : (factor : ℕ) → status ≡ NoTransfer → command ≡ commands.Scale factor
+      → IsRead (Only Adversary) left new_left (λ strategy. IsUnscaled factor strategy text)
+      → IsOutcome players left new_left command status text
+  -- it cannot be moved to the target
+  unweakened : (target : ℕ) → status ≡ NoTransfer → command ≡ commands.Weaken target
+      → IsRead Either left new_left (λ strategy. IsUnweakened target strategy text)
       → IsOutcome players left new_left command status text
 
 -- what a run is asked for

@@ -11,6 +11,8 @@ pub mod Report
 pub mod Drill
 pub mod Search
 pub mod Session
+pub mod Scale
+pub mod Weaken
 pub mod Commands
 pub mod Due
 pub mod Run

@@ -9,7 +9,7 @@ use Rattle.stretch_bench.specs.declared.command.Command.{Command}
 use Rattle.stretch_bench.specs.declared.command.Command.TheVariants.{Session}
 use Rattle.stretch_bench.specs.declared.status.Status.{Status}
 use Rattle.stretch_bench.specs.declared.status.Status.TheVariants.{Done, ReadFault, WriteFault, OutOfMemory, Unpackable}
-use Rattle.stretch_bench.specs.declared.status.Status.TheVariants.{BadAnswer, Ended}
+use Rattle.stretch_bench.specs.declared.status.Status.TheVariants.{BadAnswer, Ended, NoTransfer}
 use Rattle.stretch_bench.specs.Call.{Call}
 use Rattle.stretch_bench.specs.Commands.{Spells, reads_by}
 use Rattle.stretch_bench.specs.Due.{IsDue}
@@ -74,9 +74,10 @@ pub data IsAnswer (run : Run) (status : Status) : Type 0 where
 abbrev pub IsStopped : Status → Type 0
 IsStopped status = (status ≡ ReadFault) ⊎ (status ≡ WriteFault) ⊎ (status ≡ OutOfMemory)
 
--- the command was carried out, or would have been with other items or other answers
+-- the command was carried out, or would have been with other items, other numbers or other answers
 abbrev pub IsServed : Status → Type 0
-IsServed status = (status ≡ Done) ⊎ (status ≡ Unpackable) ⊎ (status ≡ Ended) ⊎ (status ≡ BadAnswer)
+IsServed status =
+    (status ≡ Done) ⊎ (status ≡ Unpackable) ⊎ (status ≡ NoTransfer) ⊎ (status ≡ Ended) ⊎ (status ≡ BadAnswer)
 
 -- a command that reads is served exactly where the bytes are the text of a legal strategy of the side that it wants, or
 -- begin with it where lines follow it

@@ -7,7 +7,9 @@ ghost use Rattle.stretch_bench.specs.Commands.{Spells, SpellsNone, spelling_of};
 use crate::answering::answer_of;
 use crate::drilling::drill_of;
 use crate::playing::player_of;
+use crate::scaling::scale_of;
 use crate::searching::search_of;
+use crate::weakening::weaken_of;
 use items::{Game, Nums};
 use online_play::{Online, Player};
 use std::alloc::{AllocError, Global};
@@ -51,6 +53,16 @@ pub enum Command {
     },
     /// Reads a strategy of the adversary, and lets it play against the answers that follow it line by line.
     Session,
+    /// Reads a strategy of the adversary and writes it on another scale.
+    Scale {
+        /// What its capacity and its target are multiplied by, from 1 to 120.
+        factor: u16,
+    },
+    /// Reads a strategy and writes its canonical form at another target.
+    Weaken {
+        /// The target, from 1 to 240.
+        target: u16,
+    },
 }
 
 /// The command that the words spell; None exactly where they spell none. A player is asked for by its name, and the
@@ -99,6 +111,12 @@ pub fn read_words(
             budget,
             table,
         }));
+    }
+    if let Some(factor) = scale_of(words) {
+        return Ok(Some(Command::Scale { factor }));
+    }
+    if let Some(target) = weaken_of(words) {
+        return Ok(Some(Command::Weaken { target }));
     }
     match answer_of(alloc, words)? {
         Some(items) => Ok(Some(Command::Answer { items })),

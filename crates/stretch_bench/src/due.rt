@@ -28,9 +28,11 @@ use crate::lines::{line_of_rejected, line_of_usage};
 use crate::minimising::minimised;
 use crate::playing::played;
 use crate::reporting::reported;
+use crate::scaling::scaled;
 use crate::searching::searched;
 use crate::status::Status;
 use crate::upgrading::upgraded;
+use crate::weakening::weakened;
 use checker::{CheckFault, Wanted, load};
 use online_play::{Online, Player};
 use port_io::{Failed, Sink, Source, put_all};
@@ -192,6 +194,14 @@ fn made<S: Source>(
             table,
         } => Ok(searched(alloc, game, *budget, *table)?),
         Command::Session => unreachable!(),
+        Command::Scale { factor } => {
+            let strategy = load(alloc, source, adversary)?;
+            Ok(scaled(alloc, *factor, strategy)?)
+        }
+        Command::Weaken { target } => {
+            let strategy = load(alloc, source, Wanted::Either)?;
+            Ok(weakened(alloc, *target, strategy)?)
+        }
     }
 }
 

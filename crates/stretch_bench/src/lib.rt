@@ -18,6 +18,7 @@ mod number;
 mod playing;
 mod reporting;
 mod run;
+mod scaling;
 mod searching;
 mod settings;
 mod status;
@@ -25,6 +26,7 @@ mod talking;
 #[cfg(test)]
 mod tests;
 mod upgrading;
+mod weakening;
 
 pub use bench::run_bench;
 pub use command::{Command, read_words};

@@ -22,7 +22,7 @@ pub enum Status {
     OutOfMemory,
     /// The items of the words do not fit into the bins.
     Unpackable,
-    /// The strategy has no scaled or weakened one of this number.
+    /// The strategy can't be moved to the game that was asked for.
     NoTransfer,
     /// The input of a session ended before the play did.
     Ended,

@@ -19,6 +19,20 @@ nodes 5
 end
 ";
 
+// The same on twice the scale.
+pub(crate) const LEGAL_TWICE: &str = "\
+stretch 1
+game 2 6 8
+side adversary
+nodes 5
+0 loads 4 4 items 2 2 4 send 4 pack 2 4 / 2 4 on 4 over
+1 loads 4 0 items 2 2 send 4 pack 2 4 / 2 on 4 over on 0 to 0
+2 loads 2 2 items 2 2 send 6 pack 6 / 2 2 on 2 over
+3 loads 2 0 items 2 send 2 pack 2 2 / - on 2 to 1 on 0 to 2
+4 loads 0 0 items - send 2 pack 2 / - on 0 to 3
+end
+";
+
 // The first one in format 2, with packings only where the play ends.
 pub(crate) const OF_FORMAT_2: &str = "\
 stretch 2
@@ -267,7 +281,7 @@ pub(crate) fn is_found(alloc: Global, row: &Found) -> Result<bool, AllocError> {
     Ok(checked.bytes().starts_with(row.3.as_bytes()))
 }
 
-const NO_COMMANDS: [&str; 26] = [
+const NO_COMMANDS: [&str; 33] = [
     "",
     "check now",
     "play",
@@ -294,6 +308,13 @@ const NO_COMMANDS: [&str; 26] = [
     "search 2 121 130 budget=1 table=1",
     "session now",
     "sessions",
+    "scale 0",
+    "scale 121",
+    "scale 02",
+    "scale",
+    "weaken 0",
+    "weaken 241",
+    "weaken 7 now",
 ];
 
 fn is_usage(alloc: Global, words: &str) -> Result<bool, AllocError> {

@@ -1,6 +1,6 @@
 use Rattle.std.proofs.Common.{◌<◌, length, refl, arith}
 use Rattle.std.proofs.lemmas.List.{length-map}
-use Rattle.stretch_bench.proofs.OutcomeLemmas.{answer_made, drill_made, made_as, play_made, search_made}
+use Rattle.stretch_bench.proofs.OutcomeLemmas.{answer_made, drill_made, made_as, play_made, scale_made, search_made, weaken_made}
 use Rattle.stretch_bench.proofs.PlayLemmas.{named_at, place_within}
 use Rattle.stretch_bench.proofs.due.made.Goals as goal
 
@@ -30,3 +30,15 @@ returns-in_ok-searched-in-Search-clause-due g c =
     made_as _ _ _ _ _ _ c.in-Search.is
     (search_made _ _ _ c.in-Search.game c.in-Search.budget c.in-Search.table c.in_ok-searched-in-Search.field-0 refl
     c.in_ok-searched-in-Search.ensures.found)
+
+pub returns-in_ok-scaled-in-Scale-clause-due : goal.returns-in_ok-scaled-in-Scale-clause-due
+returns-in_ok-scaled-in-Scale-clause-due g c =
+    made_as _ _ _ _ _ _ c.in-Scale.is
+    (scale_made _ _ _ c.in-Scale.factor c.in_ok-strategy-in-Scale.strategy c.in_ok-scaled-in-Scale.field-0 c.in_ok-strategy-in-Scale.ensures.loaded
+    c.in_ok-scaled-in-Scale.ensures.made)
+
+pub returns-in_ok-weakened-in-Weaken-clause-due : goal.returns-in_ok-weakened-in-Weaken-clause-due
+returns-in_ok-weakened-in-Weaken-clause-due g c =
+    made_as _ _ _ _ _ _ c.in-Weaken.is
+    (weaken_made _ _ _ c.in-Weaken.target c.in_ok-strategy-in-Weaken.strategy c.in_ok-weakened-in-Weaken.field-0 c.in_ok-strategy-in-Weaken.ensures.loaded
+    c.in_ok-weakened-in-Weaken.ensures.made)
