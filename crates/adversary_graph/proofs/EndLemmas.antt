@@ -24,7 +24,8 @@ use Rattle.packing_witness.proofs.PackingLemmas.{IsPacking-without_last, without
 use Rattle.loads.specs.After.{after}
 use Rattle.loads.specs.Position.{position}
 use Rattle.loads.specs.declared.position.Position.{Position}
-use Rattle.online_play.specs.Algorithm.{IsAlgorithm, placed, run}
+use Rattle.loads.specs.ByBin.{placed}
+use Rattle.online_play.specs.Algorithm.{IsAlgorithm, run}
 use Rattle.online_play.specs.Laws.{ComesTo}
 use Rattle.strategy_text.specs.declared.node.AdvNode.{AdvNode}
 use Rattle.strategy_text.specs.declared.node.Placement.{Placement}

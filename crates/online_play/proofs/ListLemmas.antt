@@ -1,5 +1,5 @@
 -- The packable lists of a game, written out.
-use Rattle.std.proofs.Common.{◌≡◌, ℕ, zero, suc, ◌+◌, ◌-◌, ◌*◌, ◌<◌, ◌≤◌, Bool, true, ◌&&◌, List, [], ◌∷◌, length, get_or, map, sum, refl, sym, ap, ◌∙◌, ◌⊎◌, ⊎_elim, inl}
+use Rattle.std.proofs.Common.{◌≡◌, ℕ, zero, suc, ◌*◌, ◌<◌, ◌≤◌, Bool, true, ◌&&◌, List, [], ◌∷◌, length, get_or, map, sum, refl, sym, ap, ◌∙◌, ◌⊎◌, ⊎_elim, inl}
 use Rattle.std.proofs.Common.{inr, subst, arith}
 use Rattle.std.specs.Prelude.{All, Contains, nat_le, filter}
 use Rattle.std.specs.List.{range_with_len, flat_map, list_any}

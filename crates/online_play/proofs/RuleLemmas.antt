@@ -5,7 +5,7 @@ use Rattle.std.proofs.lemmas.Bool.{cases_lt, lt-ltb, le-ltb}
 use Rattle.std.proofs.lemmas.List.Sums.{get_or-le-sum_by, sum_by-set, sum_by_more, sum_by-take-le}
 use Rattle.items.specs.Game.{GameNumbers, IsGame}
 use Rattle.items.specs.Packable.{Packable}
-use Rattle.online_play.specs.Algorithm.{placed}
+use Rattle.loads.specs.ByBin.{placed}
 use Rattle.online_play.specs.Rules.{lowest_bin, greatest, least, best_fit}
 use Rattle.online_play.specs.Replays.{rule_of}
 use Rattle.online_play.specs.PlayersAnswer.{NamesABin, first_fit_names, best_fit_names, least_loaded_names}

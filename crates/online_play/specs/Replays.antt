@@ -1,6 +1,6 @@
 use Rattle.std.specs.Prelude.{ℕ, ◌-◌, List, fold, length, replicate, slice_index, take}
 use Rattle.items.specs.Game.{GameNumbers}
-use Rattle.online_play.specs.Algorithm.{placed}
+use Rattle.loads.specs.ByBin.{placed}
 use Rattle.online_play.specs.Rules.{best_fit, first_fit, least_loaded}
 use Rattle.online_play.specs.declared.rule.Rule.{Rule}
 use Rattle.online_play.specs.declared.rule.Rule.TheVariants.{FirstFit, BestFit, LeastLoaded}

@@ -6,8 +6,8 @@ ghost use Rattle.items.specs.Packable.{Packable};
 ghost use Rattle.online_play.specs.Rules.{best_fit, first_fit, greatest, least, least_loaded, lowest_bin};
 ghost use Rattle.online_play.specs.Replays.{answer_under, rule_of};
 
-use crate::actual::Actual;
 use items::Game;
+use loads::Actual;
 
 /// How a named player chooses.
 #[derive(Clone, Copy)]

@@ -2,7 +2,7 @@
 
 ghost use Rattle.std.specs.Prelude.{◌≡◌, ◌+◌, ◌<◌, ◌≤◌, length, replicate, slice_index};
 ghost use Rattle.items.specs.Game.{IsGame};
-ghost use Rattle.online_play.specs.Algorithm.{placed};
+ghost use Rattle.loads.specs.ByBin.{placed};
 
 use items::Game;
 use std::marker::Model;
