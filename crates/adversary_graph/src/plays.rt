@@ -11,7 +11,8 @@ ghost use Rattle.adversary_graph.specs.Nodes.{placements_of};
 ghost use Rattle.adversary_graph.specs.Play.{IsLost, beyond, child_of, end_at, end_of, end_packing, first_child};
 ghost use Rattle.adversary_graph.specs.Play.{load_hit, next_at, play, without_all};
 ghost use Rattle.adversary_graph.specs.Pools.{IsRoot};
-ghost use Rattle.adversary_graph.specs.Playing.{IsCourse, IsEnd, IsStep, ShowsEndPacking, StandsReady, play_of};
+ghost use Rattle.adversary_graph.specs.Playing.{IsCourse, IsEnd, IsStep, ShowsEndPacking, StandsReady};
+ghost use Rattle.adversary_graph.specs.Told.{play_of};
 
 use crate::laws::pool_is_legal;
 use crate::pool::{AdvJudged, AdvPool};

@@ -142,8 +142,8 @@ fn bytes_in<'a>(bytes: &'a [u8], slot: &'a Slot) -> &'a [u8]
     }
 }
 
-// Keeps the position whose bytes are the last ones, from this place on, in a slot at the end of slots that have room for
-// one more.
+// Keeps the position whose bytes are the last ones, from this place on, in a slot at the end of slots that have room
+// for one more.
 fn keep_last(slots: &mut Vec<Slot>, bytes: &mut Vec<u8>, start: usize)
     requires room { vec_len slots.old < vec_capacity slots.old }
     requires within { start ≤ length bytes.old.items }

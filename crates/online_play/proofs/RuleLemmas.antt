@@ -44,7 +44,8 @@ rules_name BestFit = best_fit_names
 rules_name LeastLoaded = least_loaded_names
 
 -- the bin that a rule named for an item of a replay is one of the bins
-pub named_in_range : (rule : PlayerRule) (target size bin : ℕ) (loads actual : List ℕ) → loads ≡ actual → 0 < length actual → bin ≡ rule_of rule target loads size → bin < length actual
+pub named_in_range : (rule : PlayerRule) (target size bin : ℕ) (loads actual : List ℕ) → loads ≡ actual → 0 < length actual → bin ≡ rule_of rule target loads size
+    → bin < length actual
 named_in_range rule target size bin loads actual e l is =
     let n = ap length e in
     let h = rules_name rule in

@@ -115,7 +115,8 @@ none-prepended (Some x) = refl
 pub from_none : {X : Type 0} (so_far : List X) (read r : Option (List X × List (List ℕ))) → so_far ≡ [] → prepended so_far read ≡ r → read ≡ r
 from_none so_far read r e h = sym (rw e (none-prepended read)) ∙ h
 
-pub many_fails : {X : Type 0} (begin : Beginning) (item : Item X) (so_far : List X) (words rest left after-it : List (List ℕ)) (total : Option (List X × List (List ℕ))) (e : LineStop)
+pub many_fails : {X : Type 0} (begin : Beginning) (item : Item X) (so_far : List X) (words rest left after-it : List (List ℕ)) (total : Option (List X × List (List ℕ)))
+    (e : LineStop)
     → begin words ≡ Some rest → 0 < length words → Reads (let r : Result X LineStop = Err e in r) left (item rest) → Goes begin item so_far words total
     → Reads (let r : Result (List X) LineStop = Err e in r) after-it total
 many_fails begin item so_far words rest left after-it total Memory e some k h = tt

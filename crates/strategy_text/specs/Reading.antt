@@ -41,7 +41,8 @@ Reads (Err Memory) left read = Unit {0}
 Reads (Err Form) left read = read ≡ None
 
 -- what a function wrote, with the words that it left, is what reading gives, unless memory ran out
-abbrev pub ReadsInto : {X : Type 0} → Result (Unit {0}) LineStop → X → List (List ℕ) → Option (X × List (List ℕ)) → Type 0
+abbrev pub ReadsInto : {X : Type 0} → Result (Unit {0}) LineStop → X → List (List ℕ)
+    → Option (X × List (List ℕ)) → Type 0
 ReadsInto (Ok u) x left read = read ≡ Some (x, left)
 ReadsInto (Err Memory) x left read = Unit {0}
 ReadsInto (Err Form) x left read = read ≡ None

@@ -257,8 +257,8 @@ pub fn parse_adversary(
 }
 
 /// Reads the node that [`parse_adversary`] gives into a node in place of what it holds, in the memory of its lists of
-/// loads, items and placements and of its packing where that is enough. False exactly where the line spells none; the node may then hold
-/// anything.
+/// loads, items and placements and of its packing where that is enough. False exactly where the line spells none; the
+/// node may then hold anything.
 #[inline(never)]
 pub fn read_adversary(
     alloc: Global,

@@ -9,7 +9,8 @@ use Rattle.strategy_text.proofs.Taken.{list_shrinks}
 use Rattle.strategy_text.proofs.adversary.read_bins.Goals as goal
 
 -- what is refused of a list that is filled is refused of one that is made
-refused : (e : LineStop) (list : List ℕ) (left : List (List ℕ)) (read : Option (List ℕ × List (List ℕ))) → ReadsInto (let r : Result (Unit {0}) LineStop = Err e in r) list left read
+refused : (e : LineStop) (list : List ℕ) (left : List (List ℕ)) (read : Option (List ℕ × List (List ℕ)))
+    → ReadsInto (let r : Result (Unit {0}) LineStop = Err e in r) list left read
     → Reads (let r : Result (List ℕ) LineStop = Err e in r) left read
 refused Memory list left read h = h
 refused Form list left read h = h

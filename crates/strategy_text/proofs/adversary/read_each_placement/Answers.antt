@@ -27,7 +27,8 @@ loop-words-preserved c =
       after_shrinks (codes "on") c.loop-words.words c.accept.new.self c.loop-words-test.ensures,
       placement_shrinks c.accept.new.self (c.in-Some.placement, c.read_placement.new.words) c.in-Some.ensures,
     ) in
-    rw c.in_ok-push.ensures.ok (many_more (after (codes "on")) placement_at c.loop-words.placements c.loop-words.words c.accept.new.self c.read_placement.new.words c.in-Some.placement _
+    rw c.in_ok-push.ensures.ok (many_more (after (codes "on")) placement_at c.loop-words.placements c.loop-words.words c.accept.new.self
+    c.read_placement.new.words c.in-Some.placement _
     c.loop-words-test.ensures c.in-Some.ensures less c.loop-words.invariant)
 
 pub returns : goal.returns

@@ -10,4 +10,5 @@ returns-in_err-write_labelled g c =
 
 pub returns : goal.returns
 returns g c =
-    writes_words c.write_labelled-2.result _ _ _ (codes "loads" ∷ list_words c.args.loads.now) (codes "items" ∷ list_words c.args.items.now) c.in_ok-write_labelled.ensures c.write_labelled-2.ensures
+    writes_words c.write_labelled-2.result _ _ _ (codes "loads" ∷ list_words c.args.loads.now) (codes "items" ∷ list_words c.args.items.now) c.in_ok-write_labelled.ensures
+    c.write_labelled-2.ensures

@@ -15,7 +15,8 @@ returns-in_err-write_line g c =
 pub returns-in_err-write_line-2 : goal.returns-in_err-write_line-2
 unfolding game_line
 returns-in_err-write_line-2 g c =
-    stops_two c.from_residual-in_err-write_line-2.result _ _ _ (ended (first_line c.args.format)) (ended (game_line c.args.game.now)) _ c.from_residual-in_err-write_line-2.ensures.0
+    stops_two c.from_residual-in_err-write_line-2.result _ _ _ (ended (first_line c.args.format)) (ended (game_line c.args.game.now)) _
+    c.from_residual-in_err-write_line-2.ensures.0
     (rw (c.as_bytes.ensures.value, c.first_line.ensures) at c.in_ok-write_line.ensures)
     (rw (c.m.ensures.value, c.g.ensures.value, c.t.ensures.value) at c.in_err-write_line-2.ensures)
 
@@ -31,7 +32,8 @@ returns-in_err-write_line-3 g c =
 pub returns : goal.returns
 unfolding game_line count_line
 returns g c =
-    writes_four c.write_line-4.result _ _ _ _ _ (ended (first_line c.args.format)) (ended (game_line c.args.game.now)) (ended (side_line c.args.side)) (ended (count_line c.args.count))
+    writes_four c.write_line-4.result _ _ _ _ _ (ended (first_line c.args.format)) (ended (game_line c.args.game.now)) (ended (side_line c.args.side))
+    (ended (count_line c.args.count))
     (rw (c.as_bytes.ensures.value, c.first_line.ensures) at c.in_ok-write_line.ensures)
     (rw (c.m.ensures.value, c.g.ensures.value, c.t.ensures.value) at c.in_ok-write_line-2.ensures)
     (rw c.word.ensures.value at c.in_ok-write_line-3.ensures)

@@ -9,8 +9,11 @@ use Rattle.strategy_text.proofs.words.Words.accept.Goals.{Else-at-line}
 pub returns-then-not-is_first : goal.returns-then-not-is_first
 returns-then-not-is_first c =
     let d = (goal.at.returns-then-not-is_first c).Else-at-line in
-    let word = c.args.word.now in
-    (ap (after word) (words_split_at d.self.inside.line.now _ _ d.self.view_is (omega (arith, d.if-at-line.false))) ∙ after_other word _ _ (λ e. false≢true (c.if-not-is_first.ensures.exact.1 e)), refl)
+    let word = c.args.word.now in (
+      ap (after word) (words_split_at d.self.inside.line.now _ _ d.self.view_is (omega (arith, d.if-at-line.false)))
+          ∙ after_other word _ _ (λ e. false≢true (c.if-not-is_first.ensures.exact.1 e)),
+      refl,
+    )
 
 pub returns : goal.returns
 returns c =
@@ -20,4 +23,5 @@ returns c =
     let word = c.args.word.now in
     let same = c.if-not-is_first.ensures.exact.0 refl in
     let past = left_from-past_word line _ at (length word) (omega (arith, c.if-at-line.false)) (take_rest line at) (sym (ap length same)) in
-    ap (after word) (words_split_at d.self.inside.line.now _ _ d.self.view_is (omega (arith, d.if-at-line.false))) ∙ after_same word _ _ same ∙ ap (λ left. Some (words_left left)) (sym past)
+    ap (after word) (words_split_at d.self.inside.line.now _ _ d.self.view_is (omega (arith, d.if-at-line.false)))
+    ∙ after_same word _ _ same ∙ ap (λ left. Some (words_left left)) (sym past)

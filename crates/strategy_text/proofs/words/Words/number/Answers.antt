@@ -7,8 +7,11 @@ use Rattle.strategy_text.proofs.words.Words.number.Goals.{Else-at-line}
 
 pub returns-in_default-clause-read : goal.returns-in_default-clause-read
 returns-in_default-clause-read c =
-    let d = (goal.at.returns-in_default-clause-read c).Else-at-line in
-    (ap (number_at c.args.high) (words_split_at d.self.inside.line.now _ _ d.self.view_is (omega (arith, d.if-at-line.false))) ∙ number_at-none c.args.high _ _ c.in_default.ensures.exact, refl)
+    let d = (goal.at.returns-in_default-clause-read c).Else-at-line in (
+      ap (number_at c.args.high) (words_split_at d.self.inside.line.now _ _ d.self.view_is (omega (arith, d.if-at-line.false)))
+          ∙ number_at-none c.args.high _ _ c.in_default.ensures.exact,
+      refl,
+    )
 
 pub returns-clause-read : goal.returns-clause-read
 returns-clause-read c =
@@ -17,5 +20,6 @@ returns-clause-read c =
     let at = c.self.inside.at in
     let n = c.in-Some.n in
     let past = left_from-past_word line _ at c.in-Some.end (omega (arith, c.if-at-line.false)) (take_rest line at) c.in-Some.ensures.exact.1 in
-    ap (number_at c.args.high) (words_split_at d.self.inside.line.now _ _ d.self.view_is (omega (arith, d.if-at-line.false))) ∙ number_at-some c.args.high n _ _ c.in-Some.ensures.exact.0
+    ap (number_at c.args.high) (words_split_at d.self.inside.line.now _ _ d.self.view_is (omega (arith, d.if-at-line.false)))
+    ∙ number_at-some c.args.high n _ _ c.in-Some.ensures.exact.0
     ∙ ap (λ left. Some (n, words_left left)) (sym past)
