@@ -21,10 +21,12 @@ use Rattle.items.proofs.SizesLemmas.{sizes_are_sizes}
 use Rattle.packing_witness.specs.Edits.{without}
 use Rattle.packing_witness.proofs.PackableLemmas.{IsPacking-Same, Packable-part, sum-packing-le}
 use Rattle.packing_witness.proofs.PackingLemmas.{IsPacking-without_last, without_some}
+use Rattle.items.proofs.ListLemmas.{range_push}
 use Rattle.loads.specs.After.{after}
 use Rattle.loads.specs.Position.{position}
 use Rattle.loads.specs.declared.position.Position.{Position}
-use Rattle.online_play.specs.Algorithm.{IsAlgorithm, placed, run}
+use Rattle.loads.specs.ByBin.{placed}
+use Rattle.online_play.specs.Algorithm.{IsAlgorithm, run}
 use Rattle.online_play.specs.Laws.{ComesTo}
 use Rattle.strategy_text.specs.declared.node.AdvNode.{AdvNode}
 use Rattle.strategy_text.specs.declared.node.Placement.{Placement}
@@ -392,10 +394,6 @@ pub without_more : (n size : ℕ) (bins : List (List ℕ)) → without_all (repl
     (without_all (replicate n size) bins)
 without_more n size bins =
     ap (λ (xs : List ℕ). without_all xs bins) (sym (replicate-append-replicate n 1 size)) ∙ without_all-append (replicate n size) (size ∷ []) bins
-
-range_push : (a n : ℕ) → range_with_len a (suc n) ≡ range_with_len a n ++ (a + n) ∷ []
-range_push a zero = ap (λ (x : ℕ). x ∷ []) (omega arith)
-range_push a (suc n) = ap (λ (xs : List ℕ). a ∷ xs) (range_push (a + 1) n ∙ ap (λ (x : ℕ). range_with_len (a + 1) n ++ x ∷ []) (omega arith))
 
 pub beyond_more : (f : ℕ → ℕ) (i : ℕ) (bins : List (List ℕ))
     → without_all (flat_map (λ size. replicate (f size) size) (range_with_len 1 (i + 1))) bins

@@ -3,3 +3,4 @@ pub mod WonLemmas
 pub mod PoolLemmas
 pub mod PlayLemmas
 pub mod EndLemmas
+pub mod RenamedLemmas

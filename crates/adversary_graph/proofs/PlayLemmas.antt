@@ -24,7 +24,8 @@ use Rattle.items.proofs.MemberLemmas.{Contains-tail, Contains-Same}
 use Rattle.items.proofs.SizesLemmas.{sizes_are_sizes}
 use Rattle.loads.proofs.DistinctLemmas.{Contains-distinct}
 use Rattle.loads.proofs.LoadsLemmas.{Same-loads_after}
-use Rattle.online_play.specs.Algorithm.{IsAlgorithm, placed, run}
+use Rattle.loads.specs.ByBin.{placed}
+use Rattle.online_play.specs.Algorithm.{IsAlgorithm, run}
 use Rattle.online_play.specs.Laws.{ComesTo}
 use Rattle.online_play.proofs.PlayLemmas.{sum_small, run-le-sum}
 use Rattle.online_play.proofs.RunLemmas.{run-push, length-run}

@@ -7,4 +7,6 @@ pub mod Laws
 pub mod Pools
 pub mod NodesAreJudged
 pub mod Play
+pub mod Told
+pub mod Renamed
 pub mod Playing

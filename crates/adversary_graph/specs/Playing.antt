@@ -1,24 +1,14 @@
--- What the private contracts of a play cite; nothing here but `play_of` has to be believed.
+-- What the private contracts of a play cite; nothing here has to be believed.
 use Rattle.std.specs.Prelude.{◌≡◌, ℕ, ◌+◌, ◌<◌, List, ◌++◌, Option, Some, None, slice_get}
 use Rattle.items.specs.Game.{GameNumbers}
 use Rattle.items.specs.Multiset.{Same}
 use Rattle.online_play.specs.Algorithm.{bins_of, run}
 use Rattle.online_play.specs.Laws.{ComesTo}
-use Rattle.online_play.specs.declared.transcript.Transcript.{Transcript}
 use Rattle.strategy_text.specs.declared.node.AdvNode.{AdvNode}
 use Rattle.adversary_graph.specs.Nodes.{packing_of, position_of, sent_items}
-use Rattle.adversary_graph.specs.Play.{Play, End, end_at, end_by_step, end_packing}
+use Rattle.adversary_graph.specs.Play.{End, end_at, end_by_step, end_packing}
 use Rattle.adversary_graph.specs.Pools.{Pool}
 use Rattle.adversary_graph.specs.declared.plays.Course.{Course}
-
--- the play that a transcript tells
-abbrev pub play_of : Transcript → Play
-play_of transcript = record {
-  items = transcript.items;
-  bins = transcript.bins;
-  loads = transcript.loads;
-  packing = transcript.packing;
-}
 
 -- the bins and the loads of a play so far are those of the algorithm
 pub record IsCourse (game : GameNumbers) (answer : List ℕ → ℕ) (course : Course) : Type 0 where

@@ -11,14 +11,16 @@ ghost use Rattle.adversary_graph.specs.Nodes.{placements_of};
 ghost use Rattle.adversary_graph.specs.Play.{IsLost, beyond, child_of, end_at, end_of, end_packing, first_child};
 ghost use Rattle.adversary_graph.specs.Play.{load_hit, next_at, play, without_all};
 ghost use Rattle.adversary_graph.specs.Pools.{IsRoot};
-ghost use Rattle.adversary_graph.specs.Playing.{IsCourse, IsEnd, IsStep, ShowsEndPacking, StandsReady, play_of};
+ghost use Rattle.adversary_graph.specs.Playing.{IsCourse, IsEnd, IsStep, ShowsEndPacking, StandsReady};
+ghost use Rattle.adversary_graph.specs.Told.{play_of};
 
 use crate::laws::pool_is_legal;
 use crate::pool::{AdvJudged, AdvPool};
 use crate::step::packing_of;
 use items::laws::game_is_legal;
 use items::{Game, Nums};
-use online_play::{Actual, Bins, Online, Transcript};
+use loads::Actual;
+use online_play::{Bins, Online, Transcript};
 use packing_witness::Packing;
 use std::alloc::{AllocError, Global};
 use strategy_text::{Placement, Step, Then};

@@ -23,8 +23,8 @@ use packing_witness::Packing;
 use strategy_text::{AdvNode, Format, Placement, Rule, Step, Then};
 
 /// The first rule that the node breaks under these terms as the node that follows the earlier ones; None exactly where
-/// it breaks none. The rule `root` is judged only where the node is the last one. Takes no memory; the cost is linear in
-/// the node.
+/// it breaks none. The rule `root` is judged only where the node is the last one. Takes no memory; the cost is linear
+/// in the node.
 pub fn judge<E: EarlierPositions>(
     terms: &Terms,
     earlier: &E,

@@ -46,7 +46,8 @@ fn put(pool: &mut AdvPool, node: AdvNode, last: bool) -> Result<Option<Rule>, Al
     Ok(fault)
 }
 
-// The same with a node that a line spells; the rule is `game` where it spells none.
+// Judges the node that a line spells, and puts it into the pool where it breaks no rule; the rule is `game` where the
+// line spells none.
 fn judged(
     alloc: Global,
     pool: &mut AdvPool,
@@ -478,7 +479,7 @@ fn each_player_loses_its_play(rt: HostRuntime) {
     assert!(rt; each_comes_to(rt.alloc()).unwrap_or(false));
 }
 
-// The same where the pool was a strategy in between.
+// Whether the play against first fit is as told where the pool was a strategy in between.
 fn comes_to_again(alloc: Global, play: &Play) -> Result<bool, AllocError> {
     let pool = pool_of(alloc, play.format, play.nodes)?;
     if !pool.is_root(4) {

@@ -23,7 +23,7 @@ use Rattle.loads.specs.Wins.{empty_position}
 use Rattle.loads.specs.declared.position.Position.{Position}
 use Rattle.loads.proofs.DescendingLemmas.{position-cases}
 use Rattle.loads.proofs.LoadsLemmas.{Same-loads_after}
-use Rattle.online_play.specs.Algorithm.{placed}
+use Rattle.loads.specs.ByBin.{placed}
 use Rattle.online_play.proofs.WonLemmas.{empty_is}
 use Rattle.good_situations.specs.Finish.{Finishes}
 use Rattle.good_situations.specs.BigFinish.{BigFinishes}

@@ -3,7 +3,8 @@ use Rattle.std.proofs.Common.{◌≡◌, ℕ, ◌-◌, ◌<◌, List, [], ◌∷
 use Rattle.std.proofs.lemmas.List.{append_assoc, append-nil, get_or_at, length-append, take_at}
 use Rattle.std.proofs.lemmas.List.Sums.{fold_push}
 use Rattle.items.specs.Game.{GameNumbers}
-use Rattle.online_play.specs.Algorithm.{placed, run}
+use Rattle.loads.specs.ByBin.{placed}
+use Rattle.online_play.specs.Algorithm.{run}
 use Rattle.online_play.proofs.RunLemmas.{run-push}
 use Rattle.online_play.proofs.WonLemmas.{run-nil}
 use Rattle.strategy_text.specs.declared.node.AlgNode.{AlgNode}

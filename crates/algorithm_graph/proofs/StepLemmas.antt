@@ -7,7 +7,7 @@ use Rattle.std.proofs.lemmas.List.Sums.{fold_push, get_or-le-sum_by, sum_by_more
 use Rattle.std.proofs.lemmas.Option.{slice_get_within}
 use Rattle.items.specs.Game.{GameNumbers, IsGame}
 use Rattle.items.specs.Packable.{Packable}
-use Rattle.online_play.specs.Algorithm.{placed}
+use Rattle.loads.specs.ByBin.{placed}
 use Rattle.online_play.proofs.PlayLemmas.{sum_small}
 use Rattle.good_situations.specs.KeptOrder.{CanAdd, FinishOrder, KeptOrder}
 use Rattle.strategy_text.specs.declared.node.Act.{Act}

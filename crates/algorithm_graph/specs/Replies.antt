@@ -2,7 +2,7 @@
 use Rattle.std.specs.Prelude.{ℕ, ◌-◌, ◌==◌, List, Option, Some, None, length, take, replicate, slice_get, slice_index}
 use Rattle.std.specs.Prelude.{find, fold, position}
 use Rattle.items.specs.Game.{GameNumbers}
-use Rattle.online_play.specs.Algorithm.{placed}
+use Rattle.loads.specs.ByBin.{placed}
 use Rattle.good_situations.specs.KeptOrder.{KeptOrder, kept_order, finish_bin, big_bin, big_order_after}
 use Rattle.strategy_text.specs.declared.node.Act.{Act}
 use Rattle.strategy_text.specs.declared.node.Act.TheVariants.{Finish, Big, Reply}

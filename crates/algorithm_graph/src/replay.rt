@@ -13,7 +13,7 @@ ghost use Rattle.algorithm_graph.specs.Replaying.{stand_of, IsStandIn, IsStep, L
 use crate::pool::AlgJudged;
 use good_situations::{BigFinish, Finish};
 use items::Game;
-use online_play::Actual;
+use loads::Actual;
 use strategy_text::{Act, AlgNode, Entry};
 
 /// Where a replay stands: at a node, or under an order of the bins that is kept.

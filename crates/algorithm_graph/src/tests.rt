@@ -5,7 +5,8 @@ ghost use Rattle.strategy_text.specs.declared.node.Format.TheVariants.{Two};
 
 use super::*;
 use items::Game;
-use online_play::{Actual, loads_after};
+use loads::Actual;
+use online_play::loads_after;
 use reachable_loads::Reach;
 use std::alloc::{AllocError, Global};
 use strategy_text::{AlgNode, Format, Rule, parse_algorithm};

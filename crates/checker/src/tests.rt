@@ -22,7 +22,7 @@ const OVER_NOT_SAID: &str = "stretch 1\ngame 2 3 4\nside adversary\nnodes 5\n\
 const OF_ALGORITHM: &str =
     "stretch 2\ngame 2 3 5\nside algorithm\nnodes 1\n0 loads 0 0 items - finish\nend\n";
 
-// The same before a line that is no part of it, and with less than its last line.
+// That strategy before a line that is no part of it, and with less than its last line.
 const FOLLOWED: &str =
     "stretch 2\ngame 2 3 5\nside algorithm\nnodes 1\n0 loads 0 0 items - finish\nend\n7\n";
 

@@ -1,6 +1,6 @@
 -- The elements of a list with one more or several at its end, those of its first ones, and where a mapped value comes from.
-use Rattle.std.proofs.Common.{◌≡◌, ℕ, zero, suc, ◌<◌, List, [], ◌∷◌, ◌++◌, length, take, Option, Some, None, refl, ap, ◌⊎◌, ⊎_elim, inl, inr, arith}
-use Rattle.std.specs.List.{slice_get}
+use Rattle.std.proofs.Common.{◌≡◌, ℕ, zero, suc, ◌+◌, ◌<◌, List, [], ◌∷◌, ◌++◌, length, take, Option, Some, None, refl, ap, ◌∙◌, ◌⊎◌, ⊎_elim, inl, inr, arith}
+use Rattle.std.specs.List.{range_with_len, slice_get}
 use Rattle.std.specs.Option.{option_map}
 use Rattle.std.proofs.lemmas.Option.{same_Some, none-some}
 
@@ -27,3 +27,8 @@ slice_get-take (y ∷ ys) (suc k) (suc i) x e = let h = slice_get-take ys k i x 
 pub mapped : {X Y : Type 0} (f : X → Y) (o : Option X) (y : Y) → option_map f o ≡ Some y → (x : X) × (o ≡ Some x) × (f x ≡ y)
 mapped f None y e = absurd (none-some y e)
 mapped f (Some x) y e = (x, refl, same_Some (f x) y e)
+
+-- a range with one more number at its end
+pub range_push : (a n : ℕ) → range_with_len a (suc n) ≡ range_with_len a n ++ (a + n) ∷ []
+range_push a zero = ap (λ (x : ℕ). x ∷ []) (omega arith)
+range_push a (suc n) = ap (λ (xs : List ℕ). a ∷ xs) (range_push (a + 1) n ∙ ap (λ (x : ℕ). range_with_len (a + 1) n ++ x ∷ []) (omega arith))

@@ -58,7 +58,8 @@ range-append first (suc n) more =
 -- what holds of each number from the first to before the end holds of each number of a range
 All-range : (P : ℕ → Type 0) (first n : ℕ) → ((x : ℕ) → first ≤ x → x < first + n → P x) → All P (range_with_len first n)
 All-range P first n h =
-    All-weaker (Contains (range_with_len first n)) P (λ x c. let w = within_range first n x c in h x w.0 w.1) (range_with_len first n) (All-contains_itself (range_with_len first n))
+    All-weaker (Contains (range_with_len first n)) P (λ x c. let w = within_range first n x c in h x w.0 w.1) (range_with_len first n)
+    (All-contains_itself (range_with_len first n))
 
 IsStrictlyIncreasing-range : (first n : ℕ) → IsStrictlyIncreasing (range_with_len first n)
 IsStrictlyIncreasing-range first n k l =
@@ -79,7 +80,8 @@ sizes_of_run bits run most l on off =
     ∙ ap (filter p) (range-append 1 run (most - run))
     ∙ filter-append p first rest
     ∙ ap (λ xs. xs ++ filter p rest) (filter-yes p first (All-range (λ s. p s ≡ true) 1 run (λ s a b. eq-eqb (bit_at bits s) 1 (on s a (omega (arith, b))))))
-    ∙ ap (λ xs. first ++ xs) (filter-no p rest (All-range (λ s. p s ≡ false) (1 + run) (most - run) (λ s a b. ne_eqb (bit_at bits s) 1 (λ e. omega (arith, e, off s (omega (arith, a)))))))
+    ∙ ap (λ xs. first ++ xs) (filter-no p rest
+    (All-range (λ s. p s ≡ false) (1 + run) (most - run) (λ s a b. ne_eqb (bit_at bits s) 1 (λ e. omega (arith, e, off s (omega (arith, a)))))))
     ∙ append-nil first
 
 -- the sizes with one more bit, which is above all those set
@@ -158,7 +160,8 @@ pub run_in : (most : ℕ) → most ≤ 120 → sizes_in (1 * 2 ^ (most + 1) % 2 
 unfolding sizes_in
 run_in most l =
     subst (λ (n : ℕ). sizes_up_to 120 n ≡ range_with_len 1 most) (sym (run_word most l))
-    (sizes_of_run (2 ^ (most + 1) - 2 ^ 1) most 120 l (λ s a b. bit_at_mask_inside 1 (most + 1) s a (omega (arith, b))) (λ s a. bit_at_mask_above 1 (most + 1) s (omega (arith, a))))
+    (sizes_of_run (2 ^ (most + 1) - 2 ^ 1) most 120 l (λ s a b. bit_at_mask_inside 1 (most + 1) s a (omega (arith, b)))
+    (λ s a. bit_at_mask_above 1 (most + 1) s (omega (arith, a))))
 
 pub run_clear : (most : ℕ) → most ≤ 120 → IsClearFrom 121 (1 * 2 ^ (most + 1) % 2 ^ 128 - 2)
 run_clear most l place above = ap (λ n. bit_at n place) (run_word most l) ∙ bit_at_mask_above 1 (most + 1) place (omega (arith, above, l))
@@ -198,7 +201,8 @@ none_above bits s e = All_set (λ size. size ≤ s) bits (λ size is on.
       ap (bit_at bits) (let same : s + 1 + (size - (s + 1)) ≡ size = omega (arith, large) in same),
     ))) (cases_lt size (s + 1)))
 
-pub least_above_place : (bits s : ℕ) → IsClearFrom 121 bits → bits < 2 ^ 128 → 0 < bits / 2 ^ (s + 1) → IsLeastAbove (sizes_in bits) s (s + 1 + trailing_zeros w128 (bits / 2 ^ (s + 1)))
+pub least_above_place : (bits s : ℕ) → IsClearFrom 121 bits → bits < 2 ^ 128 → 0 < bits / 2 ^ (s + 1)
+    → IsLeastAbove (sizes_in bits) s (s + 1 + trailing_zeros w128 (bits / 2 ^ (s + 1)))
 least_above_place bits s clear fits some =
     let rest = bits / 2 ^ (s + 1) in
     let first = bit_at-trailing_zeros w128 rest some (let l = shr_le bits (s + 1) in omega (arith, l, fits)) in

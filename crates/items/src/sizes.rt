@@ -61,7 +61,7 @@ impl Sizes {
         Some(Sizes { bits })
     }
 
-    /// The same sizes.
+    /// A copy of the sizes.
     pub fn copy(&self) -> Sizes
         ensures same { result ≡ self.now }
         ensures sizes { AreSizes MOST_SIZE self.now }

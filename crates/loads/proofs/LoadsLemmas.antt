@@ -1,7 +1,7 @@
 -- Loads after an item.
 use Rattle.std.proofs.Common.{◌≡◌, ℕ, zero, suc, ◌+◌, ◌*◌, ◌<◌, ◌≤◌, true, List, [], ◌∷◌, leb, refl, inl, inr, length, get_or, set, cond, eqb, sum, arith, sym, ap, ◌∙◌, subst}
 use Rattle.std.proofs.Common.{Option, Some, None}
-use Rattle.std.specs.Prelude.{All, Contains, IfSome, MatchOption, insert, remove, position, unwrap_or, nat_le}
+use Rattle.std.specs.Prelude.{All, Contains, IfSome, MatchOption}
 use Rattle.std.proofs.lemmas.List.{get_or_default}
 use Rattle.std.specs.List.{sum_by}
 use Rattle.std.proofs.lemmas.List.Sums.{sum_by-set, sum_by-le}
@@ -14,7 +14,7 @@ use Rattle.loads.specs.Descending.{IsDescending, put_descending, take_out}
 use Rattle.loads.specs.Loads.{AreLoads, IsLoads, IsLowestBin, loads_after}
 use Rattle.loads.specs.Position.{AreItemsOf}
 use Rattle.loads.proofs.DescendingLemmas.{IsDescending-tail, IsDescending-head, IsDescending-put, IsDescending-take_out, All-put}
-use Rattle.loads.proofs.DescendingLemmas.{All-take_out, length-put, length-take_out, unwrap_or-position}
+use Rattle.loads.proofs.DescendingLemmas.{All-take_out, length-put, length-take_out}
 use Rattle.items.proofs.MultisetLemmas.{count-sum_by}
 use Rattle.loads.proofs.CountLemmas.{Contains-Same, sum_by-put, sum_by-take_out, equal_from_Same}
 

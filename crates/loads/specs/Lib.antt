@@ -1,3 +1,4 @@
+pub mod ByBin
 pub mod Descending
 pub mod Loads
 pub mod Position

@@ -1,6 +1,7 @@
 //! The loads of a game's bins without the bins' numbers, and positions: the loads beside the items so far.
 #![tactic(auto)]
 
+mod actual;
 mod bins;
 mod bytes;
 mod earlier;
@@ -13,6 +14,7 @@ mod packed_list;
 mod position;
 mod sorted_loads;
 
+pub use actual::Actual;
 pub use bins::{bin_with, most_on_load, same_up_to_renaming};
 pub use earlier::EarlierPositions;
 pub use from_bytes::loads_from_bytes;

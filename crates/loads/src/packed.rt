@@ -1,4 +1,4 @@
-//! Positions that are kept in number, packed into at most 40 bytes each where they are short.
+//! Positions that are kept in number. One of at most 23 loads and items takes 40 bytes and no memory besides.
 
 ghost use Rattle.std.specs.Prelude.{◌≡◌, IfOk};
 ghost use Rattle.loads.specs.Position.{position};
@@ -13,7 +13,7 @@ use std::marker::Model;
 use std::mem::size_of;
 
 /// A position in one byte for each load and each item and one more, seen by clauses as the position. Up to 24 bytes
-/// lie inline; a longer one takes memory.
+/// lie inline; for more of them memory is taken.
 #[derive(Debug, Drop)]
 pub struct PackedPosition {
     bytes: Bytes,
@@ -61,7 +61,7 @@ impl PackedPosition {
         items_of(parts(self.bytes.as_slice()).1)
     }
 
-    /// The same position.
+    /// A copy of the position.
     pub fn copy(&self) -> Result<PackedPosition, AllocError>
         ensures ok { IfOk result (λ made. made ≡ self.now) }
     {

@@ -1,10 +1,12 @@
 //! Lists of packed positions, of which most lie in slots of one size.
 
-ghost use Rattle.std.specs.Prelude.{◌≡◌, ℕ, List, ◌++◌, ◌∷◌, ◌≤◌, [], drop, take, length, slice_get, OnOk, OnErr};
+ghost use Rattle.std.specs.Prelude.{◌≡◌, ℕ, List, ◌++◌, ◌∷◌, ◌<◌, ◌≤◌, [], All, drop, take, length, slice_get, OnOk};
+ghost use Rattle.std.specs.Prelude.{OnErr, vec_capacity, vec_len};
 ghost use Rattle.items.specs.Multiset.{IsMultiset};
 ghost use Rattle.loads.specs.Loads.{AreLoads};
+ghost use Rattle.loads.specs.Packed.{ArePositionBytes, position_in};
 ghost use Rattle.loads.specs.Position.{position};
-ghost use Rattle.loads.specs.Slots.{IsKept, IsWithin, bytes_in};
+ghost use Rattle.loads.specs.Slots.{IsKept, IsWithin, bytes_in, positions_in};
 
 use crate::bytes::{pack, position_of, put_position, stand_for_after};
 use crate::earlier::EarlierPositions;
@@ -90,8 +92,7 @@ impl PackedPositions {
         self.slots.reserve(1)?;
         let start = self.bytes.len();
         self.bytes.extend_from_slice(packed.as_slice())?;
-        let slot = slot_of_last(&mut self.bytes, start);
-        self.slots.push_reserved(slot);
+        keep_last(&mut self.slots, &mut self.bytes, start);
         Ok(())
     }
 
@@ -107,8 +108,7 @@ impl PackedPositions {
         self.bytes.reserve(1 + loads.len() + items.len())?;
         let start = self.bytes.len();
         put_position(&mut self.bytes, loads, items);
-        let slot = slot_of_last(&mut self.bytes, start);
-        self.slots.push_reserved(slot);
+        keep_last(&mut self.slots, &mut self.bytes, start);
         Ok(())
     }
 }
@@ -140,6 +140,21 @@ fn bytes_in<'a>(bytes: &'a [u8], slot: &'a Slot) -> &'a [u8]
         Slot::Short { count, bytes } => &bytes[..usize::from(*count)],
         Slot::Long { start, end } => &bytes[*start..*end],
     }
+}
+
+// Keeps the position whose bytes are the last ones, from this place on, in a slot at the end of slots that have room
+// for one more.
+fn keep_last(slots: &mut Vec<Slot>, bytes: &mut Vec<u8>, start: usize)
+    requires room { vec_len slots.old < vec_capacity slots.old }
+    requires within { start ≤ length bytes.old.items }
+    requires kept { All (IsKept (take start bytes.old.items)) slots.old.items }
+    requires legal { ArePositionBytes (drop start bytes.old.items) }
+    ensures kept { All (IsKept bytes.new.items) slots.new.items }
+    ensures put { positions_in bytes.new.items slots.new.items
+        ≡ positions_in (take start bytes.old.items) slots.old.items ++ position_in (drop start bytes.old.items) ∷ [] }
+{
+    let slot = slot_of_last(bytes, start);
+    slots.push_reserved(slot);
 }
 
 // The slot of a position whose bytes are the last ones, from this place on. They are taken away where the slot holds

@@ -5,7 +5,7 @@ use items::{Items, Sequence};
 use std::mem::size_of;
 
 /// A position: the loads of the bins and the items so far. Bins are alike, so positions are taken up to
-/// the numbers of the bins. A position takes at most 320 bytes, which lie inline, and no memory besides.
+/// the numbers of the bins. A position takes at most 320 bytes, all of them inline, and no memory besides.
 #[derive(PartialEq, Eq, Hash, Debug, Drop)]
 pub struct Position {
     /// The loads, descending.

@@ -25,7 +25,9 @@ use Rattle.adversary_graph.specs.Nodes.{IsOfFormat, placements_of, position_of}
 use Rattle.adversary_graph.specs.Play.{child_of}
 use Rattle.adversary_graph.specs.Rules.{IsOver, IsOverAtTarget, IsPackingAsked, IsPacked, LeadsTo, MeetsRules}
 use Rattle.adversary_graph.proofs.WonLemmas.{met}
-use Rattle.minimise.specs.References.{adversary_references, renamed_adversary, renamed_placement, renamed_step, renamed_then}
+use Rattle.minimise.specs.References.{adversary_references, renamed_adversary, renamed_placement, renamed_step}
+use Rattle.adversary_graph.specs.Renamed.{renamed_then}
+use Rattle.adversary_graph.proofs.RenamedLemmas.{renamed_alike}
 use Rattle.minimise.proofs.FormLemmas.{map_alike}
 use Rattle.minimise.proofs.SideLemmas.{IsSide}
 use Rattle.minimise.proofs.NodeLemmas.{All-filter_map, Contains-filter_map, filter_map_at, map_at}
@@ -134,10 +136,6 @@ placements_twice name again (placement ∷ placements) =
 step_twice : (name again : ℕ → ℕ) (step : Step) → renamed_step again (renamed_step name step) ≡ renamed_step (λ child. again (name child)) step
 step_twice name again (Send size pack placements) = ap (Send size pack) (placements_twice name again placements)
 step_twice name again (Burst count size pack) = refl
-
-renamed_alike : (name another : ℕ → ℕ) (next : Then) → IfSome (child_of next) (λ child. name child ≡ another child) → renamed_then name next ≡ renamed_then another next
-renamed_alike name another Over h = refl
-renamed_alike name another (To child) h = ap To h
 
 placements_alike : (name another : ℕ → ℕ) (placements : List Placement)
     → All (λ child. name child ≡ another child) (filter_map (λ (placement : Placement). child_of placement.next) placements)

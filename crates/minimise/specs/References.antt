@@ -9,10 +9,9 @@ use Rattle.strategy_text.specs.declared.node.Entry.{Entry}
 use Rattle.strategy_text.specs.declared.node.Placement.{Placement}
 use Rattle.strategy_text.specs.declared.node.Step.{Step}
 use Rattle.strategy_text.specs.declared.node.Step.TheVariants.{Send, Burst}
-use Rattle.strategy_text.specs.declared.node.Then.{Then}
-use Rattle.strategy_text.specs.declared.node.Then.TheVariants.{Over, To}
 use Rattle.adversary_graph.specs.Nodes.{placements_of}
 use Rattle.adversary_graph.specs.Play.{child_of}
+use Rattle.adversary_graph.specs.Renamed.{renamed_then}
 use Rattle.algorithm_graph.specs.Nodes.{entries_of}
 
 -- ---- the adversary's nodes
@@ -20,11 +19,6 @@ use Rattle.algorithm_graph.specs.Nodes.{entries_of}
 -- the references of a node, in the order of its placements
 abbrev pub adversary_references : AdvNode → List ℕ
 adversary_references node = filter_map (λ placement. child_of placement.next) (placements_of node.step)
-
--- what follows, its reference renamed
-abbrev pub renamed_then : (ℕ → ℕ) → Then → Then
-renamed_then name Over = Over
-renamed_then name (To child) = To (name child)
 
 abbrev pub renamed_placement : (ℕ → ℕ) → Placement → Placement
 renamed_placement name placement = record placement { next = renamed_then name placement.next }

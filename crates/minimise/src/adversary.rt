@@ -4,9 +4,10 @@ ghost use Rattle.std.specs.Prelude.{◌≡◌, ◌<◌, ◌++◌, [], All, IfOk,
 ghost use Rattle.std.specs.List.{cons_option, filter_map};
 ghost use Rattle.adversary_graph.specs.Play.{child_of};
 ghost use Rattle.adversary_graph.specs.Nodes.{placements_of};
-ghost use Rattle.minimise.specs.References.{renamed_placement, renamed_step, renamed_then};
+ghost use Rattle.minimise.specs.References.{renamed_placement, renamed_step};
 
 use crate::node::{Node, packed};
+use adversary_graph::renumber_next;
 use items::Game;
 use loads::PackedPosition;
 use packing_witness::Packing;
@@ -118,18 +119,8 @@ fn renumbered_placements(placements: &Placements, numbers: &[u32]) -> Result<Pla
     for placement in placements.as_slice() {
         made.push(Placement {
             load: placement.load,
-            next: renumbered_next(placement.next, numbers),
+            next: renumber_next(numbers, placement.next),
         })?;
     }
     Ok(made)
-}
-
-fn renumbered_next(next: Then, numbers: &[u32]) -> Then
-    requires { IfSome (child_of next) (λ child. child < length numbers.now) }
-    ensures { result ≡ renamed_then (slice_index numbers.now) next }
-{
-    match next {
-        Then::Over => Then::Over,
-        Then::To(child) => Then::To(numbers[child as usize]),
-    }
 }

@@ -1,23 +1,21 @@
 -- Pools: a node that comes next, the positions of the nodes, and legal nodes from pools and to pools; over what a side says
 -- of its nodes.
-use Rattle.std.proofs.Common.{◌≡◌, ◌↔◌, ℕ, suc, ◌+◌, ◌<◌, ◌≤◌, Bool, IsTrue, false, List, [], ◌∷◌, ◌++◌, Some, None, length, get_or, ◌-◌, take, map, arith, ap, sym, subst}
+use Rattle.std.proofs.Common.{◌≡◌, ◌↔◌, ℕ, suc, ◌+◌, ◌≤◌, Bool, IsTrue, false, List, [], ◌∷◌, ◌++◌, Some, length, get_or, ◌-◌, take, map, arith, ap, sym, subst}
 use Rattle.std.proofs.Common.{true, ◌∙◌, ⊎_elim, eqb}
 use Rattle.std.specs.List.{All, slice_get}
-use Rattle.std.proofs.lemmas.Bool.{eqb-true, eq-eqb, false≢true}
+use Rattle.std.proofs.lemmas.Bool.{eqb-true, eq-eqb}
 use Rattle.std.proofs.lemmas.List.{take-take, take-append-le, length-take-le, map-append, length-append}
 use Rattle.std.proofs.lemmas.List.Elements.{All-push, All-nil, All-take, All-weaker}
 use Rattle.std.proofs.lemmas.Option.{same_Some, none-some, slice_get_within, slice_get-get_or, slice_get-map}
-use Rattle.std.specs.Option.{option_map}
 use Rattle.std.proofs.Math.Seq.{take-append_seam, take-suc}
-use Rattle.items.specs.Game.{GameNumbers, IsGame}
 use Rattle.items.specs.Multiset.{IsMultiset, IsSize}
 use Rattle.items.specs.declared.limits.TheConstants.{MOST_SIZE}
 use Rattle.items.proofs.ListLemmas.{slice_get-push, slice_get-take, mapped}
 use Rattle.loads.specs.Position.{IsEmptyPosition}
 use Rattle.loads.specs.declared.position.Position.{Position}
 use Rattle.strategy_text.specs.declared.node.Format.{Format}
-use Rattle.node_pool.specs.Pools.{AreLegal, EachMeetsRules, Pool, IsPool, MayComeNext, IsRoot, nodes_up_to, pool_of, terms_in, with_node, EachFollows, IsPositionOf}
-use Rattle.node_pool.specs.Terms.{Terms, AreTerms, terms_of}
+use Rattle.node_pool.specs.Pools.{AreLegal, Pool, IsPool, MayComeNext, IsRoot, nodes_up_to, pool_of, terms_in, with_node, IsPositionOf}
+use Rattle.node_pool.specs.Terms.{Terms, AreTerms}
 
 -- what a side says of its rules
 abbrev pub RootIsAskedLast : {N : Type 0} → (N → Position) → (Terms → List Position → Bool → N → Type 0) → Type 0

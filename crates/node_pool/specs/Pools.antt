@@ -1,6 +1,7 @@
--- Nodes of one side, judged in their order. A side is told by what the position of a node is, which nodes a format has, and
--- what the rules are, over the terms, the positions of the nodes before it, and whether it is the last node.
-use Rattle.std.specs.Prelude.{◌≡◌, ◌==◌, ℕ, ◌+◌, ◌<◌, ◌≤◌, Bool, List, [], ◌∷◌, ◌++◌, Some, length, map, take, slice_get, All, false}
+-- Nodes of one side, judged in their order. A side is told by what the position of a node is, which nodes a format has,
+-- and what the rules are, over the terms, the positions of the nodes before it, and whether it is the last node.
+use Rattle.std.specs.Prelude.{◌≡◌, ◌==◌, ℕ, ◌+◌, ◌<◌, ◌≤◌, Bool, List, [], ◌∷◌, ◌++◌, Some, length, map}
+use Rattle.std.specs.Prelude.{All, false, slice_get, take}
 use Rattle.items.specs.Game.{GameNumbers, IsGame}
 use Rattle.items.specs.Multiset.{IsMultiset, IsSize}
 use Rattle.loads.specs.Loads.{IsLoads}
@@ -25,8 +26,8 @@ abbrev pub EachFollows : {Node : Type 0} → (Node → Position) → (Terms → 
 EachFollows {Node} position MeetsRules terms nodes =
     (k : ℕ) (node : Node) → slice_get nodes k ≡ Some node → MeetsRules terms (map position (take k nodes)) false node
 
--- legal nodes of one side: the numbers are a game, there are 1 to 4,000,000,000 nodes, each has a form of the format, and
--- each meets every rule
+-- legal nodes of one side: the numbers are a game, there are 1 to 4,000,000,000 nodes, each has a form of the format,
+-- and each meets every rule
 pub record AreLegal {Node : Type 0} (position : Node → Position) (IsOfFormat : Format → Node → Type 0)
     (MeetsRules : Terms → List Position → Bool → Node → Type 0) (terms : Terms) (nodes : List Node) : Type 0 where
   pub of_game : IsGame terms.game

@@ -1,6 +1,7 @@
 //! Growing lists of nodes of one side that are legal but for a root.
 
-ghost use Rattle.std.specs.Prelude.{◌≡◌, ◌↔◌, ◌<◌, ◌-◌, [], IfOk, IsTrue, OnErr, OnOk, Some, length, slice_get, take, List};
+ghost use Rattle.std.specs.Prelude.{◌≡◌, ◌↔◌, ◌<◌, ◌-◌, [], IfOk, IsTrue, OnErr, OnOk, Some, length, slice_get, take};
+ghost use Rattle.std.specs.Prelude.{List};
 ghost use Rattle.node_pool.specs.Pools.{AreLegal, IsPool, IsRoot, MayComeNext, nodes_up_to, pool_of, terms_in};
 ghost use Rattle.node_pool.specs.Pools.{with_node};
 ghost use Rattle.loads.specs.Position.{IsEmptyPosition, position};
@@ -14,8 +15,8 @@ use std::alloc::{AllocError, Global};
 use std::marker::{Model, PhantomData};
 use strategy_text::{Format, Strategy};
 
-/// Nodes of one side over the same terms, numbered from 0. Each meets every rule but `root` over the nodes before it, so
-/// any node with the empty position ends a legal strategy. Positions are not kept.
+/// Nodes of one side over the same terms, numbered from 0. Each meets every rule but `root` over the nodes before it,
+/// so any node with the empty position ends a legal strategy. Positions are not kept.
 #[derive(Drop)]
 pub struct JudgedNodes<N, R: NodeRules<N>> {
     terms: Terms,
@@ -46,8 +47,8 @@ impl<N: Drop, R: NodeRules<N>> JudgedNodes<N, R> {
         }
     }
 
-    /// Puts a node at the end and gives its number. Where memory is refused, the nodes stay as they were and the node is
-    /// dropped.
+    /// Puts a node at the end and gives its number. Where memory is refused, the nodes stay as they were and the node
+    /// is dropped.
     pub fn push(&mut self, node: N) -> Result<u32, AllocError>
         requires next { MayComeNext R.position R.IsOfFormat R.MeetsRules self.old node }
         ensures number { IfOk result (λ number. number ≡ length self.old.nodes) }

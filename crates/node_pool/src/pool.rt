@@ -1,7 +1,7 @@
 //! Judged nodes with their positions.
 
-ghost use Rattle.std.specs.Prelude.{◌≡◌, ◌↔◌, ◌<◌, ◌-◌, [], IfOk, IsTrue, OnErr, OnOk, Some, List, length, map, slice_get};
-ghost use Rattle.std.specs.Prelude.{take, ◌+◌};
+ghost use Rattle.std.specs.Prelude.{◌≡◌, ◌↔◌, ◌<◌, ◌-◌, [], IfOk, IsTrue, OnErr, OnOk, Some, List, length, map};
+ghost use Rattle.std.specs.Prelude.{slice_get, take, ◌+◌};
 ghost use Rattle.node_pool.specs.Pools.{AreLegal, IsPool, IsRoot, MayComeNext, nodes_up_to, pool_of};
 ghost use Rattle.node_pool.specs.Pools.{terms_in, with_node};
 ghost use Rattle.node_pool.specs.Terms.{whole_game};

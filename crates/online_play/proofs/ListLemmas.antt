@@ -1,5 +1,5 @@
 -- The packable lists of a game, written out.
-use Rattle.std.proofs.Common.{◌≡◌, ℕ, zero, suc, ◌+◌, ◌-◌, ◌*◌, ◌<◌, ◌≤◌, Bool, true, ◌&&◌, List, [], ◌∷◌, length, get_or, map, sum, refl, sym, ap, ◌∙◌, ◌⊎◌, ⊎_elim, inl}
+use Rattle.std.proofs.Common.{◌≡◌, ℕ, zero, suc, ◌*◌, ◌<◌, ◌≤◌, Bool, true, ◌&&◌, List, [], ◌∷◌, length, get_or, map, sum, refl, sym, ap, ◌∙◌, ◌⊎◌, ⊎_elim, inl}
 use Rattle.std.proofs.Common.{inr, subst, arith}
 use Rattle.std.specs.Prelude.{All, Contains, nat_le, filter}
 use Rattle.std.specs.List.{range_with_len, flat_map, list_any}
@@ -148,7 +148,7 @@ test_from_packable game items p =
     (list_any-from_Any (fits game items) lists (listed.0, p.0, listed.1, listed.2, test_from_totals game items p.0 p.1.fits))
 
 -- a list of sizes is no longer than its total
-length-le-sum : (most : ℕ) (items : List ℕ) → All (IsSize most) items → length items ≤ sum items
+pub length-le-sum : (most : ℕ) (items : List ℕ) → All (IsSize most) items → length items ≤ sum items
 length-le-sum most [] h = omega arith
 length-le-sum most (x ∷ items) h =
     let s = All-head (IsSize most) x items h in

@@ -8,7 +8,8 @@ use Rattle.std.proofs.lemmas.Nat.{mul-le}
 use Rattle.items.specs.Game.{GameNumbers, IsGame}
 use Rattle.items.specs.Packable.{Packable, bin_total}
 use Rattle.packing_witness.proofs.PackableLemmas.{Packable-front, sum-Packable-le}
-use Rattle.online_play.specs.Algorithm.{IsAlgorithm, bins_of, placed, run}
+use Rattle.loads.specs.ByBin.{placed}
+use Rattle.online_play.specs.Algorithm.{IsAlgorithm, bins_of, run}
 use Rattle.online_play.proofs.RunLemmas.{run-push, length-run, get_or-loads_by_bin}
 
 -- the prefixes of a packable history are packable

@@ -5,12 +5,12 @@ use Rattle.std.proofs.lemmas.Bool.{cases_lt, lt-ltb, le-ltb}
 use Rattle.std.proofs.lemmas.List.Sums.{get_or-le-sum_by, sum_by-set, sum_by_more, sum_by-take-le}
 use Rattle.items.specs.Game.{GameNumbers, IsGame}
 use Rattle.items.specs.Packable.{Packable}
-use Rattle.online_play.specs.Algorithm.{placed}
+use Rattle.loads.specs.ByBin.{placed}
 use Rattle.online_play.specs.Rules.{lowest_bin, greatest, least, best_fit}
 use Rattle.online_play.specs.Replays.{rule_of}
 use Rattle.online_play.specs.PlayersAnswer.{NamesABin, first_fit_names, best_fit_names, least_loaded_names}
-use Rattle.online_play.specs.declared.rule.Rule.{Rule}
-use Rattle.online_play.specs.declared.rule.Rule.TheVariants.{FirstFit, BestFit, LeastLoaded}
+use Rattle.online_play.specs.declared.rule.PlayerRule.{PlayerRule}
+use Rattle.online_play.specs.declared.rule.PlayerRule.TheVariants.{FirstFit, BestFit, LeastLoaded}
 use Rattle.online_play.proofs.PlayLemmas.{sum_small}
 
 -- a load has room below the target exactly where the item leaves it below
@@ -38,13 +38,14 @@ least_loaded_is wanted bin loads place wanted_is place_is bin_is =
     bin_is ∙ ap (λ o. unwrap_or o 0) place_is ∙ ap (λ (w : ℕ). lowest_bin (λ load. load == w) loads) wanted_is
 
 -- the bin that a named player's rule names is one of the bins
-pub rules_name : (rule : Rule) → NamesABin (rule_of rule)
+pub rules_name : (rule : PlayerRule) → NamesABin (rule_of rule)
 rules_name FirstFit = first_fit_names
 rules_name BestFit = best_fit_names
 rules_name LeastLoaded = least_loaded_names
 
 -- the bin that a rule named for an item of a replay is one of the bins
-pub named_in_range : (rule : Rule) (target size bin : ℕ) (loads actual : List ℕ) → loads ≡ actual → 0 < length actual → bin ≡ rule_of rule target loads size → bin < length actual
+pub named_in_range : (rule : PlayerRule) (target size bin : ℕ) (loads actual : List ℕ) → loads ≡ actual → 0 < length actual → bin ≡ rule_of rule target loads size
+    → bin < length actual
 named_in_range rule target size bin loads actual e l is =
     let n = ap length e in
     let h = rules_name rule in

@@ -1,4 +1,4 @@
-use Rattle.std.specs.Prelude.{◌≢◌, ℕ, ◌+◌, ◌<◌, ◌≤◌, List, [], ◌∷◌, map, All, Any, slice_index, slice_set}
+use Rattle.std.specs.Prelude.{◌≢◌, ℕ, ◌<◌, ◌≤◌, List, [], ◌∷◌, map, All, Any}
 use Rattle.std.specs.List.{range_with_len}
 use Rattle.items.specs.Game.{GameNumbers}
 use Rattle.items.specs.Packable.{Packable, bin_total}
@@ -20,10 +20,6 @@ bins_of answer items = map answer (prefixes items)
 -- the loads by bin number when each item went to the bin that stands at its place in a list of bins
 abbrev pub loads_by_bin : GameNumbers → List ℕ → List ℕ → List ℕ
 loads_by_bin game items bins = map (λ bin. bin_total bin items bins) (range_with_len 0 game.bins)
-
--- the loads by bin number after one more item of this size went to a bin
-abbrev pub placed : List ℕ → ℕ → ℕ → List ℕ
-placed loads bin size = slice_set loads bin (slice_index loads bin + size)
 
 -- the loads by bin number after an algorithm placed each item of a list
 abbrev pub run : GameNumbers → (List ℕ → ℕ) → List ℕ → List ℕ

@@ -5,7 +5,8 @@ use Rattle.items.specs.Multiset.{Same}
 use Rattle.items.specs.Packable.{Packable}
 use Rattle.loads.specs.declared.position.Position.{Position}
 use Rattle.loads.specs.Wins.{Wins, IsWon, empty_position}
-use Rattle.online_play.specs.Algorithm.{IsAlgorithm, bins_of, loads_by_bin, placed, run}
+use Rattle.loads.specs.ByBin.{placed}
+use Rattle.online_play.specs.Algorithm.{IsAlgorithm, bins_of, loads_by_bin, run}
 use Rattle.online_play.specs.Algorithm.{Forced, KeepsBelow, ForcesEvery}
 use Rattle.online_play.specs.PackableLists.{is_packable, packable_lists}
 

@@ -7,7 +7,8 @@ use Rattle.std.proofs.Math.Dec.{lit≤}
 use Rattle.std.proofs.lemmas.List.{length-set, length-replicate}
 use Rattle.std.proofs.lemmas.List.Quantifiers.{position-Some}
 use Rattle.items.specs.Game.{GameNumbers, IsGame}
-use Rattle.online_play.specs.Algorithm.{IsAlgorithm, placed}
+use Rattle.loads.specs.ByBin.{placed}
+use Rattle.online_play.specs.Algorithm.{IsAlgorithm}
 use Rattle.online_play.specs.Rules.{stays_below, lowest_bin, greatest, least, first_fit, best_fit, least_loaded}
 use Rattle.online_play.specs.Replays.{loads_under, answer_under}
 

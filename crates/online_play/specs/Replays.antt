@@ -1,12 +1,12 @@
 use Rattle.std.specs.Prelude.{ℕ, ◌-◌, List, fold, length, replicate, slice_index, take}
 use Rattle.items.specs.Game.{GameNumbers}
-use Rattle.online_play.specs.Algorithm.{placed}
+use Rattle.loads.specs.ByBin.{placed}
 use Rattle.online_play.specs.Rules.{best_fit, first_fit, least_loaded}
-use Rattle.online_play.specs.declared.rule.Rule.{Rule}
-use Rattle.online_play.specs.declared.rule.Rule.TheVariants.{FirstFit, BestFit, LeastLoaded}
+use Rattle.online_play.specs.declared.rule.PlayerRule.{PlayerRule}
+use Rattle.online_play.specs.declared.rule.PlayerRule.TheVariants.{FirstFit, BestFit, LeastLoaded}
 
 -- the rule of a named player
-abbrev pub rule_of : Rule → ℕ → List ℕ → ℕ → ℕ
+abbrev pub rule_of : PlayerRule → ℕ → List ℕ → ℕ → ℕ
 rule_of FirstFit = first_fit
 rule_of BestFit = best_fit
 rule_of LeastLoaded = least_loaded

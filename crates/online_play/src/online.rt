@@ -4,8 +4,8 @@ ghost use Rattle.std.specs.Prelude.{◌≡◌, ◌≢◌, []};
 ghost use Rattle.items.specs.Packable.{Packable};
 ghost use Rattle.online_play.specs.Algorithm.{run};
 
-use crate::actual::Actual;
 use items::Game;
+use loads::Actual;
 
 /// A deterministic online algorithm. Its answer is a function of the value, the game and the history, so
 /// asking twice gives the same bin.

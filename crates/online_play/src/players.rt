@@ -2,7 +2,7 @@
 //! below the target with it.
 
 use crate::online::Online;
-use crate::rule::{Rule, replay};
+use crate::rule::{PlayerRule, replay};
 use items::Game;
 
 /// First fit: an item goes to the lowest bin on which it fits, and to bin 0 where it fits on none.
@@ -28,7 +28,7 @@ impl Online for FirstFit {
     ghost is_algorithm = { λ player. answers_as_algorithm first_fit first_fit_names };
 
     fn place(&self, game: &Game, history: &[u16]) -> u8 {
-        replay(Rule::FirstFit, game, history)
+        replay(PlayerRule::FirstFit, game, history)
     }
 }
 
@@ -42,7 +42,7 @@ impl Online for BestFit {
     ghost is_algorithm = { λ player. answers_as_algorithm best_fit best_fit_names };
 
     fn place(&self, game: &Game, history: &[u16]) -> u8 {
-        replay(Rule::BestFit, game, history)
+        replay(PlayerRule::BestFit, game, history)
     }
 }
 
@@ -56,6 +56,6 @@ impl Online for LeastLoaded {
     ghost is_algorithm = { λ player. answers_as_algorithm least_loaded least_loaded_names };
 
     fn place(&self, game: &Game, history: &[u16]) -> u8 {
-        replay(Rule::LeastLoaded, game, history)
+        replay(PlayerRule::LeastLoaded, game, history)
     }
 }

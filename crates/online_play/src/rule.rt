@@ -6,19 +6,19 @@ ghost use Rattle.items.specs.Packable.{Packable};
 ghost use Rattle.online_play.specs.Rules.{best_fit, first_fit, greatest, least, least_loaded, lowest_bin};
 ghost use Rattle.online_play.specs.Replays.{answer_under, rule_of};
 
-use crate::actual::Actual;
 use items::Game;
+use loads::Actual;
 
 /// How a named player chooses.
 #[derive(Clone, Copy)]
-pub enum Rule {
+pub enum PlayerRule {
     FirstFit,
     BestFit,
     LeastLoaded,
 }
 
 // What a rule answers to a history: it is replayed from the first item on.
-pub fn replay(rule: Rule, game: &Game, history: &[u16]) -> u8
+pub fn replay(rule: PlayerRule, game: &Game, history: &[u16]) -> u8
     requires some { history.now ≢ [] }
     requires packable { Packable game.now history.now }
     ensures { result ≡ answer_under (rule_of rule) game.now history.now }
@@ -34,15 +34,15 @@ pub fn replay(rule: Rule, game: &Game, history: &[u16]) -> u8
 }
 
 // The bin that a rule names for an item.
-fn choose(rule: Rule, target: u16, loads: &[u16], size: u16) -> u8
+fn choose(rule: PlayerRule, target: u16, loads: &[u16], size: u16) -> u8
     requires some { 0 < length loads.now }
     requires few { length loads.now ≤ 8 }
     ensures { result ≡ rule_of rule target loads.now size }
 {
     match rule {
-        Rule::FirstFit => choose_first(target, loads, size),
-        Rule::BestFit => choose_best(target, loads, size),
-        Rule::LeastLoaded => choose_least(loads),
+        PlayerRule::FirstFit => choose_first(target, loads, size),
+        PlayerRule::BestFit => choose_best(target, loads, size),
+        PlayerRule::LeastLoaded => choose_least(loads),
     }
 }
 

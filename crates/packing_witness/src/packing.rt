@@ -92,7 +92,7 @@ impl Packing {
         self.lists.as_slice()
     }
 
-    /// The same bins.
+    /// A copy of the packing, with the same bins.
     pub fn copy(&self) -> Result<Packing, AllocError>
         ensures same { IfOk result (λ made. made ≡ self.now) }
     {

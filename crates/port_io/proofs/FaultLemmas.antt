@@ -1,5 +1,5 @@
 -- A rise in an inner call is a rise over the outer one.
-use Rattle.std.proofs.Common.{◌≡◌, ◌⊎◌, ◌↔◌, inl, inr, ⊎_elim, ℕ, ◌+◌, ◌-◌, ◌^◌, ◌<◌, ◌≤◌, arith}
+use Rattle.std.proofs.Common.{◌↔◌, inl, inr, ⊎_elim, ℕ, ◌-◌, ◌^◌, ◌<◌, ◌≤◌, arith}
 use Rattle.std.proofs.lemmas.Bool.{cases_lt}
 use Rattle.port_io.specs.Faults.{Rose, GrewOrStandsAtLast}
 

@@ -15,7 +15,7 @@ mod sources;
 mod tests;
 
 pub use crate::calm::{CalmSink, CalmSource};
-pub use crate::lines::{Line, LineReader};
+pub use crate::lines::{LONGEST_LINE, Line, LineReader};
 pub use crate::memory::{MemSink, MemSource};
 pub use crate::sinks::{Sink, put_all};
 pub use crate::sources::{Failed, Source};

@@ -16,7 +16,8 @@ use std::marker::Model;
 
 const LF: u8 = b'\n';
 
-const LONGEST_LINE: usize = 16_384;
+/// The most bytes of a line, its LF not counted. This limit is this project's.
+pub const LONGEST_LINE: usize = 16_384;
 
 /// What a call of [`LineReader::next_line`] found.
 #[derive(Clone, Copy, PartialEq, Eq, Debug)]

@@ -2,6 +2,7 @@
 ghost use Rattle.std.specs.Prelude.{◌≡◌, ◌+◌, ◌-◌, ◌<◌, ◌≤◌, [], IfOk, OnErr, length, take, drop, slice_range, vec_len};
 ghost use Rattle.std.specs.Io.KnownBytes.{prepend_known, IsAtEnd};
 ghost use Rattle.port_io.specs.Faults.{Rose};
+ghost use Rattle.port_io.specs.Lines.{longest_line};
 ghost use Rattle.port_io.specs.Reading.{ReadsOn};
 
 use crate::sources::{Failed, Source};
@@ -83,7 +84,7 @@ impl ReadAhead {
 
     // Reads once, to the end of what is held, and answers how many bytes came. The line given is forgotten.
     pub fn refill<S: Source>(&mut self, source: &mut S) -> Result<usize, Failed>
-        requires { length self.old.held ≤ 16384 }
+        requires { length self.old.held ≤ longest_line }
         ensures count { S.faults source.old ≤ S.faults source.new }
         ensures text { self.new.text ≡ [] }
         ensures reads { ReadsOn self.old.held self.new.held (S.left source.old) (S.left source.new) }

@@ -1,4 +1,5 @@
 -- What the bits of a plane tell of the loads that are reached.
+use Rattle.std.specs.Prelude.{slice_index}
 use Rattle.std.proofs.Common.{◌≡◌, ◌↔◌, ℕ, zero, suc, ◌+◌, ◌-◌, ◌*◌, ◌/◌, ◌%◌, ◌^◌, ◌<◌, ◌≤◌, cond, eqb, List, [], ◌∷◌, ◌++◌}
 use Rattle.std.proofs.Common.{length, get_or, set, take, drop, sum, replicate, refl, sym, ap, ◌∙◌, subst, inl, inr, arith}
 use Rattle.std.specs.Prelude.{All, Contains, IsTrue, bit_and}
@@ -316,8 +317,8 @@ least_bit rows halves half bits words l none are some fits =
 -- the loads that a bit stands for
 pub record AreLoadsAt (game : GameNumbers) (items sums : List ℕ) (total load row : ℕ) : Type 0 where
   pub first : load ≤ total
-  pub others : get_or sums row 0 ≤ total - load
-  pub reached : HasTotals game items (load ∷ (digits_of (game.capacity + 1) (game.bins - 2) row ++ (total - load - get_or sums row 0) ∷ []))
+  pub others : slice_index sums row ≤ total - load
+  pub reached : HasTotals game items (load ∷ (digits_of (game.capacity + 1) (game.bins - 2) row ++ (total - load - slice_index sums row) ∷ []))
 
 pub loads_at : (game : GameNumbers) (items sums words : List ℕ) (total load row : ℕ) → IsGame game → ArePlanes game items total sums words → row < rows_of game
     → IsStart game items (load ∷ digits_of (game.capacity + 1) (game.bins - 2) row) → AreLoadsAt game items sums total load row
@@ -325,11 +326,11 @@ loads_at game items sums words total load row g planes l start =
     let digits = digits_of (game.capacity + 1) (game.bins - 2) row in
     let s = last_of_start game items (load ∷ digits) start in
     let c = sum_by-cons (λ x. x) load digits in
-    let d : get_or sums row 0 ≡ sum digits = planes.sums_are.exact row l ∙ sym (sum-digits_of (game.capacity + 1) (game.bins - 2) row) in
+    let d : slice_index sums row ≡ sum digits = planes.sums_are.exact row l ∙ sym (sum-digits_of (game.capacity + 1) (game.bins - 2) row) in
     let whole = (load ∷ digits) ++ start.0 ∷ [] in
     let bound = sum_fits game whole g (length-HasTotals game items whole start.1) (All-HasTotals game items whole start.1) in
     let e = sum_end (load ∷ digits) start.0 in
-    let last : start.0 ≡ total - load - get_or sums row 0 = omega (arith, planes.total_is, s, c, d, bound, e) in
+    let last : start.0 ≡ total - load - slice_index sums row = omega (arith, planes.total_is, s, c, d, bound, e) in
     record {
       first = omega (arith, planes.total_is, s, c, d, bound, e);
       others = omega (arith, planes.total_is, s, c, d, bound, e);

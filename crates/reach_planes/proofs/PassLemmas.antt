@@ -1,4 +1,5 @@
 -- What each pass over the words of a plane does to its bits.
+use Rattle.std.specs.Prelude.{slice_index}
 use Rattle.std.proofs.Common.{◌≡◌, ◌↔◌, ℕ, ◌+◌, ◌-◌, ◌*◌, ◌/◌, ◌%◌, ◌<◌, ◌≤◌, List}
 use Rattle.std.proofs.Common.{length, get_or, set, sym, ap, ◌∙◌, subst, inl, inr, ◌⊎◌, ⊎_elim, arith}
 use Rattle.std.specs.Prelude.{bit_and}
@@ -20,10 +21,10 @@ IsOnesUpTo high mask = (i : ℕ) → i < 64 → (bit_at mask i ≡ 1) ↔ (i ≤
 
 -- the first rows of one half have lost the bits of too small a sum
 pub record IsKeptUpTo (from rows lack : ℕ) (sums before after : List ℕ) : Type 0 where
-  pub kept : (row bit : ℕ) → row < rows → bit < 64 → IsSet after (from + row) bit ↔ (IsSet before (from + row) bit × (lack ≤ bit + get_or sums row 0))
+  pub kept : (row bit : ℕ) → row < rows → bit < 64 → IsSet after (from + row) bit ↔ (IsSet before (from + row) bit × (lack ≤ bit + slice_index sums row))
   pub others : (i : ℕ) → (i < from) ⊎ (from + rows ≤ i) → get_or after i 0 ≡ get_or before i 0
 
-pub IsKeptUpTo-more : (from row lack mask : ℕ) (sums before words : List ℕ) → from + row < length words → IsOnesFrom (lack - get_or sums row 0) mask
+pub IsKeptUpTo-more : (from row lack mask : ℕ) (sums before words : List ℕ) → from + row < length words → IsOnesFrom (lack - slice_index sums row) mask
     → IsKeptUpTo from row lack sums before words → IsKeptUpTo from (row + 1) lack sums before (set words (from + row) (bit_and (get_or words (from + row) 0) mask))
 IsKeptUpTo-more from row lack mask sums before words l ones k =
     let new : ℕ = bit_and (get_or words (from + row) 0) mask in
@@ -50,7 +51,7 @@ IsKeptUpTo-more from row lack mask sums before words l ones k =
 -- the halves up to one have lost the bits of too small a sum
 pub record AreKeptUpTo (halves lack : ℕ) (sums before after : List ℕ) : Type 0 where
   pub kept : (half row bit : ℕ) → half < halves → row < length sums → bit < 64 → IsSet after (word_at (length sums) half row) bit
-      ↔ (IsSet before (word_at (length sums) half row) bit × (lack ≤ 64 * half + bit + get_or sums row 0))
+      ↔ (IsSet before (word_at (length sums) half row) bit × (lack ≤ 64 * half + bit + slice_index sums row))
   pub others : (i : ℕ) → halves * length sums ≤ i → get_or after i 0 ≡ get_or before i 0
 
 -- a place in an earlier half comes before the half

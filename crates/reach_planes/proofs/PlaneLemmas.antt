@@ -1,4 +1,5 @@
 -- Planes: which bits are set after an item.
+use Rattle.std.specs.Prelude.{slice_index}
 use Rattle.std.proofs.Common.{◌≡◌, ◌↔◌, ℕ, zero, suc, ◌+◌, ◌-◌, ◌*◌, ◌/◌, ◌%◌, ◌^◌, ◌<◌, ◌≤◌, List, [], ◌∷◌, ◌++◌}
 use Rattle.std.proofs.Common.{length, get_or, set, take, drop, sum, sym, ap, ◌∙◌, subst, inl, inr, ◌⊎◌, ⊎_elim, arith}
 use Rattle.std.proofs.lemmas.Bool.{cases_lt}
@@ -186,9 +187,9 @@ module _ (game : GameNumbers) (items sums source kept first after : List ℕ) (l
       let row : ℕ = row_of (game.capacity + 1) digits in
       let rows = sums_are.size in
       let k = keep.exact half row bit (subst (λ n. IsPlace n (halves_of game) half row bit) (sym rows) (place half bit digits a lh lb)) in
-      let k' = subst (λ n. IsSet kept (word_at n half row) bit ↔ (IsSet source (word_at n half row) bit × (lack ≤ 64 * half + bit + get_or sums row 0))) rows k in
+      let k' = subst (λ n. IsSet kept (word_at n half row) bit ↔ (IsSet source (word_at n half row) bit × (lack ≤ 64 * half + bit + slice_index sums row))) rows k in
       let places : game.bins - 2 ≡ length digits = omega (arith, a.one_each) in
-      let is : get_or sums row 0 ≡ sum digits = sums_are.exact row (row-lt game digits a) ∙ ap (λ n. digit_sum (game.capacity + 1) n row) places
+      let is : slice_index sums row ≡ sum digits = sums_are.exact row (row-lt game digits a) ∙ ap (λ n. digit_sum (game.capacity + 1) n row) places
       ∙ digit_sum-row_of game.capacity digits a.fit in
       subst (λ n. IsSet kept (place_of game half digits) bit ↔ (IsSet source (place_of game half digits) bit × (lack ≤ 64 * half + bit + n))) is k'
 

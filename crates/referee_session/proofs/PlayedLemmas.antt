@@ -13,6 +13,7 @@ use Rattle.std.proofs.lemmas.Option.{none-some, same_Some}
 use Rattle.items.specs.Game.{GameNumbers}
 use Rattle.items.specs.Packable.{Packable}
 use Rattle.packing_witness.proofs.PackableLemmas.{sum-Packable-le}
+use Rattle.online_play.proofs.ListLemmas.{length-le-sum}
 use Rattle.online_play.specs.Algorithm.{bins_of, loads_by_bin}
 use Rattle.online_play.proofs.RunLemmas.{bins_of-push}
 use Rattle.strategy_text.specs.declared.node.AdvNode.{AdvNode}
@@ -32,7 +33,7 @@ use Rattle.referee_session.specs.Session.{talk_in}
 use Rattle.referee_session.specs.Talk.{IsEnd, Talk, answered, answers_from, loads_of, packing_at, stand_after, stand_at, talk, talk_begins, talk_to, told_next}
 use Rattle.referee_session.specs.declared.stand.Stand.{Stand}
 use Rattle.referee_session.specs.declared.stand.Stand.TheVariants.{Waits, Ended}
-use Rattle.referee_session.proofs.TalkLemmas.{bins_from, bins_from_take, from_is_algorithm, length-le-sum, sends_some}
+use Rattle.referee_session.proofs.TalkLemmas.{bins_from, bins_from_take, from_is_algorithm, sends_some}
 
 -- ---- along a play
 

@@ -15,6 +15,7 @@ use Rattle.items.specs.Multiset.{IsSize, Same, count}
 use Rattle.items.specs.Packable.{Packable}
 use Rattle.items.proofs.SameLemmas.{Same-append}
 use Rattle.loads.specs.declared.position.Position.{Position}
+use Rattle.online_play.proofs.ListLemmas.{length-le-sum}
 use Rattle.online_play.specs.Algorithm.{IsAlgorithm, bins_of, loads_by_bin, run}
 use Rattle.online_play.specs.Laws.{ComesTo}
 use Rattle.online_play.proofs.PlayLemmas.{bin_total-le-sum, sum_small}
@@ -249,12 +250,6 @@ pub record IsWaiting (pool : Pool) (items bins : List ℕ) (number done : ℕ) :
   pub times : done < 65535
   pub loads : (bin : ℕ) (sent : AdvNode) → slice_get pool.nodes number ≡ Some sent → bin < pool.game.bins
       → get_or (loads_by_bin pool.game items bins) bin 0 + sent_size sent.step < 65536
-
-pub length-le-sum : (most : ℕ) (items : List ℕ) → All (IsSize most) items → length items ≤ sum items
-length-le-sum most [] h = omega arith
-length-le-sum most (x ∷ items) h =
-    let s = All-head (IsSize most) x items h in
-    omega (arith, s.low, length-le-sum most items (All-tail (IsSize most) x items h), sum_by-cons (λ n. n) x items)
 
 pub few_packable : (game : GameNumbers) (items : List ℕ) → IsGame game → Packable game items → length items ≤ 960
 few_packable game items g packable =

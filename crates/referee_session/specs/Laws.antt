@@ -1,5 +1,6 @@
 -- The laws of talks, and of what is due of a referee.
-use Rattle.std.specs.Prelude.{◌≡◌, ◌⊎◌, ℕ, ◌+◌, ◌*◌, ◌<◌, ◌≤◌, List, [], ◌++◌, Option, None, Some, All, Any, length, take}
+use Rattle.std.specs.Prelude.{◌≡◌, ◌⊎◌, ℕ, ◌+◌, ◌*◌, ◌<◌, ◌≤◌, List, [], ◌++◌, Option, None, Some, All, Any, length}
+use Rattle.std.specs.Prelude.{take}
 use Rattle.port_io.specs.declared.lines.Line.{Line}
 use Rattle.items.specs.Packable.{Packable}
 use Rattle.online_play.specs.Algorithm.{bins_of}
@@ -65,4 +66,5 @@ abbrev pub SaidIsAtTheFront : Type 0
 SaidIsAtTheFront =
     (pool : Pool) (root : ℕ) (met : Option Line) (bytes bins rest all : List ℕ) (halt : Halt) → IsPool pool
     → AreAnswers pool root bins → ((bins ≡ []) ⊎ (met ≡ None)) → bytes ≡ answer_lines bins ++ rest
-    → Comes pool root met bytes all halt → (more : List ℕ) × (due_text pool root all halt ≡ said_in pool root bins ++ more)
+    → Comes pool root met bytes all halt
+    → (more : List ℕ) × (due_text pool root all halt ≡ said_in pool root bins ++ more)

@@ -12,7 +12,7 @@ use crate::stand::{Stand, sent_size, stand_after};
 use crate::told::Told;
 use adversary_graph::{AdvPool, packing_for};
 use items::Game;
-use online_play::Actual;
+use loads::Actual;
 use packing_witness::Packing;
 use std::alloc::AllocError;
 use std::marker::Model;

@@ -1,11 +1,12 @@
 -- The first word of a line and what is left after it, read byte by byte.
-use Rattle.std.proofs.Common.{◌≡◌, ℕ, zero, suc, ◌+◌, ◌-◌, ◌*◌, ◌<◌, ◌≤◌, ◌==◌, true, false, List, [], ◌∷◌, length, drop, get_or, Some, None, refl, sym, ap, ◌∙◌, inl, inr, arith}
+use Rattle.std.proofs.Common.{◌≡◌, ℕ, zero, suc, ◌+◌, ◌-◌, ◌*◌, ◌<◌, ◌≤◌, ◌==◌, true, false, List, [], ◌∷◌, length, drop, take, get_or}
+use Rattle.std.proofs.Common.{Some, None, refl, sym, ap, ◌∙◌, inl, inr, arith}
 use Rattle.std.specs.Prelude.{nat_le, nat_lt, ◌↔◌}
 use Rattle.std.specs.Char.{is_ascii_digit}
 use Rattle.std.specs.List.{slice_split, onto_first}
 use Rattle.std.specs.Str.{bytes_eq}
 use Rattle.std.proofs.lemmas.Bool.{cases_Bool, cases_lt, true≢false, or_parts, le-leb, lt-leb, le-ltb, lt-ltb}
-use Rattle.std.proofs.lemmas.List.{drop-drop, length-drop}
+use Rattle.std.proofs.lemmas.List.{drop-drop, length-drop, take_rest}
 use Rattle.std.proofs.lemmas.Bool.Decides.{nat_tests}
 use Rattle.std.proofs.lemmas.Slice.Eq.{bytes_eq-Decides}
 use Rattle.strategy_text.specs.Words.{after, digits_after, number_at, number_of, first_word, left_after, has_space, left_from, words_left}
@@ -48,6 +49,11 @@ left_from-past line at l = rw (lt-leb at (length line) l) refl
 pub words_from : (line left : List ℕ) (at : ℕ) → at ≤ length line → left ≡ drop at line
     → words_left (left_from at line) ≡ first_word left ∷ words_left (left_after left)
 words_from line left at l is = ap words_left (left_from-within line at l) ∙ sym (ap (λ xs. words_left (Some xs)) is) ∙ words_split left
+
+-- the words that a line has from a place on
+pub words_split_at : (line : List ℕ) (at : ℕ) (words : List (List ℕ)) → words_left (left_from at line) ≡ words → at ≤ length line
+    → let left = take (length line - at) (drop at line) in words ≡ first_word left ∷ words_left (left_after left)
+words_split_at line at words is l = sym is ∙ words_from line _ at l (take_rest line at)
 
 -- what is left past that word
 pub left_from-past_word : (line left : List ℕ) (at end : ℕ) → at ≤ length line → left ≡ drop at line → end ≡ length (first_word left)

@@ -3,8 +3,8 @@ use Rattle.std.proofs.Common.{◌≡◌, ℕ, zero, suc, ◌<◌, ◌≤◌, tru
 use Rattle.std.specs.Option.{option_map}
 use Rattle.std.proofs.lemmas.List.{append-nil}
 use Rattle.std.proofs.lemmas.Bool.Decides.{nat_tests}
-use Rattle.strategy_text.specs.declared.stop.Stop.{Stop}
-use Rattle.strategy_text.specs.declared.stop.Stop.TheVariants.{Memory, Form}
+use Rattle.strategy_text.specs.declared.stop.LineStop.{LineStop}
+use Rattle.strategy_text.specs.declared.stop.LineStop.TheVariants.{Memory, Form}
 use Rattle.strategy_text.specs.Words.{number_of, after, number_at}
 use Rattle.strategy_text.specs.Reading.{Reads, numbers_at, prepended, many_at, each_at, more_words}
 use Rattle.strategy_text.proofs.Steps.{mapped, after_takes}
@@ -115,9 +115,10 @@ none-prepended (Some x) = refl
 pub from_none : {X : Type 0} (so_far : List X) (read r : Option (List X × List (List ℕ))) → so_far ≡ [] → prepended so_far read ≡ r → read ≡ r
 from_none so_far read r e h = sym (rw e (none-prepended read)) ∙ h
 
-pub many_fails : {X : Type 0} (begin : Beginning) (item : Item X) (so_far : List X) (words rest left after-it : List (List ℕ)) (total : Option (List X × List (List ℕ))) (e : Stop)
-    → begin words ≡ Some rest → 0 < length words → Reads (let r : Result X Stop = Err e in r) left (item rest) → Goes begin item so_far words total
-    → Reads (let r : Result (List X) Stop = Err e in r) after-it total
+pub many_fails : {X : Type 0} (begin : Beginning) (item : Item X) (so_far : List X) (words rest left after-it : List (List ℕ)) (total : Option (List X × List (List ℕ)))
+    (e : LineStop)
+    → begin words ≡ Some rest → 0 < length words → Reads (let r : Result X LineStop = Err e in r) left (item rest) → Goes begin item so_far words total
+    → Reads (let r : Result (List X) LineStop = Err e in r) after-it total
 many_fails begin item so_far words rest left after-it total Memory e some k h = tt
 many_fails begin item so_far words rest left after-it total Form e some k h = many_stops begin item so_far words rest total e k some h
 

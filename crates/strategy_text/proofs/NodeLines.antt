@@ -4,7 +4,8 @@ use Rattle.strategy_text.specs.declared.node.AdvNode.{AdvNode}
 use Rattle.strategy_text.specs.declared.node.AlgNode.{AlgNode}
 use Rattle.strategy_text.specs.declared.node.Format.{Format}
 use Rattle.strategy_text.specs.Text.{AnyNode, of_adversary, of_algorithm, position_words, step_words, act_words, adversary_line, algorithm_line}
-use Rattle.strategy_text.specs.Spelling.{most_line_bytes, IsSpellableAdversary, IsSpellableAlgorithm, SpellsNode}
+use Rattle.port_io.specs.Lines.{longest_line}
+use Rattle.strategy_text.specs.Spelling.{IsSpellableAdversary, IsSpellableAlgorithm, SpellsNode}
 use Rattle.strategy_text.specs.Words.{words_left}
 use Rattle.strategy_text.specs.Reading.{adversary_at, algorithm_at}
 use Rattle.strategy_text.proofs.Lines.{words_again, line_takes}
@@ -15,14 +16,14 @@ use Rattle.strategy_text.proofs.ActsAgain.{algorithm_again}
 use Rattle.strategy_text.proofs.NodeWords.{adversarys_words, algorithms_words}
 
 -- a line that is read as a node spells it
-pub adversary_line_takes : (format : Format) (number : ℕ) (line : List ℕ) (node : AdvNode) → length line ≤ most_line_bytes
+pub adversary_line_takes : (format : Format) (number : ℕ) (line : List ℕ) (node : AdvNode) → length line ≤ longest_line
     → adversary_at format number (words_left (Some line)) ≡ Some node → SpellsNode format number line (of_adversary node)
 unfolding adversary_line
 adversary_line_takes format number line node short e =
     let t = adversary_takes format number (words_left (Some line)) node e in
     record { spellable = t.1; short = short; spelled = line_takes line (decimal number ∷ position_words node.loads node.items ++ step_words node.step) t.0 }
 
-pub algorithm_line_takes : (format : Format) (number : ℕ) (line : List ℕ) (node : AlgNode) → length line ≤ most_line_bytes
+pub algorithm_line_takes : (format : Format) (number : ℕ) (line : List ℕ) (node : AlgNode) → length line ≤ longest_line
     → algorithm_at format number (words_left (Some line)) ≡ Some node → SpellsNode format number line (of_algorithm node)
 unfolding algorithm_line
 algorithm_line_takes format number line node short e =
@@ -67,5 +68,5 @@ algorithm_refused format number line le e node h =
     cc
 
 -- a line of too many bytes spells no node
-pub long_refused : (format : Format) (number : ℕ) (line : List ℕ) → 16384 < length line → (node : AnyNode) → SpellsNode format number line node → ⊥
+pub long_refused : (format : Format) (number : ℕ) (line : List ℕ) → longest_line < length line → (node : AnyNode) → SpellsNode format number line node → ⊥
 long_refused format number line long node h = omega (arith, h.short)

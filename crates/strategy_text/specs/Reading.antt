@@ -14,8 +14,8 @@ use Rattle.strategy_text.specs.declared.node.Step.{Step}
 use Rattle.strategy_text.specs.declared.node.Step.TheVariants.{Send, Burst}
 use Rattle.strategy_text.specs.declared.node.Then.{Then}
 use Rattle.strategy_text.specs.declared.node.Then.TheVariants.{Over, To}
-use Rattle.strategy_text.specs.declared.stop.Stop.{Stop}
-use Rattle.strategy_text.specs.declared.stop.Stop.TheVariants.{Memory, Form}
+use Rattle.strategy_text.specs.declared.stop.LineStop.{LineStop}
+use Rattle.strategy_text.specs.declared.stop.LineStop.TheVariants.{Memory, Form}
 use Rattle.strategy_text.specs.Words.{number_of, after, number_at}
 
 infixl 10 ◌>>=◌
@@ -35,24 +35,25 @@ Takes None left read = read ≡ None
 Takes (Some x) left read = read ≡ Some (x, left)
 
 -- what a function returned, with the words that it left, is what reading gives, unless memory ran out
-abbrev pub Reads : {X : Type 0} → Result X Stop → List (List ℕ) → Option (X × List (List ℕ)) → Type 0
+abbrev pub Reads : {X : Type 0} → Result X LineStop → List (List ℕ) → Option (X × List (List ℕ)) → Type 0
 Reads (Ok x) left read = read ≡ Some (x, left)
 Reads (Err Memory) left read = Unit {0}
 Reads (Err Form) left read = read ≡ None
 
 -- what a function wrote, with the words that it left, is what reading gives, unless memory ran out
-abbrev pub ReadsInto : {X : Type 0} → Result (Unit {0}) Stop → X → List (List ℕ) → Option (X × List (List ℕ)) → Type 0
+abbrev pub ReadsInto : {X : Type 0} → Result (Unit {0}) LineStop → X → List (List ℕ)
+    → Option (X × List (List ℕ)) → Type 0
 ReadsInto (Ok u) x left read = read ≡ Some (x, left)
 ReadsInto (Err Memory) x left read = Unit {0}
 ReadsInto (Err Form) x left read = read ≡ None
 
 -- what a function returned of the whole line is what reading gives, unless memory ran out
-abbrev pub Gives : {X : Type 0} → Result X Stop → Option X → Type 0
+abbrev pub Gives : {X : Type 0} → Result X LineStop → Option X → Type 0
 Gives (Ok x) read = read ≡ Some x
 Gives (Err Memory) read = Unit {0}
 Gives (Err Form) read = read ≡ None
 
-abbrev pub GivesInto : {X : Type 0} → Result (Unit {0}) Stop → X → Option X → Type 0
+abbrev pub GivesInto : {X : Type 0} → Result (Unit {0}) LineStop → X → Option X → Type 0
 GivesInto (Ok u) x read = read ≡ Some x
 GivesInto (Err Memory) x read = Unit {0}
 GivesInto (Err Form) x read = read ≡ None

@@ -1,5 +1,6 @@
 use Rattle.std.specs.Prelude.{ℕ, ◌≡◌, ◌≤◌, ◌≢◌, List, [], length, Option, Some, None, All}
 use Rattle.items.specs.Game.{GameNumbers}
+use Rattle.port_io.specs.Lines.{longest_line}
 use Rattle.strategy_text.specs.declared.node.AdvNode.{AdvNode}
 use Rattle.strategy_text.specs.declared.node.AlgNode.{AlgNode}
 use Rattle.strategy_text.specs.declared.node.Act.{Act}
@@ -28,10 +29,6 @@ most_child = 4294967295
 -- the most nodes of a strategy
 abbrev pub most_nodes : ℕ
 most_nodes = 4000000000
-
--- the most bytes of a line, without its line feed
-abbrev pub most_line_bytes : ℕ
-most_line_bytes = 16384
 
 -- ---- what a line can spell
 
@@ -120,7 +117,7 @@ pub record IsSpellable (strategy : Strategy) : Type 0 where
 -- a line that spells a node of this number
 pub record SpellsNode (format : Format) (number : ℕ) (line : List ℕ) (node : AnyNode) : Type 0 where
   pub spellable : IsSpellableNode format node
-  pub short : length line ≤ most_line_bytes
+  pub short : length line ≤ longest_line
   pub spelled : line ≡ node_line number node
 
 -- a line that spells three numbers of a game, be they in the ranges of a game or not

@@ -12,16 +12,17 @@ ghost use Rattle.strategy_text.specs.Reading.{burst_at, step_at, adversary_at};
 
 use crate::node::{AdvNode, Format, Placement, Placements, Step, Then};
 use crate::position::{read_list, read_position};
-use crate::stop::{LINE_BYTES, Stop};
+use crate::stop::LineStop;
 use crate::words::Words;
 use items::{Nums, Sequence};
 use packing_witness::Packing;
+use port_io::LONGEST_LINE;
 use std::alloc::{AllocError, Global};
 use std::mem;
 
 /// The lists of a packing whose first was read, in the memory of another packing.
 #[inline(always)]
-fn bins(words: &mut Words, first: Nums, spare: Packing) -> Result<Packing, Stop>
+fn read_bins(words: &mut Words, first: Nums, spare: Packing) -> Result<Packing, LineStop>
     ensures { Reads result words.new (bins_at first words.old) }
 {
     let mut packing = spare;
@@ -38,31 +39,31 @@ fn bins(words: &mut Words, first: Nums, spare: Packing) -> Result<Packing, Stop>
 /// The lists of a packing, with a slash between two, in the memory of another packing.
 #[tactic(auto, unfolding(crate::specs::Reading::pack_at))]
 #[inline(always)]
-fn packing(words: &mut Words, spare: Packing) -> Result<Packing, Stop>
+fn read_packing(words: &mut Words, spare: Packing) -> Result<Packing, LineStop>
     ensures { Reads result words.new (pack_at words.old) }
 {
     let mut spare = spare;
     let mut first = spare.lend_bin(0);
     read_list(words, &mut first)?;
-    bins(words, first, spare)
+    read_bins(words, first, spare)
 }
 
 /// A packing, which may be missing in format 2, in the memory of another one.
 #[tactic(auto, unfolding(crate::specs::Reading::optional_pack_at))]
 #[inline(always)]
-fn optional_packing(
+fn read_optional_packing(
     format: Format,
     words: &mut Words,
     spare: Packing,
-) -> Result<Option<Packing>, Stop>
+) -> Result<Option<Packing>, LineStop>
     ensures { Reads result words.new (optional_pack_at format words.old) }
 {
     if words.accept(b"pack") {
-        let pack = packing(words, spare)?;
+        let pack = read_packing(words, spare)?;
         return Ok(Some(pack));
     }
     match format {
-        Format::One => Err(Stop::Form),
+        Format::One => Err(LineStop::Form),
         Format::Two => Ok(None),
     }
 }
@@ -70,7 +71,7 @@ fn optional_packing(
 /// What follows a placement.
 #[tactic(auto, unfolding(crate::specs::Reading::then_at))]
 #[inline(always)]
-fn next(words: &mut Words) -> Option<Then>
+fn read_next(words: &mut Words) -> Option<Then>
     ensures { Takes result words.new (then_at words.old) }
 {
     if words.accept(b"over") {
@@ -86,24 +87,24 @@ fn next(words: &mut Words) -> Option<Then>
 /// A placement after its first word.
 #[tactic(auto, unfolding(crate::specs::Reading::placement_at))]
 #[inline(always)]
-fn placement(words: &mut Words) -> Option<Placement>
+fn read_placement(words: &mut Words) -> Option<Placement>
     ensures { Takes result words.new (placement_at words.old) }
 {
     let load = words.size()?;
-    let next = next(words)?;
+    let next = read_next(words)?;
     Some(Placement { load, next })
 }
 
 /// The placements, in the memory of a list that is empty.
 #[inline(always)]
-fn each_placement(words: &mut Words, empty: Placements) -> Result<Placements, Stop>
+fn read_each_placement(words: &mut Words, empty: Placements) -> Result<Placements, LineStop>
     requires { empty ≡ [] }
     ensures { Reads result words.new (each_at (after (codes "on")) placement_at words.old) }
 {
     let mut placements = empty;
     while words.accept(b"on") {
-        let Some(placement) = placement(words) else {
-            return Err(Stop::Form);
+        let Some(placement) = read_placement(words) else {
+            return Err(LineStop::Form);
         };
         placements.push(placement)?;
     }
@@ -113,13 +114,13 @@ fn each_placement(words: &mut Words, empty: Placements) -> Result<Placements, St
 /// The placements, at least one, in the memory of a list that is empty.
 #[tactic(auto, using(crate::proofs::Steps::some_again), unfolding(crate::specs::Reading::placements_at))]
 #[inline(always)]
-fn placements(words: &mut Words, empty: Placements) -> Result<Placements, Stop>
+fn read_placements(words: &mut Words, empty: Placements) -> Result<Placements, LineStop>
     requires { empty ≡ [] }
     ensures { Reads result words.new (placements_at words.old) }
 {
-    let placements = each_placement(words, empty)?;
+    let placements = read_each_placement(words, empty)?;
     if placements.is_empty() {
-        return Err(Stop::Form);
+        return Err(LineStop::Form);
     }
     Ok(placements)
 }
@@ -127,13 +128,18 @@ fn placements(words: &mut Words, empty: Placements) -> Result<Placements, Stop>
 /// An item that is sent, after the first word.
 #[tactic(auto, unfolding(crate::specs::Reading::send_at))]
 #[inline(always)]
-fn send(format: Format, words: &mut Words, spare: Packing, empty: Placements) -> Result<Step, Stop>
+fn read_send(
+    format: Format,
+    words: &mut Words,
+    spare: Packing,
+    empty: Placements,
+) -> Result<Step, LineStop>
     requires { empty ≡ [] }
     ensures { Reads result words.new (send_at format words.old) }
 {
-    let size = words.size().ok_or(Stop::Form)?;
-    let pack = optional_packing(format, words, spare)?;
-    let placements = placements(words, empty)?;
+    let size = words.size().ok_or(LineStop::Form)?;
+    let pack = read_optional_packing(format, words, spare)?;
+    let placements = read_placements(words, empty)?;
     Ok(Step::Send {
         size,
         pack,
@@ -143,34 +149,39 @@ fn send(format: Format, words: &mut Words, spare: Packing, empty: Placements) ->
 
 /// A burst.
 #[tactic(auto, unfolding(crate::specs::Reading::burst_at))]
-fn burst(words: &mut Words, spare: Packing) -> Result<Step, Stop>
+fn read_burst(words: &mut Words, spare: Packing) -> Result<Step, LineStop>
     ensures { Reads result words.new (burst_at words.old) }
 {
     if !words.accept(b"burst") {
-        return Err(Stop::Form);
+        return Err(LineStop::Form);
     }
-    let count = words.size().ok_or(Stop::Form)?;
-    let size = words.size().ok_or(Stop::Form)?;
+    let count = words.size().ok_or(LineStop::Form)?;
+    let size = words.size().ok_or(LineStop::Form)?;
     if !words.accept(b"pack") {
-        return Err(Stop::Form);
+        return Err(LineStop::Form);
     }
-    let pack = packing(words, spare)?;
+    let pack = read_packing(words, spare)?;
     Ok(Step::Burst { count, size, pack })
 }
 
 /// What is sent, in the memory of a packing and of a list of placements that is empty.
 #[tactic(auto, unfolding(crate::specs::Reading::step_at))]
 #[inline(always)]
-fn step(format: Format, words: &mut Words, spare: Packing, empty: Placements) -> Result<Step, Stop>
+fn read_step(
+    format: Format,
+    words: &mut Words,
+    spare: Packing,
+    empty: Placements,
+) -> Result<Step, LineStop>
     requires { empty ≡ [] }
     ensures { Reads result words.new (step_at format words.old) }
 {
     if words.accept(b"send") {
-        return send(format, words, spare, empty);
+        return read_send(format, words, spare, empty);
     }
     match format {
-        Format::One => Err(Stop::Form),
-        Format::Two => burst(words, spare),
+        Format::One => Err(LineStop::Form),
+        Format::Two => read_burst(words, spare),
     }
 }
 
@@ -205,21 +216,21 @@ fn spare_packing(alloc: Global, step: &mut Step) -> Packing {
 /// Reads a node of the adversary of this number into a node in place of what it holds.
 #[tactic(auto, unfolding(crate::specs::Reading::adversary_at))]
 #[inline(always)]
-fn adversary(
+fn fill_adversary(
     alloc: Global,
     format: Format,
     words: &mut Words,
     number: u32,
     node: &mut AdvNode,
-) -> Result<(), Stop>
+) -> Result<(), LineStop>
     ensures { GivesInto result node.new (adversary_at format number words.old) }
 {
     read_position(words, number, &mut node.loads, &mut node.items)?;
     let empty = emptied(alloc, &mut node.step);
     let spare = spare_packing(alloc, &mut node.step);
-    node.step = step(format, words, spare, empty)?;
+    node.step = read_step(format, words, spare, empty)?;
     if !words.is_at_end() {
-        return Err(Stop::Form);
+        return Err(LineStop::Form);
     }
     Ok(())
 }
@@ -246,8 +257,8 @@ pub fn parse_adversary(
 }
 
 /// Reads the node that [`parse_adversary`] gives into a node in place of what it holds, in the memory of its lists of
-/// loads, items and placements and of its packing where that is enough. False exactly where the line spells none; the node may then hold
-/// anything.
+/// loads, items and placements and of its packing where that is enough. False exactly where the line spells none; the
+/// node may then hold anything.
 #[inline(never)]
 pub fn read_adversary(
     alloc: Global,
@@ -260,12 +271,12 @@ pub fn read_adversary(
     ensures refused { IfOk result (λ read.
         OnFalse read ((other : AdvNode) → SpellsNode format number line.now (of_adversary other) → ⊥)) }
 {
-    if line.len() > LINE_BYTES {
+    if line.len() > LONGEST_LINE {
         return Ok(false);
     }
-    match adversary(alloc, format, &mut Words::new(line), number, node) {
+    match fill_adversary(alloc, format, &mut Words::new(line), number, node) {
         Ok(()) => Ok(true),
-        Err(Stop::Form) => Ok(false),
-        Err(Stop::Memory) => Err(AllocError),
+        Err(LineStop::Form) => Ok(false),
+        Err(LineStop::Memory) => Err(AllocError),
     }
 }

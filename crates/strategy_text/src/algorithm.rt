@@ -11,16 +11,17 @@ ghost use Rattle.strategy_text.specs.Reading.{reply_at, act_at, algorithm_at};
 
 use crate::node::{Act, AlgNode, Entries, Entry, Format};
 use crate::position::read_position;
-use crate::stop::{LINE_BYTES, Stop};
+use crate::stop::LineStop;
 use crate::words::Words;
 use items::Sequence;
+use port_io::LONGEST_LINE;
 use std::alloc::{AllocError, Global};
 use std::mem;
 
 /// A reply.
 #[tactic(auto, unfolding(crate::specs::Reading::entry_at))]
 #[inline(always)]
-fn entry(words: &mut Words) -> Option<Entry>
+fn read_entry(words: &mut Words) -> Option<Entry>
     ensures { Takes result words.new (entry_at words.old) }
 {
     let size = words.size()?;
@@ -37,14 +38,14 @@ fn entry(words: &mut Words) -> Option<Entry>
 
 /// The replies to the end of the line, in the memory of a list that is empty.
 #[inline(always)]
-fn each_entry(words: &mut Words, empty: Entries) -> Result<Entries, Stop>
+fn read_each_entry(words: &mut Words, empty: Entries) -> Result<Entries, LineStop>
     requires { empty ≡ [] }
     ensures { Reads result words.new (each_at more_words entry_at words.old) }
 {
     let mut entries = empty;
     while !words.is_at_end() {
-        let Some(entry) = entry(words) else {
-            return Err(Stop::Form);
+        let Some(entry) = read_entry(words) else {
+            return Err(LineStop::Form);
         };
         entries.push(entry)?;
     }
@@ -54,16 +55,16 @@ fn each_entry(words: &mut Words, empty: Entries) -> Result<Entries, Stop>
 /// The replies: a dash for none, else one or more to the end of the line; in the memory of a list that is empty.
 #[tactic(auto, using(crate::proofs::Steps::some_again), unfolding(crate::specs::Reading::entries_at))]
 #[inline(always)]
-fn entries(words: &mut Words, empty: Entries) -> Result<Entries, Stop>
+fn read_entries(words: &mut Words, empty: Entries) -> Result<Entries, LineStop>
     requires { empty ≡ [] }
     ensures { Reads result words.new (entries_at words.old) }
 {
     if words.accept(b"-") {
         return Ok(empty);
     }
-    let entries = each_entry(words, empty)?;
+    let entries = read_each_entry(words, empty)?;
     if entries.is_empty() {
-        return Err(Stop::Form);
+        return Err(LineStop::Form);
     }
     Ok(entries)
 }
@@ -71,7 +72,7 @@ fn entries(words: &mut Words, empty: Entries) -> Result<Entries, Stop>
 /// Bins kept for big items.
 #[tactic(auto, unfolding(crate::specs::Reading::big_at))]
 #[inline(always)]
-fn big(words: &mut Words) -> Option<Act>
+fn read_big(words: &mut Words) -> Option<Act>
     ensures { Takes result words.new (big_at words.old) }
 {
     if !words.accept(b"big") {
@@ -84,31 +85,31 @@ fn big(words: &mut Words) -> Option<Act>
 /// Replies, or bins kept for big items.
 #[tactic(auto, unfolding(crate::specs::Reading::reply_at))]
 #[inline(always)]
-fn reply(format: Format, words: &mut Words, empty: Entries) -> Result<Act, Stop>
+fn read_reply(format: Format, words: &mut Words, empty: Entries) -> Result<Act, LineStop>
     requires { empty ≡ [] }
     ensures { Reads result words.new (reply_at format words.old) }
 {
     if words.accept(b"reply") {
-        let entries = entries(words, empty)?;
+        let entries = read_entries(words, empty)?;
         return Ok(Act::Reply(entries));
     }
     match format {
-        Format::One => Err(Stop::Form),
-        Format::Two => big(words).ok_or(Stop::Form),
+        Format::One => Err(LineStop::Form),
+        Format::Two => read_big(words).ok_or(LineStop::Form),
     }
 }
 
 /// What is done, the replies in the memory of a list that is empty.
 #[tactic(auto, unfolding(crate::specs::Reading::act_at))]
 #[inline(always)]
-fn act(format: Format, words: &mut Words, empty: Entries) -> Result<Act, Stop>
+fn read_act(format: Format, words: &mut Words, empty: Entries) -> Result<Act, LineStop>
     requires { empty ≡ [] }
     ensures { Reads result words.new (act_at format words.old) }
 {
     if words.accept(b"finish") {
         return Ok(Act::Finish);
     }
-    reply(format, words, empty)
+    read_reply(format, words, empty)
 }
 
 /// An empty list in the memory of the replies of an act, which then has none.
@@ -130,20 +131,20 @@ fn emptied(alloc: Global, act: &mut Act) -> Entries
 /// Reads a node of the algorithm of this number into a node in place of what it holds.
 #[tactic(auto, unfolding(crate::specs::Reading::algorithm_at))]
 #[inline(always)]
-fn algorithm(
+fn fill_algorithm(
     alloc: Global,
     format: Format,
     words: &mut Words,
     number: u32,
     node: &mut AlgNode,
-) -> Result<(), Stop>
+) -> Result<(), LineStop>
     ensures { GivesInto result node.new (algorithm_at format number words.old) }
 {
     read_position(words, number, &mut node.loads, &mut node.items)?;
     let empty = emptied(alloc, &mut node.act);
-    node.act = act(format, words, empty)?;
+    node.act = read_act(format, words, empty)?;
     if !words.is_at_end() {
-        return Err(Stop::Form);
+        return Err(LineStop::Form);
     }
     Ok(())
 }
@@ -184,12 +185,12 @@ pub fn read_algorithm(
     ensures refused { IfOk result (λ read.
         OnFalse read ((other : AlgNode) → SpellsNode format number line.now (of_algorithm other) → ⊥)) }
 {
-    if line.len() > LINE_BYTES {
+    if line.len() > LONGEST_LINE {
         return Ok(false);
     }
-    match algorithm(alloc, format, &mut Words::new(line), number, node) {
+    match fill_algorithm(alloc, format, &mut Words::new(line), number, node) {
         Ok(()) => Ok(true),
-        Err(Stop::Form) => Ok(false),
-        Err(Stop::Memory) => Err(AllocError),
+        Err(LineStop::Form) => Ok(false),
+        Err(LineStop::Memory) => Err(AllocError),
     }
 }

@@ -5,7 +5,7 @@ ghost use Rattle.strategy_text.specs.Words.{has_space};
 ghost use Rattle.strategy_text.specs.Reading.{ReadsInto};
 ghost use Rattle.strategy_text.specs.Reading.{numbers_at, list_at, numbered_at, labelled_at, position_at};
 
-use crate::stop::Stop;
+use crate::stop::LineStop;
 use crate::words::Words;
 use items::Nums;
 use std::alloc::AllocError;
@@ -27,7 +27,7 @@ fn read_numbers(words: &mut Words, list: &mut Nums) -> Result<(), AllocError>
 /// Reads a list of numbers, a dash for none, else one or more numbers, into a list in place of what it holds.
 #[tactic(auto, using(crate::proofs::Steps::some_again), unfolding(crate::specs::Reading::list_at))]
 #[inline(always)]
-pub(crate) fn read_list(words: &mut Words, list: &mut Nums) -> Result<(), Stop>
+pub(crate) fn read_list(words: &mut Words, list: &mut Nums) -> Result<(), LineStop>
     ensures { ReadsInto result list.new words.new (list_at words.old) }
 {
     if words.accept(b"-") {
@@ -36,7 +36,7 @@ pub(crate) fn read_list(words: &mut Words, list: &mut Nums) -> Result<(), Stop>
     }
     read_numbers(words, list)?;
     if list.is_empty() {
-        return Err(Stop::Form);
+        return Err(LineStop::Form);
     }
     Ok(())
 }
@@ -55,12 +55,12 @@ fn is_numbered(words: &mut Words, number: u32) -> bool
 /// Reads a list after a word into a list in place of what it holds.
 #[tactic(auto, unfolding(crate::specs::Reading::labelled_at))]
 #[inline(always)]
-fn read_labelled(words: &mut Words, label: &[u8], list: &mut Nums) -> Result<(), Stop>
+fn read_labelled(words: &mut Words, label: &[u8], list: &mut Nums) -> Result<(), LineStop>
     requires { has_space label.now ≡ false }
     ensures { ReadsInto result list.new words.new (labelled_at label.now words.old) }
 {
     if !words.accept(label) {
-        return Err(Stop::Form);
+        return Err(LineStop::Form);
     }
     read_list(words, list)
 }
@@ -73,11 +73,11 @@ pub(crate) fn read_position(
     number: u32,
     loads: &mut Nums,
     items: &mut Nums,
-) -> Result<(), Stop>
+) -> Result<(), LineStop>
     ensures { ReadsInto result (loads.new, items.new) words.new (position_at number words.old) }
 {
     if !is_numbered(words, number) {
-        return Err(Stop::Form);
+        return Err(LineStop::Form);
     }
     read_labelled(words, b"loads", loads)?;
     read_labelled(words, b"items", items)?;

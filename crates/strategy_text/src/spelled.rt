@@ -73,7 +73,7 @@ impl Spelled for u16 {
 }
 
 /// Writes a list of numbers.
-fn list<K: Sink>(list: &[u16], buffer: &mut Buffer, sink: &mut K) -> Result<(), Failed>
+fn write_list<K: Sink>(list: &[u16], buffer: &mut Buffer, sink: &mut K) -> Result<(), Failed>
     ensures { Writes result
         (standing (K.written sink.old) (K.faults sink.old) buffer.old)
         (standing (K.written sink.new) (K.faults sink.new) buffer.new) (spaced (list_words list.now)) }
@@ -90,7 +90,7 @@ impl Spelled for Nums {
 
     fn put<K: Sink>(&self, buffer: &mut Buffer, sink: &mut K) -> Result<(), Failed> {
         buffer.word(sink, b"/")?;
-        list(self.as_slice(), buffer, sink)
+        write_list(self.as_slice(), buffer, sink)
     }
 }
 
@@ -134,7 +134,7 @@ impl Spelled for Entry {
 }
 
 /// Writes the lists of a packing, with a slash between two.
-fn bins<K: Sink>(bins: &[Nums], buffer: &mut Buffer, sink: &mut K) -> Result<(), Failed>
+fn write_bins<K: Sink>(bins: &[Nums], buffer: &mut Buffer, sink: &mut K) -> Result<(), Failed>
     ensures { Writes result
         (standing (K.written sink.old) (K.faults sink.old) buffer.old)
         (standing (K.written sink.new) (K.faults sink.new) buffer.new) (spaced (pack_words bins.now)) }
@@ -142,24 +142,24 @@ fn bins<K: Sink>(bins: &[Nums], buffer: &mut Buffer, sink: &mut K) -> Result<(),
     match bins {
         [] => Ok(()),
         [first, others @ ..] => {
-            list(first.as_slice(), buffer, sink)?;
+            write_list(first.as_slice(), buffer, sink)?;
             put_each(others, buffer, sink)
         }
     }
 }
 
 /// Writes a packing.
-fn packing<K: Sink>(pack: &Packing, buffer: &mut Buffer, sink: &mut K) -> Result<(), Failed>
+fn write_packing<K: Sink>(pack: &Packing, buffer: &mut Buffer, sink: &mut K) -> Result<(), Failed>
     ensures { Writes result
         (standing (K.written sink.old) (K.faults sink.old) buffer.old)
         (standing (K.written sink.new) (K.faults sink.new) buffer.new) (spaced (codes "pack" ∷ pack_words pack.now)) }
 {
     buffer.word(sink, b"pack")?;
-    bins(pack.bins(), buffer, sink)
+    write_bins(pack.bins(), buffer, sink)
 }
 
 /// Writes a packing, if there is one.
-fn optional_packing<K: Sink>(
+fn write_optional_packing<K: Sink>(
     pack: &Option<Packing>,
     buffer: &mut Buffer,
     sink: &mut K,
@@ -169,13 +169,13 @@ fn optional_packing<K: Sink>(
         (standing (K.written sink.new) (K.faults sink.new) buffer.new) (spaced (packing_words pack.now)) }
 {
     match pack {
-        Some(pack) => packing(pack, buffer, sink),
+        Some(pack) => write_packing(pack, buffer, sink),
         None => Ok(()),
     }
 }
 
 /// Writes a packing, if there is one, and the placements.
-fn branches<K: Sink>(
+fn write_branches<K: Sink>(
     pack: &Option<Packing>,
     placements: &[Placement],
     buffer: &mut Buffer,
@@ -186,12 +186,12 @@ fn branches<K: Sink>(
         (standing (K.written sink.new) (K.faults sink.new) buffer.new)
         (spaced (packing_words pack.now ++ flat_map placement_words placements.now)) }
 {
-    optional_packing(pack, buffer, sink)?;
+    write_optional_packing(pack, buffer, sink)?;
     put_each(placements, buffer, sink)
 }
 
 /// Writes an item that is sent.
-fn send<K: Sink>(
+fn write_send<K: Sink>(
     size: u16,
     pack: &Option<Packing>,
     placements: &[Placement],
@@ -205,11 +205,11 @@ fn send<K: Sink>(
 {
     let words = [Word::Keyword("send"), Word::Size(size)];
     put_each(&words, buffer, sink)?;
-    branches(pack, placements, buffer, sink)
+    write_branches(pack, placements, buffer, sink)
 }
 
 /// Writes a burst.
-fn burst<K: Sink>(
+fn write_burst<K: Sink>(
     count: u16,
     size: u16,
     pack: &Packing,
@@ -223,7 +223,7 @@ fn burst<K: Sink>(
 {
     let words = [Word::Keyword("burst"), Word::Size(count), Word::Size(size)];
     put_each(&words, buffer, sink)?;
-    packing(pack, buffer, sink)
+    write_packing(pack, buffer, sink)
 }
 
 impl Spelled for Step {
@@ -235,14 +235,18 @@ impl Spelled for Step {
                 size,
                 pack,
                 placements,
-            } => send(*size, pack, placements.as_slice(), buffer, sink),
-            Step::Burst { count, size, pack } => burst(*count, *size, pack, buffer, sink),
+            } => write_send(*size, pack, placements.as_slice(), buffer, sink),
+            Step::Burst { count, size, pack } => write_burst(*count, *size, pack, buffer, sink),
         }
     }
 }
 
 /// Writes the replies.
-fn entries<K: Sink>(entries: &[Entry], buffer: &mut Buffer, sink: &mut K) -> Result<(), Failed>
+fn write_entries<K: Sink>(
+    entries: &[Entry],
+    buffer: &mut Buffer,
+    sink: &mut K,
+) -> Result<(), Failed>
     ensures { Writes result
         (standing (K.written sink.old) (K.faults sink.old) buffer.old)
         (standing (K.written sink.new) (K.faults sink.new) buffer.new) (spaced (entries_words entries.now)) }
@@ -254,14 +258,14 @@ fn entries<K: Sink>(entries: &[Entry], buffer: &mut Buffer, sink: &mut K) -> Res
 }
 
 /// Writes a node's replies after their word.
-fn reply<K: Sink>(list: &[Entry], buffer: &mut Buffer, sink: &mut K) -> Result<(), Failed>
+fn write_reply<K: Sink>(list: &[Entry], buffer: &mut Buffer, sink: &mut K) -> Result<(), Failed>
     ensures { Writes result
         (standing (K.written sink.old) (K.faults sink.old) buffer.old)
         (standing (K.written sink.new) (K.faults sink.new) buffer.new)
         (spaced (codes "reply" ∷ entries_words list.now)) }
 {
     buffer.word(sink, b"reply")?;
-    entries(list, buffer, sink)
+    write_entries(list, buffer, sink)
 }
 
 impl Spelled for Act {
@@ -274,13 +278,13 @@ impl Spelled for Act {
                 let words = [Word::Keyword("big"), Word::Size(*bins)];
                 put_each(&words, buffer, sink)
             }
-            Act::Reply(list) => reply(list.as_slice(), buffer, sink),
+            Act::Reply(list) => write_reply(list.as_slice(), buffer, sink),
         }
     }
 }
 
 /// Writes a list after a word.
-fn labelled<K: Sink>(
+fn write_labelled<K: Sink>(
     label: &[u8],
     numbers: &[u16],
     buffer: &mut Buffer,
@@ -291,11 +295,11 @@ fn labelled<K: Sink>(
         (standing (K.written sink.new) (K.faults sink.new) buffer.new) (spaced (label.now ∷ list_words numbers.now)) }
 {
     buffer.word(sink, label)?;
-    list(numbers, buffer, sink)
+    write_list(numbers, buffer, sink)
 }
 
 /// Writes the loads and the items.
-pub(crate) fn position<K: Sink>(
+pub(crate) fn write_position<K: Sink>(
     loads: &[u16],
     items: &[u16],
     buffer: &mut Buffer,
@@ -305,6 +309,6 @@ pub(crate) fn position<K: Sink>(
         (standing (K.written sink.old) (K.faults sink.old) buffer.old)
         (standing (K.written sink.new) (K.faults sink.new) buffer.new) (spaced (position_words loads.now items.now)) }
 {
-    labelled(b"loads", loads, buffer, sink)?;
-    labelled(b"items", items, buffer, sink)
+    write_labelled(b"loads", loads, buffer, sink)?;
+    write_labelled(b"items", items, buffer, sink)
 }

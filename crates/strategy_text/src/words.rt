@@ -119,7 +119,7 @@ impl<'a> Words<'a> {
         Words { line, at: 0 }
     }
 
-    /// The same words.
+    /// A copy of what is left, with the same words.
     #[inline(always)]
     pub(crate) fn copy(&self) -> Words<'a>
         ensures { result ≡ self.now }

@@ -12,7 +12,7 @@ ghost use Rattle.strategy_text.specs.Writing.{standing, Writes};
 
 use crate::buffer::Buffer;
 use crate::node::{AdvNode, AlgNode, Format, Nodes, Side, Strategy};
-use crate::spelled::{Spelled, Word, position, put_each};
+use crate::spelled::{Spelled, Word, put_each, write_position};
 use items::Game;
 use port_io::{Failed, Sink};
 
@@ -20,7 +20,7 @@ impl Spelled for AdvNode {
     ghost words = { λ node. position_words node.loads node.items ++ step_words node.step };
 
     fn put<K: Sink>(&self, buffer: &mut Buffer, sink: &mut K) -> Result<(), Failed> {
-        position(self.loads.as_slice(), self.items.as_slice(), buffer, sink)?;
+        write_position(self.loads.as_slice(), self.items.as_slice(), buffer, sink)?;
         self.step.put(buffer, sink)
     }
 }
@@ -29,13 +29,13 @@ impl Spelled for AlgNode {
     ghost words = { λ node. position_words node.loads node.items ++ act_words node.act };
 
     fn put<K: Sink>(&self, buffer: &mut Buffer, sink: &mut K) -> Result<(), Failed> {
-        position(self.loads.as_slice(), self.items.as_slice(), buffer, sink)?;
+        write_position(self.loads.as_slice(), self.items.as_slice(), buffer, sink)?;
         self.act.put(buffer, sink)
     }
 }
 
 /// Writes a line of its first word and the words of some values.
-fn line<T: Spelled, K: Sink>(
+fn write_line<T: Spelled, K: Sink>(
     first: &[u8],
     others: &[T],
     buffer: &mut Buffer,
@@ -52,7 +52,7 @@ fn line<T: Spelled, K: Sink>(
 }
 
 /// Writes the line of the node of this number.
-fn node<K: Sink>(
+fn write_node<K: Sink>(
     nodes: &Nodes,
     number: u32,
     buffer: &mut Buffer,
@@ -68,13 +68,13 @@ fn node<K: Sink>(
     let first = digits.format(number).as_bytes();
     let i = number as usize;
     match nodes {
-        Nodes::Adversary(list) => line(first, &list.as_slice()[i..i + 1], buffer, sink),
-        Nodes::Algorithm(list) => line(first, &list.as_slice()[i..i + 1], buffer, sink),
+        Nodes::Adversary(list) => write_line(first, &list.as_slice()[i..i + 1], buffer, sink),
+        Nodes::Algorithm(list) => write_line(first, &list.as_slice()[i..i + 1], buffer, sink),
     }
 }
 
 /// Writes the lines of the nodes.
-fn nodes<K: Sink>(nodes: &Nodes, buffer: &mut Buffer, sink: &mut K) -> Result<(), Failed>
+fn write_nodes<K: Sink>(nodes: &Nodes, buffer: &mut Buffer, sink: &mut K) -> Result<(), Failed>
     requires { length (nodes_of nodes.now) ≤ 4000000000 }
     ensures { Writes result
         (standing (K.written sink.old) (K.faults sink.old) buffer.old)
@@ -83,7 +83,7 @@ fn nodes<K: Sink>(nodes: &Nodes, buffer: &mut Buffer, sink: &mut K) -> Result<()
 {
     let count = nodes.len() as u32;
     for number in 0..count {
-        node(nodes, number, buffer, sink)?;
+        write_node(nodes, number, buffer, sink)?;
     }
     Ok(())
 }
@@ -99,7 +99,7 @@ fn first_line(format: Format) -> &'static str
 }
 
 /// Writes the lines before the nodes.
-fn head<K: Sink>(
+fn write_head<K: Sink>(
     format: Format,
     game: &Game,
     side: Side,
@@ -113,26 +113,30 @@ fn head<K: Sink>(
         (text_of_lines (head_lines format game.now side count)) }
 {
     let nothing: [Word; 0] = [];
-    line(first_line(format).as_bytes(), &nothing, buffer, sink)?;
+    write_line(first_line(format).as_bytes(), &nothing, buffer, sink)?;
     let numbers = [
         Word::Size(game.m()),
         Word::Size(game.g()),
         Word::Size(game.t()),
     ];
-    line(b"game", &numbers, buffer, sink)?;
-    line(b"side", &[Word::Keyword(side.word())], buffer, sink)?;
-    line(b"nodes", &[Word::Number(count)], buffer, sink)
+    write_line(b"game", &numbers, buffer, sink)?;
+    write_line(b"side", &[Word::Keyword(side.word())], buffer, sink)?;
+    write_line(b"nodes", &[Word::Number(count)], buffer, sink)
 }
 
 /// Writes all lines.
-fn lines<K: Sink>(strategy: &Strategy, buffer: &mut Buffer, sink: &mut K) -> Result<(), Failed>
+fn write_lines<K: Sink>(
+    strategy: &Strategy,
+    buffer: &mut Buffer,
+    sink: &mut K,
+) -> Result<(), Failed>
     requires { IsSpellable strategy.now }
     ensures { Writes result
         (standing (K.written sink.old) (K.faults sink.old) buffer.old)
         (standing (K.written sink.new) (K.faults sink.new) buffer.new) (text_of strategy.now) }
 {
     let list = &strategy.nodes;
-    head(
+    write_head(
         strategy.format,
         &strategy.game,
         list.side(),
@@ -140,7 +144,7 @@ fn lines<K: Sink>(strategy: &Strategy, buffer: &mut Buffer, sink: &mut K) -> Res
         buffer,
         sink,
     )?;
-    nodes(list, buffer, sink)?;
+    write_nodes(list, buffer, sink)?;
     buffer.put(sink, b"end\n")
 }
 
@@ -158,6 +162,6 @@ pub fn write_strategy<K: Sink>(strategy: &Strategy, sink: &mut K) -> Result<(), 
     ensures err { OnErr result (AppendsSome (K.written sink.old) (K.written sink.new) (text_of strategy.now)) }
 {
     let mut buffer = Buffer::new();
-    lines(strategy, &mut buffer, sink)?;
+    write_lines(strategy, &mut buffer, sink)?;
     buffer.flush(sink)
 }

@@ -29,7 +29,8 @@ use Rattle.adversary_graph.specs.Playing.{ShowsEndPacking}
 use Rattle.adversary_graph.specs.Rules.{LeadsTo}
 use Rattle.adversary_graph.proofs.EndLemmas.{few_of_each, packed_here, packed_later}
 use Rattle.adversary_graph.proofs.WonLemmas.{met}
-use Rattle.strategy_transfer.specs.Weakened.{kept_at, kept_node, new_number, renumbered, sending, stays, weakened_adversary, weakened_placement, weakened_step}
+use Rattle.adversary_graph.proofs.RenamedLemmas.{renamed_alike}
+use Rattle.strategy_transfer.specs.Weakened.{kept_at, kept_node, new_number, sending, stays, weakened_adversary, weakened_placement, weakened_step}
 use Rattle.strategy_transfer.specs.Weakening.{AreLinked, IsNumbered, LeadsBelow, ShowEndPackings, packed_number}
 use Rattle.strategy_transfer.proofs.LegalEnds.{legal_ends, legal_first}
 use Rattle.strategy_transfer.proofs.WeakenLemmas.{filter_map_push}
@@ -144,10 +145,6 @@ numbered_more target nodes number numbers after before put =
       each = pushed (λ k x. x ≡ new_number target nodes k) number (new_number target nodes number) numbers before.one_each before.each refl;
     })
 
-renumbered_alike : (name another : ℕ → ℕ) (next : Then) → IfSome (child_of next) (λ child. name child ≡ another child) → renumbered name next ≡ renumbered another next
-renumbered_alike name another Over h = refl
-renumbered_alike name another (To child) h = ap To h
-
 abbrev AreNamedAlike : (ℕ → ℕ) → (ℕ → ℕ) → List Placement → Type 0
 AreNamedAlike name another placements = All (λ placement. IfSome (child_of placement.next) (λ child. name child ≡ another child)) placements
 
@@ -156,7 +153,7 @@ placements_alike : (target : ℕ) (name another : ℕ → ℕ) (size : ℕ) (pla
 placements_alike target name another size [] all = refl
 placements_alike target name another size (placement ∷ placements) all =
     let P : (Placement → Type 0) = λ p. IfSome (child_of p.next) (λ child. name child ≡ another child) in
-    let here = renumbered_alike name another placement.next (All-head P placement placements all) in
+    let here = renamed_alike name another placement.next (All-head P placement placements all) in
     let first : weakened_placement target name size placement ≡ weakened_placement target another size placement =
     ap (λ next. record { load = placement.load; next = cond (leb target (placement.load + size)) Over next }) here in
     ap (λ p. p ∷ map (weakened_placement target name size) placements) first

@@ -14,7 +14,7 @@ use Rattle.std.proofs.lemmas.Simd.{map-map}
 use Rattle.items.specs.Game.{GameNumbers, IsGame}
 use Rattle.items.specs.Multiset.{sizes_of}
 use Rattle.items.specs.Packable.{IsPacking}
-use Rattle.items.proofs.ListLemmas.{slice_get-front, slice_get-push}
+use Rattle.items.proofs.ListLemmas.{range_push, slice_get-front, slice_get-push}
 use Rattle.items.proofs.SizesLemmas.{size_from_Contains}
 use Rattle.loads.specs.After.{after}
 use Rattle.loads.specs.Loads.{IsLoads}
@@ -33,30 +33,21 @@ use Rattle.adversary_graph.specs.Judging.{node_at}
 use Rattle.adversary_graph.specs.Legal.{IsLegal}
 use Rattle.adversary_graph.specs.Nodes.{IsOfFormat, position_of, sent_items}
 use Rattle.adversary_graph.specs.Play.{end_packing}
+use Rattle.adversary_graph.specs.Renamed.{renamed_then}
 use Rattle.adversary_graph.specs.Rules.{IsOver, IsOverAtTarget, IsPacked, LeadsTo, MeetsRules, most_below_target}
 use Rattle.adversary_graph.proofs.EndLemmas.{end_packing_holds}
 use Rattle.adversary_graph.proofs.WonLemmas.{earlier_node}
-use Rattle.strategy_transfer.specs.Weakened.{all_over, is_over, kept_at, kept_node, new_number, packing_for, renumbered, stays, weakened_adversary, weakened_node}
+use Rattle.algorithm_graph.proofs.PoolLemmas.{slice_get-take-within}
+use Rattle.strategy_transfer.specs.Weakened.{all_over, is_over, kept_at, kept_node, new_number, packing_for, stays, weakened_adversary, weakened_node}
 use Rattle.strategy_transfer.specs.Weakened.{weakened_pack, weakened_placement, weakened_step, with_target}
 use Rattle.strategy_transfer.proofs.LegalEnds.{legal_ends, legal_root}
 
 -- ---- lists
 
-range_push : (a n : ℕ) → range_with_len a (suc n) ≡ range_with_len a n ++ (a + n) ∷ []
-range_push a zero = ap (λ (x : ℕ). x ∷ []) (omega arith)
-range_push a (suc n) = ap (λ (xs : List ℕ). a ∷ xs) (range_push (a + 1) n ∙ ap (λ (x : ℕ). range_with_len (a + 1) n ++ x ∷ []) (omega arith))
-
 -- the element at the end of a list
 last_of : {X : Type 0} (xs : List X) (y : X) → slice_get (xs ++ y ∷ []) (length xs) ≡ Some y
 last_of [] y = refl
 last_of (x ∷ xs) y = last_of xs y
-
--- an element stands among the first ones
-among_first : {X : Type 0} (xs : List X) (k i : ℕ) (x : X) → i < k → slice_get xs i ≡ Some x → slice_get (take k xs) i ≡ Some x
-among_first [] k i x l e = absurd (none-some x e)
-among_first (y ∷ ys) zero i x l e = absurd (omega (arith, l))
-among_first (y ∷ ys) (suc k) zero x l e = e
-among_first (y ∷ ys) (suc k) (suc i) x l e = among_first ys k i x (omega (arith, l)) e
 
 filter_map_next : {Y : Type 0} (h : ℕ → Option Y) (n : ℕ) → filter_map h (range_with_len 0 (suc n)) ≡ filter_map h (range_with_len 0 n) ++ cons_option (h n) []
 filter_map_next h n =
@@ -273,7 +264,7 @@ module _ (target : ℕ) (name : ℕ → ℕ) (size : ℕ) where
   over_stays placement over =
       ⊎_elim (λ t. rw t tt) (λ f. rw f (by placement.next over)) (cases_Bool (leb target (placement.load + size)))
     where
-      by : (next : Then) → IsOver next → IsOver (renumbered name next)
+      by : (next : Then) → IsOver next → IsOver (renamed_then name next)
       by Over over = tt
       by (To child) over = over
 
@@ -341,15 +332,15 @@ at_lower game target name size placement l over =
     let new = weakened_placement target name size placement in
     ⊎_elim
     (λ (t : leb target (placement.load + size) ≡ true).
-    let is : new.next ≡ Over = cond-true (leb target (placement.load + size)) Over (renumbered name placement.next) t in
+    let is : new.next ≡ Over = cond-true (leb target (placement.load + size)) Over (renamed_then name placement.next) t in
     (λ h. leb-true target (placement.load + size) t, λ h. subst IsOver (sym is) tt))
     (λ (f : leb target (placement.load + size) ≡ false).
-    let is : new.next ≡ renumbered name placement.next = cond-false (leb target (placement.load + size)) Over (renumbered name placement.next) f in
+    let is : new.next ≡ renamed_then name placement.next = cond-false (leb target (placement.load + size)) Over (renamed_then name placement.next) f in
     let below = leb-false target (placement.load + size) f in
     (λ h. absurd (still_on placement.next (subst IsOver is h) (λ o. omega (arith, over.0 o, below, l))), λ reached. absurd (omega (arith, reached, below))))
     (cases_Bool (leb target (placement.load + size)))
   where
-    still_on : (next : Then) → IsOver (renumbered name next) → (IsOver next → ⊥) → ⊥
+    still_on : (next : Then) → IsOver (renamed_then name next) → (IsOver next → ⊥) → ⊥
     still_on Over h not = not tt
     still_on (To child) h not = h
 
@@ -361,15 +352,15 @@ leads_lower game target name size placement p earlier later below leads h =
     let next = placement.next in
     ⊎_elim
     (λ (t : leb target (placement.load + size) ≡ true). subst (λ n. LeadsTo later n (after p placement.load size))
-    (sym (cond-true (leb target (placement.load + size)) Over (renumbered name next) t)) tt)
+    (sym (cond-true (leb target (placement.load + size)) Over (renamed_then name next) t)) tt)
     (λ (f : leb target (placement.load + size) ≡ false). subst (λ n. LeadsTo later n (after p placement.load size))
-    (sym (cond-false (leb target (placement.load + size)) Over (renumbered name next) f))
+    (sym (cond-false (leb target (placement.load + size)) Over (renamed_then name next) f))
     (by next h (All-put (λ load. load < target) (placement.load + size) _ (leb-false target (placement.load + size) f)
     (All-take_out (λ load. load < target) placement.load p.loads below))))
     (cases_Bool (leb target (placement.load + size)))
   where
     by : (next : Then) → LeadsTo earlier next (after p placement.load size) → All (λ load. load < target) (after p placement.load size).loads
-        → LeadsTo later (renumbered name next) (after p placement.load size)
+        → LeadsTo later (renamed_then name next) (after p placement.load size)
     by Over h all = tt
     by (To child) h all = leads child h all
 
@@ -505,7 +496,7 @@ module _ (format : Format) (game : GameNumbers) (target : ℕ) (nodes : List Adv
       let child_stays = stays_from target nodes before.0 (subst (λ (q : Position). All (λ load. load < target) q.loads) (sym before.3) below) in
       let there = kept_there game target nodes (length nodes) child before.0 (omega arith) (slice_get_within nodes child before.0 before.1) before.1 child_stays in
       let lower : name child < place = omega (arith, number_above target nodes child k before.0 before.1 child_stays before.2, kept.moved) in
-      let first = among_first news place (name child) (kept_as game target nodes child before.0) lower there in
+      let first = slice_get-take-within news place (name child) (kept_as game target nodes child before.0) lower there in
       slice_get-map position_of (take place news) (name child) ∙ ap (option_map position_of) first ∙ ap Some before.3 in
       let final = eqb (place + 1) (length news) in
       let m = rules_lower game target name format earlier later (eqb (k + 1) (length nodes)) final node.loads node.items node.step (end_packing nodes (k + 1) k) high

@@ -15,6 +15,7 @@ use Rattle.strategy_text.specs.declared.node.Strategy.{Strategy}
 use Rattle.strategy_text.specs.declared.node.Then.{Then}
 use Rattle.strategy_text.specs.declared.node.Then.TheVariants.{Over, To}
 use Rattle.adversary_graph.specs.Play.{beyond, end_packing, without_all}
+use Rattle.adversary_graph.specs.Renamed.{renamed_then}
 
 -- the game with another target
 abbrev pub with_target : ℕ → GameNumbers → GameNumbers
@@ -32,14 +33,10 @@ new_number target nodes number = count_by (stays target) (take number nodes)
 
 -- ---- what a node sends and leads to
 
-abbrev pub renumbered : (ℕ → ℕ) → Then → Then
-renumbered name Over = Over
-renumbered name (To child) = To (name child)
-
 -- what follows: the play is over where the load with the sent item reaches the target
 abbrev pub weakened_placement : ℕ → (ℕ → ℕ) → ℕ → Placement → Placement
 weakened_placement target name size placement = record placement {
-  next = if nat_le target (placement.load + size) then Over else renumbered name placement.next;
+  next = if nat_le target (placement.load + size) then Over else renamed_then name placement.next;
 }
 
 abbrev pub is_over : Then → Bool

@@ -5,7 +5,7 @@ ghost use Rattle.std.specs.Prelude.{◌≡◌, IfOk};
 use std::alloc::{AllocError, Global};
 use strategy_text::{Act, AlgNode, AlgNodes, Entries, Entry};
 
-// The same nodes.
+// A copy of the nodes.
 pub fn copied_nodes(alloc: Global, nodes: &[AlgNode]) -> Result<AlgNodes, AllocError>
     ensures { IfOk result (λ copy. copy ≡ nodes.now) }
 {

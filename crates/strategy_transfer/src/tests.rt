@@ -28,7 +28,7 @@ const X: &[&str] = &[
     "4 loads 0 0 items - send 1 pack 1 / - on 0 to 3",
 ];
 
-// The same on twice the scale.
+// The strategy `X` on twice the scale.
 const X_TWICE: &[&str] = &[
     "0 loads 4 4 items 2 2 4 send 4 pack 2 4 / 2 4 on 4 over",
     "1 loads 4 0 items 2 2 send 4 pack 2 4 / 2 on 4 over on 0 to 0",

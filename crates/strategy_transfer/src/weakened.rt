@@ -10,7 +10,7 @@ ghost use Rattle.adversary_graph.specs.Play.{child_of};
 ghost use Rattle.strategies.specs.AnyNode.{IsLegal};
 ghost use Rattle.strategy_transfer.specs.Faults.{IsFaultOf};
 ghost use Rattle.strategy_transfer.specs.Targets.{CanWeakenStrategy, IsWeaker};
-ghost use Rattle.strategy_transfer.specs.Weakened.{all_over, is_over, kept_node, new_number, packing_for, renumbered};
+ghost use Rattle.strategy_transfer.specs.Weakened.{all_over, is_over, kept_node, new_number, packing_for};
 ghost use Rattle.strategy_transfer.specs.Weakened.{sending, stays, weakened_adversary, weakened_node, weakened_nodes};
 ghost use Rattle.strategy_transfer.specs.Weakened.{weakened_pack, weakened_placement, weakened_step};
 ghost use Rattle.strategy_transfer.specs.Weakened.{weakened_strategy};
@@ -20,7 +20,7 @@ ghost use Rattle.strategy_transfer.specs.Weakening.{AreFew, AreLinked, CanWeaken
 use crate::copies::copied_nodes;
 use crate::ends::{end_packing, packed_nodes};
 use crate::fault::TransferFault;
-use adversary_graph::without_beyond;
+use adversary_graph::{renumber_next, without_beyond};
 use items::{Game, Nums};
 use packing_witness::Packing;
 use std::alloc::{AllocError, Global};
@@ -223,7 +223,7 @@ fn sending(
     })
 }
 
-// The same packing; where there is none and all placements are over, one that is made from the end packing.
+// A copy of the packing; where there is none and all placements are over, one that is made from the end packing.
 fn weakened_pack(
     game: &Game,
     end: &Packing,
@@ -306,16 +306,6 @@ fn weakened_placement(t: u16, numbers: &[u32], size: u16, placement: &Placement)
     }
     Placement {
         load,
-        next: renumbered(numbers, placement.next),
-    }
-}
-
-fn renumbered(numbers: &[u32], next: Then) -> Then
-    requires { IfSome (child_of next) (λ child. child < length numbers.now) }
-    ensures { result ≡ renumbered (slice_index numbers.now) next }
-{
-    match next {
-        Then::Over => Then::Over,
-        Then::To(child) => Then::To(numbers[child as usize]),
+        next: renumber_next(numbers, placement.next),
     }
 }

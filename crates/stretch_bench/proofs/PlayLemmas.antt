@@ -8,7 +8,7 @@ use Rattle.std.specs.Cmp.Lexicographic.{pointwise, same_text}
 use Rattle.std.specs.Prelude.{slice_get, nat_eq, option_map, unwrap_or, MatchOption}
 use Rattle.std.specs.declared.alloc.Global.{Global}
 use Rattle.adversary_graph.specs.Play.{IsLost, play}
-use Rattle.adversary_graph.specs.Playing.{play_of}
+use Rattle.adversary_graph.specs.Told.{play_of}
 use Rattle.adversary_graph.specs.Pools as adversary
 use Rattle.items.specs.Game.{GameNumbers}
 use Rattle.match_player.specs.Lines.{play_text}

@@ -1,7 +1,7 @@
 -- The command `play`: a strategy of the adversary against a player.
 use Rattle.std.specs.Prelude.{◌≡◌, ◌≢◌, ℕ, ◌-◌, ◌<◌, List, [], ◌∷◌, Some, codes, length, slice_get, unwrap_or}
 use Rattle.adversary_graph.specs.Play.{IsLost, play}
-use Rattle.adversary_graph.specs.Playing.{play_of}
+use Rattle.adversary_graph.specs.Told.{play_of}
 use Rattle.checker.specs.declared.fault.Wanted.TheVariants.{Only}
 use Rattle.items.specs.Game.{GameNumbers}
 use Rattle.match_player.specs.Lines.{play_text}

@@ -34,7 +34,8 @@ returns-then-not-is_over_at_target g c =
     let burst = rw c.game.ensures.value at (c.if-not-is_long_enough.ensures.0 refl) in
     let pack = rw (c.game.ensures.value, c.format.ensures.value) at (c.if-not-is_packed.ensures.0 refl) in
     let placements = c.if-not-places_each_load.ensures.0 refl in
-    record { exact = (the.over, refl, inr (send, inr (burst, inr (pack, inr (placements, inl (refl, λ h. false≢true (c.if-not-is_over_at_target.ensures.1 (rw c.game.ensures.value h)))))))) }
+    record { exact = (the.over, refl, inr (send, inr (burst, inr (pack, inr (placements,
+    inl (refl, λ h. false≢true (c.if-not-is_over_at_target.ensures.1 (rw c.game.ensures.value h)))))))) }
 
 pub returns-then-not-leads_to_children : goal.returns-then-not-leads_to_children
 returns-then-not-leads_to_children g c =
@@ -84,11 +85,13 @@ returns-then-not-is_root g c =
 
 pub is_packed-requires-clause-items : goal.is_packed-requires-clause-items
 is_packed-requires-clause-items g c =
-    multiset_of_loads c.args.terms.now.game c.args.terms.now.sizes c.args.loads.now c.args.items.now c.game.ensures.legal.of_game c.game.ensures.legal.sizes c.requires.loads c.requires.items
+    multiset_of_loads c.args.terms.now.game c.args.terms.now.sizes c.args.loads.now c.args.items.now
+    c.game.ensures.legal.of_game c.game.ensures.legal.sizes c.requires.loads c.requires.items
 
 pub leads_to_children-requires-clause-items : goal.leads_to_children-requires-clause-items
 leads_to_children-requires-clause-items g c =
-    multiset_of_loads c.args.terms.now.game c.args.terms.now.sizes c.args.loads.now c.args.items.now c.game.ensures.legal.of_game c.game.ensures.legal.sizes c.requires.loads c.requires.items
+    multiset_of_loads c.args.terms.now.game c.args.terms.now.sizes c.args.loads.now c.args.items.now
+    c.game.ensures.legal.of_game c.game.ensures.legal.sizes c.requires.loads c.requires.items
 
 pub is_packed-requires-clause-size : goal.is_packed-requires-clause-size
 is_packed-requires-clause-size g c =

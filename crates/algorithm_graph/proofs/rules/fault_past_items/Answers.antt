@@ -130,7 +130,8 @@ pub lead_to_children-requires-clause-sizes : goal.lead_to_children-requires-clau
 lead_to_children-requires-clause-sizes g c =
     let replies = c.in_ok-replies_if_said.ensures.0 c.if-not-branch.false in
     rw c.game.ensures.value (subst (λ (es : List Entry). All (HasSize c.args.terms.now.game) es) (sym c.entries_of-entries.ensures)
-    (entries_of_have_sizes c.args.terms.now.game c.args.terms.now.sizes (node_at (position c.args.loads.now c.args.items.now) c.args.act.now) c.args.act.now c.game.ensures.legal.sizes replies))
+    (entries_of_have_sizes c.args.terms.now.game c.args.terms.now.sizes (node_at (position c.args.loads.now c.args.items.now) c.args.act.now)
+    c.args.act.now c.game.ensures.legal.sizes replies))
 
 pub lead_to_children-requires-clause-named : goal.lead_to_children-requires-clause-named
 lead_to_children-requires-clause-named g c = c.if-not-name_loads.ensures.0 refl
@@ -159,8 +160,10 @@ big_finishes_if_said-requires g c =
 
 pub replies_if_said-requires : goal.replies_if_said-requires
 replies_if_said-requires g c =
-    multiset_from_items c.args.terms.now.game c.args.terms.now.sizes c.args.loads.now c.args.items.now c.game.ensures.legal.of_game c.game.ensures.legal.sizes c.requires.loads c.requires.items
+    multiset_from_items c.args.terms.now.game c.args.terms.now.sizes c.args.loads.now c.args.items.now
+    c.game.ensures.legal.of_game c.game.ensures.legal.sizes c.requires.loads c.requires.items
 
 pub lead_to_children-requires-clause-items : goal.lead_to_children-requires-clause-items
 lead_to_children-requires-clause-items g c =
-    multiset_of_loads c.args.terms.now.game c.args.terms.now.sizes c.args.loads.now c.args.items.now c.game.ensures.legal.of_game c.game.ensures.legal.sizes c.requires.loads c.requires.items
+    multiset_of_loads c.args.terms.now.game c.args.terms.now.sizes c.args.loads.now c.args.items.now
+    c.game.ensures.legal.of_game c.game.ensures.legal.sizes c.requires.loads c.requires.items

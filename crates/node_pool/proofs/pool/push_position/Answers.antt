@@ -11,7 +11,8 @@ push_lists-requires-clause-loads g c =
     let rules = g.R.NodeRules in
     let pool = c.args.nodes.now in
     let legal = c.len-count.ensures.legal in
-    let here = node_position rules.position rules.IsOfFormat rules.MeetsRules g.met.R.NodeRules.rules_give_a_position pool c.args.number c.node-node.result.now legal c.node-node.ensures.value in
+    let here = node_position rules.position rules.IsOfFormat rules.MeetsRules g.met.R.NodeRules.rules_give_a_position pool c.args.number
+    c.node-node.result.now legal c.node-node.ensures.value in
     rw c.loads.ensures (AreLoads-of_game pool.game (rules.position c.node-node.result.now).loads legal.of_game here.loads)
 
 pub push_lists-requires-clause-items : goal.push_lists-requires-clause-items
@@ -19,7 +20,8 @@ push_lists-requires-clause-items g c =
     let rules = g.R.NodeRules in
     let pool = c.args.nodes.now in
     let legal = c.len-count.ensures.legal in
-    let here = node_position rules.position rules.IsOfFormat rules.MeetsRules g.met.R.NodeRules.rules_give_a_position pool c.args.number c.node-node.result.now legal c.node-node.ensures.value in
+    let here = node_position rules.position rules.IsOfFormat rules.MeetsRules g.met.R.NodeRules.rules_give_a_position pool c.args.number
+    c.node-node.result.now legal c.node-node.ensures.value in
     rw c.items.ensures (sizes_up_to_120 pool.game.capacity (rules.position c.node-node.result.now).items legal.of_game.capacity.high here.items)
 
 pub returns-clause-ok : goal.returns-clause-ok

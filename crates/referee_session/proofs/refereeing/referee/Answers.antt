@@ -150,7 +150,8 @@ returns-in-Other-clause-outcome g c =
     let next = subst (IsNext (asking p.pool p.root reader left written c.m.result c.loop-lines.lines c.next_answer.new.lines mid new)) c.in-Other.is c.in-Ok.ensures.ok in
     let not_over = not_ended p.pool p.root reader left written now i.pool i.root going in
     let of_game = c.m.ensures.value ∙ ap (λ (game : GameNumbers). game.bins) c.game.ensures.value ∙ ap (λ (pool : Pool). pool.game.bins) i.pool in
-    let comes = comes_other p.pool p.root reader left written now.answers c.loop-lines.lines mid told i.on c.m.result next.0 c.next_answer.new.lines new told of_game not_over next.1 in
+    let comes = comes_other p.pool p.root reader left written now.answers c.loop-lines.lines mid told i.on c.m.result next.0 c.next_answer.new.lines new told
+    of_game not_over next.1 in
     closed p.pool p.root reader left written now.answers c.loop-lines.lines c.next_answer.new.lines mid told new more _
     c.bad_line-in-Other.result (why.other next.0)
     c.close-in-Other.result _ i.on comes refl (c.bad_line-in-Other.ensures ∙ ap (λ (n : ℕ). bad_line (n + 1)) c.count-in-Other.ensures.count)

@@ -5,7 +5,7 @@ use Rattle.strategy_text.proofs.adversary.read_adversary.Goals as goal
 
 pub returns-in-Ok-clause-spelled : goal.returns-in-Ok-clause-spelled
 returns-in-Ok-clause-spelled c =
-    adversary_line_takes c.args.format c.args.number c.args.line.now c.adversary.new.node (omega arith)
+    adversary_line_takes c.args.format c.args.number c.args.line.now c.fill_adversary.new.node (omega arith)
     (sym (ap (adversary_at c.args.format c.args.number) c.new.ensures) ∙ c.in-Ok.ensures)
 
 pub returns-in-Err-Form-clause-refused : goal.returns-in-Err-Form-clause-refused

@@ -5,7 +5,7 @@ use Rattle.strategy_text.proofs.algorithm.read_algorithm.Goals as goal
 
 pub returns-in-Ok-clause-spelled : goal.returns-in-Ok-clause-spelled
 returns-in-Ok-clause-spelled c =
-    algorithm_line_takes c.args.format c.args.number c.args.line.now c.algorithm.new.node (omega arith)
+    algorithm_line_takes c.args.format c.args.number c.args.line.now c.fill_algorithm.new.node (omega arith)
     (sym (ap (algorithm_at c.args.format c.args.number) c.new.ensures) ∙ c.in-Ok.ensures)
 
 pub returns-in-Err-Form-clause-refused : goal.returns-in-Err-Form-clause-refused

@@ -22,12 +22,17 @@ invariant_of-result c =
     let whole = c.loop-s.invariant.so_far ∙ take_all c.loop-s.s-index c.args.list.now (omega (arith, c.loop-s-test.false)) in
     record {
       sizes = AreSizes-sizes_in c.loop-s.bits (λ none. some c (sym whole ∙ none));
-      clear = clear_up_to_greatest c.loop-s.bits c.g-most.result c.loop-s.last c.loop-s.invariant.clear c.loop-s.invariant.within (omega (arith, c.g-most.ensures.value, c.g-most.ensures.legal.capacity.high));
+      clear = clear_up_to_greatest c.loop-s.bits c.g-most.result c.loop-s.last c.loop-s.invariant.clear c.loop-s.invariant.within
+          (omega (arith, c.g-most.ensures.value, c.g-most.ensures.legal.capacity.high));
     }
 
 pub returns : goal.returns
 returns c =
     let whole = c.loop-s.invariant.so_far ∙ take_all c.loop-s.s-index c.args.list.now (omega (arith, c.loop-s-test.false)) in
     record {
-      exact = (whole, AreSizes-read c.loop-s.bits c.args.game.now.capacity c.loop-s.last c.args.list.now whole (some c) c.loop-s.invariant.clear (omega (arith, c.loop-s.invariant.within, c.g-most.ensures.value)));
+      exact = (
+        whole,
+        AreSizes-read c.loop-s.bits c.args.game.now.capacity c.loop-s.last c.args.list.now whole (some c) c.loop-s.invariant.clear
+            (omega (arith, c.loop-s.invariant.within, c.g-most.ensures.value)),
+      );
     }

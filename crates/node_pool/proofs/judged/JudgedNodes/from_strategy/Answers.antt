@@ -1,5 +1,5 @@
-use Rattle.std.proofs.Common.{◌≡◌, ◌∙◌, List, sym, subst}
-use Rattle.node_pool.specs.Pools.{AreLegal, IsRoot, pool_of}
+use Rattle.std.proofs.Common.{◌∙◌, sym, subst}
+use Rattle.node_pool.specs.Pools.{AreLegal}
 use Rattle.node_pool.specs.Terms.{whole_game}
 use Rattle.node_pool.proofs.PoolLemmas.{IsPool-from_legal, root_of_legal}
 use Rattle.node_pool.proofs.judged.JudgedNodes.from_strategy.Goals as goal

@@ -1,3 +1,4 @@
+use Rattle.std.specs.Prelude.{slice_index}
 use Rattle.std.proofs.Common.{◌≡◌, ◌∙◌, ◌<◌, ◌+◌, ◌-◌, ◌++◌, ◌∷◌, [], ap, sym, subst, get_or, length, arith, ℕ, List}
 use Rattle.std.proofs.lemmas.List.{get_or_default}
 use Rattle.items.specs.Game.{GameNumbers}
@@ -21,10 +22,10 @@ known c =
     asked c in loads_at c.self.inside.game c.self.inside.items c.self.inside.sums.items c.self.inside.words.items c.self.inside.total c.args.load c.args.row c.g.ensures.legal
     c.self.invariant a.in_rows a.start
 
-sum_is : (c : In_ok-push_digits) (x : ℕ) → x ≡ get_or c.self.inside.sums.items c.args.row x → x ≡ get_or c.self.inside.sums.items c.args.row 0
+sum_is : (c : In_ok-push_digits) (x : ℕ) → x ≡ get_or c.self.inside.sums.items c.args.row x → x ≡ slice_index c.self.inside.sums.items c.args.row
 sum_is c x e =
     let l : c.args.row < length c.self.inside.sums.items = omega (arith, (asked c).in_rows, c.self.invariant.sums_are.size) in
-    e ∙ sym (get_or_default c.self.inside.sums.items c.args.row 0 x l)
+    let place = c.args.row in e ∙ sym (get_or_default c.self.inside.sums.items place 0 x l)
 
 -- a list to which the loads were pushed
 pushed : (load base base' places places' row last last' : ℕ) (none one more all : List ℕ) → none ≡ [] → one ≡ none ++ load ∷ [] → more ≡ one ++ digits_of base' places' row
@@ -54,4 +55,4 @@ returns c =
     c.in_ok-push_digits.ensures c.in_ok-push-2.ensures.ok (omega (arith, c.from.ensures, c.g.ensures.value)) (omega (arith, c.m.ensures.value)) last in
     subst (λ xs. HasTotals c.args.self.now.game c.args.self.now.items xs) (sym all)
     (subst (λ (x : ItemsSent). HasTotals x.game x.items (c.args.load ∷ (digits_of (game.capacity + 1)
-    (game.bins - 2) c.args.row ++ (c.self.inside.total - c.args.load - get_or c.self.inside.sums.items c.args.row 0) ∷ []))) c.self.view_is k.reached)
+    (game.bins - 2) c.args.row ++ (c.self.inside.total - c.args.load - slice_index c.self.inside.sums.items c.args.row) ∷ []))) c.self.view_is k.reached)
