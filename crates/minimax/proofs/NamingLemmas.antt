@@ -1,12 +1,13 @@
 -- The nodes to which replies lead, and those of positions that finish, which are put where a reply leads to them.
-use Rattle.std.proofs.Common.{◌≡◌, ℕ, ◌+◌, ◌<◌, ◌⊎◌, Bool, true, false, Option, Some, List, [], ◌∷◌, ◌++◌, length, map, take, get_or}
+use Rattle.std.proofs.Common.{◌≡◌, ◌↔◌, ℕ, ◌+◌, ◌<◌, ◌≤◌, ◌⊎◌, Bool, true, false, Option, Some, List, [], ◌∷◌, ◌++◌, length, map, take, get_or}
 use Rattle.std.proofs.Common.{refl, sym, ap, ◌∙◌, subst, inl, inr, ⊎_elim, arith}
 use Rattle.std.specs.Prelude.{All, Contains, Err, IfOk, IsSome, Ok, Result, if◌then◌else◌}
 use Rattle.std.specs.declared.alloc.AllocError.{AllocError}
 use Rattle.std.proofs.lemmas.List.{length_push, map-append, take_more}
 use Rattle.std.proofs.lemmas.List.Elements.{All-push, All-weaker, All-contains}
-use Rattle.items.specs.Game.{GameNumbers}
+use Rattle.minimax.specs.declared.space.Space.{Space}
 use Rattle.loads.specs.After.{after}
+use Rattle.loads.specs.Descending.{IsStrictlyDescending}
 use Rattle.loads.specs.Position.{are_equal}
 use Rattle.loads.specs.Position.{StandsAt}
 use Rattle.loads.specs.declared.position.Position.{Position}
@@ -17,7 +18,7 @@ use Rattle.minimax.specs.Naming.{AreNumbered, HasReplies, IsEntryPlaced, IsNamed
 use Rattle.minimax.specs.Naming.{Numbers, PutsNamed, none_named, number_of, one_named}
 use Rattle.minimax.specs.Serving.{led_to}
 use Rattle.node_pool.specs.Pools.{terms_in}
-use Rattle.minimax.specs.State.{GoesOn, IsPending, IsReply, PutsReply}
+use Rattle.minimax.specs.State.{AreOfSizes, GoesOn, IsPending, IsReply, PutsReply}
 use Rattle.minimax.specs.declared.replies.Reply.{Reply}
 use Rattle.minimax.specs.declared.writing.Written.{Written}
 use Rattle.minimax.proofs.FreshLemmas.{are_equal-told, equal_positions}
@@ -51,17 +52,17 @@ Stays-trans a b c g h = record {
   numbers = h.numbers ∙ g.numbers;
 }
 
-pub Stays-all : (game : GameNumbers) (position : Position) (entries : List Entry) (w next : Written) → NamesAll game position entries w next → Stays w next
-Stays-all game position entries w next (none_named t) = Stays-refl t
-Stays-all game position entries w next (one_named start middle end entry number all c e names) =
-    Stays-trans w middle next (Stays-all game position entries w middle all) (Stays-names middle next (led_to position entry) number names)
+pub Stays-all : (space : Space) (position : Position) (entries : List Entry) (w next : Written) → NamesAll space position entries w next → Stays w next
+Stays-all space position entries w next (none_named t) = Stays-refl t
+Stays-all space position entries w next (one_named start middle end entry number all c e names) =
+    Stays-trans w middle next (Stays-all space position entries w middle all) (Stays-names middle next (led_to position entry) number names)
 
 pub Stays-numbers : (w next : Written) (position : Position) (told number : ℕ) → Numbers w next position told number → Stays w next
 Stays-numbers w next position told number (inl (e, h)) = subst (Stays w) (sym e) (Stays-refl w)
 Stays-numbers w next position told number (inr (e, names)) = Stays-names w next position number names
 
-pub HasReplies-stays : (game : GameNumbers) (w next : Written) → Stays w next → HasReplies game w → HasReplies game next
-HasReplies-stays game w next s h = record { of_game = s.of_game ∙ h.of_game; of_format = IsPlain-same w.pool next.pool s.of_terms h.of_format }
+pub HasReplies-stays : (space : Space) (w next : Written) → Stays w next → HasReplies space w → HasReplies space next
+HasReplies-stays space w next s h = record { of_game = s.of_game ∙ h.of_game; of_format = IsPlain-same space w.pool next.pool s.of_terms h.of_format }
 
 pub AreNumbered-stays : (earlier : List Reply) (w next : Written) → Stays w next → AreNumbered earlier w → AreNumbered earlier next
 AreNumbered-stays earlier w next s n = record {
@@ -171,30 +172,39 @@ leaves_number w next position number limit spare unnamed (inl (e, told)) room pl
 leaves_number w next position number limit spare unnamed (inr new) room placed = leaves_new w next position number new limit spare unnamed room placed
 
 -- where entries whose positions are placed were named, so is all that was
-pub leaves_all : (game : GameNumbers) (position : Position) (entries : List Entry) (w next : Written) → NamesAll game position entries w next → (limit spare : ℕ)
+pub leaves_all : (space : Space) (position : Position) (entries : List Entry) (w next : Written) → NamesAll space position entries w next → (limit spare : ℕ)
     (unnamed : List Position) → LeavesRoom limit spare unnamed w → All (IsEntryPlaced unnamed w position) entries → Leaves limit spare unnamed w next
-leaves_all game position entries w next (none_named t) limit spare unnamed room placed = Leaves-refl limit spare unnamed w room
-leaves_all game position entries w next (one_named start middle end entry number all c e names) limit spare unnamed room placed =
-    let first = leaves_all game position entries w middle all limit spare unnamed room placed in
+leaves_all space position entries w next (none_named t) limit spare unnamed room placed = Leaves-refl limit spare unnamed w room
+leaves_all space position entries w next (one_named start middle end entry number all c e names) limit spare unnamed room placed =
+    let first = leaves_all space position entries w middle all limit spare unnamed room placed in
     let here = first.keeps (led_to position entry) (All-contains (IsEntryPlaced unnamed w position) entries entry placed c e) in
     let second = leaves_number middle next (led_to position entry) number limit spare first.left names first.room here in
     record { left = second.left; room = second.room; keeps = λ p h. second.keeps p (first.keeps p h) }
 
 -- ---- the entries of a position
 
+-- entries with the same sizes
+pub AreOfSizes-same : (space : Space) (above high : ℕ) (entries named : List Entry)
+    → map (λ (entry : Entry). entry.size) named ≡ map (λ (entry : Entry). entry.size) entries → AreOfSizes space above high entries
+    → AreOfSizes space above high named
+AreOfSizes-same space above high entries named e of = record {
+  descending = subst IsStrictlyDescending (sym e) of.descending;
+  exact = λ size. subst (λ xs. Contains xs size ↔ (Contains space.sizes size × (above < size) × (size ≤ high))) (sym e) (of.exact size);
+}
+
 -- while entries get their numbers, each may get its own
-pub may_name : (game : GameNumbers) (earlier : List Reply) (position : Position) (entries : List Entry) (entry : Entry) (w next : Written)
-    → NamesAll game position entries w next → MayNameAll game earlier w position entries → Contains entries entry → MayName game earlier next position entry
-may_name game earlier position entries entry w next all may c =
-    let stays = Stays-all game position entries w next all in
-    let left = leaves_all game position entries w next all may.limit 1 may.unnamed may.under may.placed in
-    let pending = All-contains (IsPending game earlier position) entries entry may.pending c in
+pub may_name : (space : Space) (earlier : List Reply) (position : Position) (entries : List Entry) (entry : Entry) (w next : Written)
+    → NamesAll space position entries w next → MayNameAll space earlier w position entries → Contains entries entry → MayName space earlier next position entry
+may_name space earlier position entries entry w next all may c =
+    let stays = Stays-all space position entries w next all in
+    let left = leaves_all space position entries w next all may.limit 1 may.unnamed may.under may.placed in
+    let pending = All-contains (IsPending space earlier position) entries entry may.pending c in
     record {
       playable = may.playable;
       pending = pending;
       number = record {
-        replies = HasReplies-stays game w next stays may.replies;
-        playable = IsPlayable-after game position entry.load entry.size may.playable pending.names.load pending.names.below pending.may_come;
+        replies = HasReplies-stays space w next stays may.replies;
+        playable = IsPlayable-after space position entry.load entry.size may.playable pending.names.load pending.names.below pending.listed pending.may_come;
         led = pending.leads;
         numbered = AreNumbered-stays earlier w next stays may.numbered;
         few = may.few;
@@ -203,25 +213,25 @@ may_name game earlier position entries entry w next all may c =
     }
 
 -- an entry that got its number leads to a node
-pub reply_named : (game : GameNumbers) (earlier : List Reply) (before later : Written) (position : Position) (entry named : Entry) (limit spare : ℕ)
-    (unnamed : List Position) → IsPending game earlier position entry → LeavesRoom limit spare unnamed before → IsNamed before later position entry named
-    → IsReply game later.pool.nodes position named
-reply_named game earlier before later position entry named limit spare unnamed pending room is =
+pub reply_named : (space : Space) (earlier : List Reply) (before later : Written) (position : Position) (entry named : Entry) (limit spare : ℕ)
+    (unnamed : List Position) → IsPending space earlier position entry → LeavesRoom limit spare unnamed before → IsNamed before later position entry named
+    → IsReply space.game later.pool.nodes position named
+reply_named space earlier before later position entry named limit spare unnamed pending room is =
     let stands = numbers_stand before later (led_to position entry) entry.to named.to limit spare unnamed is.number room in
     record {
       names = record {
         load = subst (Contains position.loads) (sym is.load) pending.names.load;
-        below = subst (λ l. l + named.size < game.target) (sym is.load) (subst (λ x. entry.load + x < game.target) (sym is.size) pending.names.below);
+        below = subst (λ l. l + named.size < space.game.target) (sym is.load) (subst (λ x. entry.load + x < space.game.target) (sym is.size) pending.names.below);
       };
       leads = subst (λ l. StandsAt (map algorithm.position_of later.pool.nodes) named.to (after position l named.size)) (sym is.load)
           (subst (λ x. StandsAt (map algorithm.position_of later.pool.nodes) named.to (after position entry.load x)) (sym is.size) stands);
     }
 
 -- one more entry got its number
-pub names_more : (game : GameNumbers) (position : Position) (entries : List Entry) (entry named : Entry) (w middle next : Written)
-    → NamesAll game position entries w middle → Contains entries entry → IsNamed middle next position entry named → NamesAll game position entries w next
-names_more game position entries entry named w middle next all c is = elim is.number [
-  | inl (e, h) ↦ subst (NamesAll game position entries w) (sym e) all
+pub names_more : (space : Space) (position : Position) (entries : List Entry) (entry named : Entry) (w middle next : Written)
+    → NamesAll space position entries w middle → Contains entries entry → IsNamed middle next position entry named → NamesAll space position entries w next
+names_more space position entries entry named w middle next all c is = elim is.number [
+  | inl (e, h) ↦ subst (NamesAll space position entries w) (sym e) all
   | inr (e, names) ↦ one_named w middle next entry named.to all c e names
 ]
 
@@ -234,18 +244,18 @@ sizes_named entries all more entry named i l at size is before =
     ∙ ap (λ x. map size_of (take i entries) ++ x ∷ []) (size ∙ ap size_of at)
     ∙ sym (map-append size_of (take i entries) (get_or entries i entry ∷ [])) ∙ sym (ap (map size_of) (take_more entries i entry l))
 
-pub replies_named : (game : GameNumbers) (w next : Written) (position : Position) (all more : List Entry) (entry named : Entry)
-    → IsNamed w next position entry named → All (IsReply game w.pool.nodes position) all → IsReply game next.pool.nodes position named
-    → more ≡ all ++ named ∷ [] → All (IsReply game next.pool.nodes position) more
-replies_named game w next position all more entry named is each reply e =
+pub replies_named : (space : Space) (w next : Written) (position : Position) (all more : List Entry) (entry named : Entry)
+    → IsNamed w next position entry named → All (IsReply space.game w.pool.nodes position) all → IsReply space.game next.pool.nodes position named
+    → more ≡ all ++ named ∷ [] → All (IsReply space.game next.pool.nodes position) more
+replies_named space w next position all more entry named is each reply e =
     let stays = Stays-numbers w next (led_to position entry) entry.to named.to is.number in
-    subst (All (IsReply game next.pool.nodes position)) (sym e)
-    (All-push (IsReply game next.pool.nodes position) all named (All-weaker (IsReply game w.pool.nodes position)
-    (IsReply game next.pool.nodes position) (λ one r. IsReply-goes game w.pool.nodes next.pool.nodes position one stays.nodes r) all each) reply)
+    subst (All (IsReply space.game next.pool.nodes position)) (sym e)
+    (All-push (IsReply space.game next.pool.nodes position) all named (All-weaker (IsReply space.game w.pool.nodes position)
+    (IsReply space.game next.pool.nodes position) (λ one r. IsReply-goes space w.pool.nodes next.pool.nodes position one stays.nodes r) all each) reply)
 
 -- the node that replies was put after those that finish
-pub puts_named : (game : GameNumbers) (position : Position) (entries : List Entry) (w between next : Written) (result : Result ℕ AllocError)
-    → NamesAll game position entries w between → next ≡ record between { pool = next.pool } → IfOk result (PutsReply between.pool next.pool position)
-    → IfOk result (PutsNamed game w next position entries)
-puts_named game position entries w between next (Ok number) all same puts = record { between = between; all = all; puts = puts; same = same }
-puts_named game position entries w between next (Err error) all same puts = tt
+pub puts_named : (space : Space) (position : Position) (entries : List Entry) (w between next : Written) (result : Result ℕ AllocError)
+    → NamesAll space position entries w between → next ≡ record between { pool = next.pool } → IfOk result (PutsReply between.pool next.pool position)
+    → IfOk result (PutsNamed space w next position entries)
+puts_named space position entries w between next (Ok number) all same puts = record { between = between; all = all; puts = puts; same = same }
+puts_named space position entries w between next (Err error) all same puts = tt

@@ -1,17 +1,16 @@
 -- The rules of the nodes that a search puts.
 use Rattle.std.proofs.Common.{◌≡◌, ℕ, ◌+◌, ◌-◌, ◌<◌, ◌≤◌, false, Option, Some, None, List, [], ◌∷◌, ◌++◌, map, reverse}
 use Rattle.std.proofs.Common.{length, get_or, sym, ap, ◌∙◌, subst, arith}
-use Rattle.std.specs.Prelude.{All, MatchOption}
+use Rattle.std.specs.Prelude.{All, Contains, MatchOption}
 use Rattle.std.proofs.lemmas.Bool.{false≢true}
 use Rattle.std.proofs.lemmas.List.{get_or-map, length-map, get_or-reverse, length-reverse}
-use Rattle.std.proofs.lemmas.List.FromFn.{get_or-map-range_with_len, length-map-range_with_len}
 use Rattle.std.proofs.lemmas.List.Elements.{All-nil, All-weaker}
 use Rattle.items.specs.Game.{GameNumbers}
-use Rattle.items.specs.Multiset.{sizes_of, put_ascending}
-use Rattle.items.specs.Packable.{IsPacking, IsRoom, Packable}
+use Rattle.minimax.specs.declared.space.Space.{Space}
+use Rattle.items.specs.Multiset.{put_ascending}
+use Rattle.items.specs.Packable.{IsPacking, Packable}
 use Rattle.items.proofs.MultisetLemmas.{Same-push_put}
 use Rattle.items.proofs.SameLemmas.{Same-sym}
-use Rattle.items.proofs.SizesLemmas.{Contains_from_size}
 use Rattle.loads.specs.After.{after}
 use Rattle.loads.specs.Position.{position, StandsAt}
 use Rattle.loads.specs.declared.position.Position.{Position}
@@ -36,67 +35,72 @@ use Rattle.algorithm_graph.specs.Pools as algorithm_pools
 use Rattle.algorithm_graph.specs.Judging.{node_at}
 use Rattle.algorithm_graph.specs.Rules.{MeetsRules, NamesLoad, ReplyToEach}
 use Rattle.good_situations.specs.Finish.{Finishes}
-use Rattle.minimax.specs.State.{IsPlain, IsPlayable, IsReply, MayAct, PlacesAll, ReplyToAll, numbers_down}
+use Rattle.minimax.specs.State.{AreOfAll, IsPlain, IsPlayable, IsReply, MayAct, PlacesAll, ReplyToAll}
 
 -- ---- the algorithm's nodes
 
--- the sizes of the turned entries are 1, 2 and so on
-size_at : (room : ℕ) (entries : List Entry) → map (λ (entry : Entry). entry.size) entries ≡ numbers_down room room
-    → (k d : ℕ) → k < room → get_or (map (λ (entry : Entry). entry.size) (reverse entries)) k d ≡ k + 1
-size_at room entries sizes k d l =
+abbrev sizes_in : List Entry → List ℕ
+sizes_in entries = map (λ (entry : Entry). entry.size) entries
+
+-- the sizes of turned entries are the same from the end on
+turned_at : (entries : List Entry) (k d : ℕ) → k < length entries
+    → get_or (sizes_in (reverse entries)) k d ≡ get_or (sizes_in entries) (length entries - 1 - k) d
+turned_at entries k d l =
     let size : Entry → ℕ = λ entry. entry.size in
     let none : Entry = record { size = 0; load = 0; to = 0 } in
-    let len : length entries ≡ room = sym (length-map entries size) ∙ ap length sizes ∙ length-map-range_with_len (λ i. room - i) 0 room in
-    let in_turned : k < length (reverse entries) = omega (arith, length-reverse entries, len, l) in
-    let in_entries : k < length entries = omega (arith, len, l) in
     let place : ℕ = length entries - 1 - k in
-    let within : place < length entries = omega arith in
-    let turned = get_or-map size (reverse entries) k none d in_turned in
-    let other = get_or-reverse entries k none in_entries in
-    let back = get_or-map size entries place none 0 within in
-    let down = get_or-map-range_with_len (λ i. room - i) 0 room place place 0 (omega (arith, within, len)) (omega arith) in
-    turned ∙ ap size other ∙ sym back ∙ ap (λ xs. get_or xs place 0) sizes ∙ down ∙ omega (arith, len, l)
+    let turned = get_or-map size (reverse entries) k none d (omega (arith, length-reverse entries, l)) in
+    turned ∙ ap size (get_or-reverse entries k none l) ∙ sym (get_or-map size entries place none d (omega (arith, l)))
 
-length_turned : (room : ℕ) (entries : List Entry) → map (λ (entry : Entry). entry.size) entries ≡ numbers_down room room
-    → length (map (λ (entry : Entry). entry.size) (reverse entries)) ≡ room
-length_turned room entries sizes =
-    let size : Entry → ℕ = λ entry. entry.size in
-    length-map (reverse entries) size ∙ length-reverse entries ∙ sym (length-map entries size) ∙ ap length sizes
-    ∙ length-map-range_with_len (λ i. room - i) 0 room
+length_turned : (entries : List Entry) → length (sizes_in (reverse entries)) ≡ length entries
+length_turned entries = length-map (reverse entries) (λ (entry : Entry). entry.size) ∙ length-reverse entries
+
+length_sizes : (entries : List Entry) → length (sizes_in entries) ≡ length entries
+length_sizes entries = length-map entries (λ (entry : Entry). entry.size)
 
 All-reverse : {X : Type 0} (P : X → Type 0) (xs : List X) → All P xs → All P (reverse xs)
 All-reverse P xs all k d l =
     let within : k < length xs = omega (arith, l, length-reverse xs) in
     subst P (sym (get_or-reverse xs k d within)) (all (length xs - 1 - k) d (omega arith))
 
-replies_to_each : (game : GameNumbers) (items : List ℕ) (room : ℕ) (entries : List Entry) → IsRoom game items room
-    → map (λ (entry : Entry). entry.size) entries ≡ numbers_down room room → ReplyToEach game (sizes_of game) items (reverse entries)
-replies_to_each game items room entries is_room sizes =
-    let turned = map (λ (entry : Entry). entry.size) (reverse entries) in
-    let len = length_turned room entries sizes in
-    let at = size_at room entries sizes in
+replies_to_each : (space : Space) (position : Position) (entries : List Entry) → AreOfAll space position entries
+    → ReplyToEach space.game space.sizes position.items (reverse entries)
+replies_to_each space position entries all =
+    let many = length_sizes entries in
+    let turned = length_turned entries in
+    let items = position.items in
     record {
-      ascending = λ k l. omega (arith, at k 0 (omega (arith, l, len)), at (k + 1) 0 (omega (arith, l, len)));
+      ascending = λ k l.
+          let next : length entries - 1 - (k + 1) + 1 ≡ length entries - 1 - k = omega (arith, l, turned) in
+          let down = all.sizes.descending (length entries - 1 - (k + 1)) (omega (arith, l, turned, many)) in
+          let lower = subst (λ i. get_or (sizes_in entries) i 0 < get_or (sizes_in entries) (length entries - 1 - (k + 1)) 0) next down in
+          omega (arith, lower, turned_at entries k 0 (omega (arith, l, turned)), turned_at entries (k + 1) 0 (omega (arith, l, turned)));
       exact = λ size. (
         λ c.
-            let e : c.0 + 1 ≡ size = sym (at c.0 size (omega (arith, c.1, len))) ∙ c.2 in
-            let within : size ≤ room = omega (arith, e, c.1, len) in
-            let packable = Packable-from_room game items room size is_room (omega (arith, e)) within in
-            (Contains_from_size game.capacity size (size_of_last game items size packable), packable),
+            let within : c.0 < length entries = omega (arith, c.1, turned) in
+            let there : Contains (sizes_in entries) size =
+            (length entries - 1 - c.0, omega (arith, within, many), sym (turned_at entries c.0 size within) ∙ c.2) in
+            let is = (all.sizes.exact size).0 there in
+            (is.0, Packable-from_room space.game items all.room size all.is_room is.1 is.2),
         λ h.
-            let low = (size_of_last game items size h.1).low in
-            let high = le_room game items room size is_room h.1 in
-            (size - 1, omega (arith, low, high, len), at (size - 1) size (omega (arith, low, high)) ∙ omega (arith, low)),
+            let low = (size_of_last space.game items size h.1).low in
+            let high = le_room space.game items all.room size all.is_room h.1 in
+            let c = (all.sizes.exact size).1 (h.0, low, high) in
+            let within : c.0 < length entries = omega (arith, c.1, many) in
+            let place : ℕ = length entries - 1 - c.0 in
+            let back : length entries - 1 - place ≡ c.0 = omega (arith, within) in
+            (place, omega (arith, within, turned), turned_at entries place size (omega (arith, within))
+                ∙ ap (λ i. get_or (sizes_in entries) i size) back ∙ c.2),
       );
     }
 
-pub MayAct-reply : (pool : algorithm_pools.Pool) (position : Position) (room : ℕ) (entries made : List Entry) → IsPlayable pool.game position → IsPlain pool
-    → length pool.nodes < most_nodes → ReplyToAll pool.game pool.nodes position room entries → made ≡ reverse entries → MayAct pool position (Reply made)
-MayAct-reply pool position room entries made p plain few replies e =
-    let names = All-reverse (NamesLoad pool.game position.loads) entries (All-weaker (IsReply pool.game pool.nodes position) _ (λ entry r. r.names) entries replies.each) in
+pub MayAct-reply : (space : Space) (pool : algorithm_pools.Pool) (position : Position) (entries made : List Entry) → IsPlayable space position → IsPlain space pool
+    → length pool.nodes < most_nodes → ReplyToAll space pool.nodes position entries → made ≡ reverse entries → MayAct space pool position (Reply made)
+MayAct-reply space pool position entries made p plain few replies e =
+    let names = All-reverse (NamesLoad space.game position.loads) entries (All-weaker (IsReply space.game pool.nodes position) _ (λ entry r. r.names) entries replies.each) in
     let leads = All-reverse (λ (entry : Entry). StandsAt (map algorithm.position_of pool.nodes) entry.to (after position entry.load entry.size)) entries
-    (All-weaker (IsReply pool.game pool.nodes position) _ (λ entry r. r.leads) entries replies.each) in
-    subst (λ xs. MayAct pool position (Reply xs)) (sym e) (record {
+    (All-weaker (IsReply space.game pool.nodes position) _ (λ entry r. r.leads) entries replies.each) in
+    subst (λ xs. MayAct space pool position (Reply xs)) (sym e) (record {
       playable = p;
       room = few;
       formed = subst (λ (t : Terms). algorithm.IsOfFormat t.format (Reply (reverse entries))) (sym plain) tt;
@@ -109,7 +113,7 @@ MayAct-reply pool position room entries made p plain few replies e =
             (
               tt,
               (
-                replies_to_each pool.game position.items room entries replies.of_all.is_room replies.of_all.sizes,
+                replies_to_each space position entries replies.of_all,
                 (
                   names,
                   (
@@ -128,9 +132,9 @@ MayAct-reply pool position room entries made p plain few replies e =
       );
     })
 
-pub MayAct-finish : (pool : algorithm_pools.Pool) (position : Position) → IsPlayable pool.game position → IsPlain pool
-    → length pool.nodes < most_nodes → Finishes pool.game position.loads → MayAct pool position Finish
-MayAct-finish pool position p plain few finishes = record {
+pub MayAct-finish : (space : Space) (pool : algorithm_pools.Pool) (position : Position) → IsPlayable space position → IsPlain space pool
+    → length pool.nodes < most_nodes → Finishes space.game position.loads → MayAct space pool position Finish
+MayAct-finish space pool position p plain few finishes = record {
   playable = p;
   room = few;
   formed = subst (λ (t : Terms). algorithm.IsOfFormat t.format Finish) (sym plain) tt;
@@ -145,7 +149,7 @@ MayAct-finish pool position p plain few finishes = record {
           (
             tt,
             (
-              All-nil (NamesLoad pool.game position.loads),
+              All-nil (NamesLoad space.game position.loads),
               (All-nil (λ (entry : Entry). StandsAt (map algorithm.position_of pool.nodes) entry.to (after position entry.load entry.size)), ((λ e. absurd (false≢true e)), tt)),
             ),
           ),
@@ -159,9 +163,9 @@ abbrev pub algorithm_node : List ℕ → List ℕ → Act → AlgNode
 algorithm_node loads items act = record { loads = loads; items = items; act = act }
 
 -- the node of a position that has the act
-pub MayComeNext-act : (pool : algorithm_pools.Pool) (position : Position) (act : Act) (loads items : List ℕ) → loads ≡ position.loads → items ≡ position.items
-    → MayAct pool position act → algorithm_pools.MayComeNext pool (algorithm_node loads items act)
-MayComeNext-act pool position act loads items l i may =
+pub MayComeNext-act : (space : Space) (pool : algorithm_pools.Pool) (position : Position) (act : Act) (loads items : List ℕ) → loads ≡ position.loads → items ≡ position.items
+    → MayAct space pool position act → algorithm_pools.MayComeNext pool (algorithm_node loads items act)
+MayComeNext-act space pool position act loads items l i may =
     let e : algorithm_node loads items act ≡ node_at position act = ap (λ xs. algorithm_node xs items act) l ∙ ap (λ xs. algorithm_node position.loads xs act) i in
     subst (algorithm_pools.MayComeNext pool) (sym e) (record { room = may.room; formed = may.formed; follows = may.follows })
 
@@ -189,18 +193,17 @@ some_packing : (game : GameNumbers) (items : List ℕ) (size : ℕ) (pack : Opti
 some_packing game items size None p h = h p
 some_packing game items size (Some bins) p h = h
 
-pub MayComeNext-win : (pool : adversary_pools.Pool) (position : Position) (size : ℕ) (pack : Option (List (List ℕ))) (placements : List Placement)
-    (loads items : List ℕ) → loads ≡ position.loads → items ≡ position.items → IsPlayable pool.game position
-    → Packable pool.game (position.items ++ size ∷ []) → IsPlain pool → length pool.nodes < most_nodes
-    → PlacesAll pool.game (map adversary.position_of pool.nodes) position size placements
-    → MatchOption pack (Packable pool.game (put_ascending size position.items) → ⊥) (λ bins. IsPacking pool.game bins (put_ascending size position.items))
+pub MayComeNext-win : (space : Space) (pool : adversary_pools.Pool) (position : Position) (size : ℕ) (pack : Option (List (List ℕ))) (placements : List Placement)
+    (loads items : List ℕ) → loads ≡ position.loads → items ≡ position.items → IsPlayable space position
+    → Contains space.sizes size → Packable space.game (position.items ++ size ∷ []) → IsPlain space pool → length pool.nodes < most_nodes
+    → PlacesAll space.game (map adversary.position_of pool.nodes) position size placements
+    → MatchOption pack (Packable space.game (put_ascending size position.items) → ⊥) (λ bins. IsPacking space.game bins (put_ascending size position.items))
     → adversary_pools.MayComeNext pool (adversary_node loads items (Send size pack placements))
-MayComeNext-win pool position size pack placements loads items l i p may plain few places packing =
+MayComeNext-win space pool position size pack placements loads items l i p sent may plain few places packing =
     let step : Step = Send size pack placements in
     let e : adversary_node loads items step ≡ adversary_node position.loads position.items step =
     ap (λ xs. adversary_node xs items step) l ∙ ap (λ xs. adversary_node position.loads xs step) i in
-    let shown = some_packing pool.game position.items size pack (Packable-put_ascending pool.game position.items size may) packing in
-    let sent = Contains_from_size pool.game.capacity size (size_of_last pool.game position.items size may) in
+    let shown = some_packing space.game position.items size pack (Packable-put_ascending space.game position.items size may) packing in
     subst (adversary_pools.MayComeNext pool) (sym e) (record {
       room = few;
       formed = subst (λ (t : Terms). adversary.IsOfFormat t.format step) (sym plain) tt;
@@ -214,7 +217,7 @@ MayComeNext-win pool position size pack placements loads items l i p may plain f
                 (
                   tt,
                   (
-                    packed pool.game position.loads position.items size pack placements shown,
+                    packed space.game position.loads position.items size pack placements shown,
                     (places.each_load, (places.over, (places.leads, ((λ e. absurd (false≢true e)), tt)))),
                   ),
                 ),

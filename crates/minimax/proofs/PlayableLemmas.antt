@@ -1,32 +1,30 @@
 -- Positions that play can come to.
 use Rattle.std.proofs.Common.{◌≡◌, ◌∙◌, ℕ, ◌+◌, ◌*◌, ◌<◌, ◌≤◌, List, [], ◌∷◌, ◌++◌, Contains, sum, ap, arith}
 use Rattle.items.specs.Game.{GameNumbers}
-use Rattle.items.specs.Multiset.{put_ascending, sizes_of}
+use Rattle.minimax.specs.declared.space.Space.{Space}
+use Rattle.items.specs.Multiset.{put_ascending}
 use Rattle.items.specs.Packable.{Packable}
 use Rattle.items.proofs.MultisetLemmas.{IsNonDecreasing-put_ascending, sum-put_ascending}
 use Rattle.items.proofs.SameLemmas.{All-put_ascending}
-use Rattle.items.proofs.SizesLemmas.{Contains_from_size}
 use Rattle.loads.specs.After.{after}
 use Rattle.loads.specs.Loads.{loads_after}
 use Rattle.loads.specs.Position.{position as made_of}
 use Rattle.loads.specs.declared.position.Position.{Position}
 use Rattle.loads.proofs.LoadsLemmas.{IsLoads-after, sum-loads_after}
 use Rattle.packing_witness.proofs.PackableLemmas.{Packable-put_ascending, sum-Packable-le}
-use Rattle.packing_witness.proofs.PackingLemmas.{size_of_last}
 use Rattle.minimax.specs.State.{IsPlayable}
 
-pub IsPlayable-after : (game : GameNumbers) (position : Position) (load size : ℕ) → IsPlayable game position → Contains position.loads load
-    → load + size < game.target → Packable game (position.items ++ size ∷ []) → IsPlayable game (after position load size)
-IsPlayable-after game position load size p c below packable =
-    let of_game = size_of_last game position.items size packable in
+pub IsPlayable-after : (space : Space) (position : Position) (load size : ℕ) → IsPlayable space position → Contains position.loads load
+    → load + size < space.game.target → Contains space.sizes size → Packable space.game (position.items ++ size ∷ []) → IsPlayable space (after position load size)
+IsPlayable-after space position load size p c below listed packable =
     record {
-      loads = IsLoads-after game position.loads load size p.loads c below;
+      loads = IsLoads-after space.game position.loads load size p.loads c below;
       items = record {
         ascending = IsNonDecreasing-put_ascending size position.items p.items.ascending;
-        allowed = All-put_ascending (Contains (sizes_of game)) size position.items (Contains_from_size game.capacity size of_game) p.items.allowed;
+        allowed = All-put_ascending (Contains space.sizes) size position.items listed p.items.allowed;
         total = omega (arith, sum-put_ascending size position.items, sum-loads_after position.loads load size c, p.items.total);
       };
-      packable = Packable-put_ascending game position.items size packable;
+      packable = Packable-put_ascending space.game position.items size packable;
     }
 
 -- the items with one more have a total of at most that of the bins

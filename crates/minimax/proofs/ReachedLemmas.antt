@@ -6,7 +6,7 @@ use Rattle.std.proofs.lemmas.Bool.{cases_lt}
 use Rattle.std.proofs.lemmas.List.{length-set}
 use Rattle.std.proofs.lemmas.List.Elements.{All-weaker}
 use Rattle.std.proofs.lemmas.Option.{none-some}
-use Rattle.items.specs.Game.{GameNumbers}
+use Rattle.minimax.specs.declared.space.Space.{Space}
 use Rattle.loads.specs.After.{after}
 use Rattle.loads.specs.Position.{StandsAt}
 use Rattle.loads.specs.declared.position.Position.{Position}
@@ -80,9 +80,9 @@ leads_below wins k (To child) position h = below wins k child h
     below (w ∷ ws) (suc k) (suc child) h = omega (arith, below ws k child h)
 
 -- so do all that follow a win
-pub win_below : (game : GameNumbers) (wins : List Win) (k : ℕ) (win : Win) → AreReadyWins game wins → slice_get wins k ≡ Some win
+pub win_below : (space : Space) (wins : List Win) (k : ℕ) (win : Win) → AreReadyWins space wins → slice_get wins k ≡ Some win
     → All (λ placement. LeadsBelow k placement.next) win.placements
-win_below game wins k win ready e =
+win_below space wins k win ready e =
     All-weaker (λ placement. LeadsTo (map position_of_win (take k wins)) placement.next (after win.position placement.load win.size))
     (λ placement. LeadsBelow k placement.next) (λ placement h. leads_below wins k placement.next _ h) win.placements (ready k win e).places.leads
 

@@ -6,7 +6,7 @@ use Rattle.std.proofs.lemmas.Bool.{cases_lt}
 use Rattle.std.proofs.lemmas.List.{append-nil, length_push, map-append, take-append-le, take_all}
 use Rattle.std.proofs.lemmas.List.Elements.{All-push, All-weaker}
 use Rattle.std.proofs.lemmas.Option.{slice_get-map, get_or_from_slice_get, slice_get_within, same_Some}
-use Rattle.items.specs.Game.{GameNumbers}
+use Rattle.minimax.specs.declared.space.Space.{Space}
 use Rattle.loads.specs.After.{after}
 use Rattle.loads.specs.Position.{StandsAt}
 use Rattle.loads.specs.declared.position.Position.{Position}
@@ -18,17 +18,14 @@ use Rattle.strategy_text.specs.declared.node.Then.TheVariants.{Over, To}
 use Rattle.adversary_graph.specs.Rules.{LeadsTo}
 use Rattle.items.proofs.ListLemmas.{mapped, slice_get-front}
 use Rattle.algorithm_graph.specs.Nodes as algorithm
-use Rattle.monotone.specs.Passes.{whole_game}
 use Rattle.monotone.specs.Visits.{Visit, Metered, IsLater, IsVisit, counted}
 use Rattle.monotone.proofs.VisitLemmas.{CountsVisits-counted}
 use Rattle.transposition.specs.declared.verdict.Verdict.{Verdict}
 use Rattle.transposition.specs.declared.verdict.Verdict.TheVariants.{Adversary, Algorithm, Held}
 use Rattle.minimax.specs.State.{AreKnown, AreSound, EachOver, FollowsUp, GoesOn, IsLed, IsNeverWon, IsNoWin}
-use Rattle.strategy_text.specs.declared.node.Format.TheVariants.{One}
 use Rattle.node_pool.specs.Pools.{Pool, terms_in}
-use Rattle.node_pool.specs.Terms.{Terms, whole_game as whole_terms}
 use Rattle.minimax.specs.State.{IsPending, IsPlain, IsReady, IsReadyWin, IsReply, IsSound, IsWonIn, KeepsReply, KeepsWin}
-use Rattle.minimax.specs.State.{PutsOnly, Says, Tells, allowed_by, position_of_reply, position_of_win}
+use Rattle.minimax.specs.State.{PutsOnly, Says, Tells, position_of_reply, position_of_win, space_of}
 use Rattle.minimax.specs.declared.expanding.Search.{Search}
 use Rattle.minimax.specs.declared.replies.Reply.{Reply}
 use Rattle.minimax.specs.declared.wins.Win.{Win}
@@ -82,43 +79,43 @@ all_stand f P xs n p all h =
 
 -- ---- verdicts
 
-pub IsLed-goes : (game : GameNumbers) (replies more : List Reply) (position : Position) (number : ℕ) → GoesOn replies more
-    → IsLed game replies position number → IsLed game more position number
-IsLed-goes game replies more position number g (inl h) =
+pub IsLed-goes : (space : Space) (replies more : List Reply) (position : Position) (number : ℕ) → GoesOn replies more
+    → IsLed space replies position number → IsLed space more position number
+IsLed-goes space replies more position number g (inl h) =
     inl (record { stands = StandsAt-goes position_of_reply replies more number position g h.stands; unfinished = h.unfinished })
-IsLed-goes game replies more position number g (inr h) = inr h
+IsLed-goes space replies more position number g (inr h) = inr h
 
-pub Says-goes : (game : GameNumbers) (wins more_wins : List Win) (replies more_replies : List Reply) (position : Position) (verdict : Verdict)
-    → GoesOn wins more_wins → GoesOn replies more_replies → Says game wins replies position verdict → Says game more_wins more_replies position verdict
-Says-goes game wins more_wins replies more_replies position (Adversary number) g h s = StandsAt-goes position_of_win wins more_wins number position g s
-Says-goes game wins more_wins replies more_replies position (Algorithm number) g h s = IsLed-goes game replies more_replies position number h s
-Says-goes game wins more_wins replies more_replies position (Held held) g h s = s
+pub Says-goes : (space : Space) (wins more_wins : List Win) (replies more_replies : List Reply) (position : Position) (verdict : Verdict)
+    → GoesOn wins more_wins → GoesOn replies more_replies → Says space wins replies position verdict → Says space more_wins more_replies position verdict
+Says-goes space wins more_wins replies more_replies position (Adversary number) g h s = StandsAt-goes position_of_win wins more_wins number position g s
+Says-goes space wins more_wins replies more_replies position (Algorithm number) g h s = IsLed-goes space replies more_replies position number h s
+Says-goes space wins more_wins replies more_replies position (Held held) g h s = s
 
 -- where a verdict is a win of the adversary, it wins this pass
-pub won_by_win : (game : GameNumbers) (pass : ℕ) (meter : Metered) (wins : List Win) (replies : List Reply) (entries : List (Position × Verdict))
-    (position : Position) (number : ℕ) → AreSound game pass meter wins replies entries → StandsAt (map position_of_win wins) number position
-    → IsWonIn game pass position
-won_by_win game pass meter wins replies entries position number s h = all_stand position_of_win (IsWonIn game pass) wins number position s.won h
+pub won_by_win : (space : Space) (pass : ℕ) (meter : Metered) (wins : List Win) (replies : List Reply) (entries : List (Position × Verdict))
+    (position : Position) (number : ℕ) → AreSound space pass meter wins replies entries → StandsAt (map position_of_win wins) number position
+    → IsWonIn space pass position
+won_by_win space pass meter wins replies entries position number s h = all_stand position_of_win (IsWonIn space pass) wins number position s.won h
 
 -- where a verdict is the algorithm's, the position is won in no pass
-pub never_by_node : (game : GameNumbers) (pass : ℕ) (meter : Metered) (wins : List Win) (replies : List Reply) (entries : List (Position × Verdict))
-    (position : Position) (number : ℕ) → AreSound game pass meter wins replies entries → StandsAt (map position_of_reply replies) number position
-    → IsNeverWon game position
-never_by_node game pass meter wins replies entries position number s h = all_stand position_of_reply (IsNeverWon game) replies number position s.lost h
+pub never_by_node : (space : Space) (pass : ℕ) (meter : Metered) (wins : List Win) (replies : List Reply) (entries : List (Position × Verdict))
+    (position : Position) (number : ℕ) → AreSound space pass meter wins replies entries → StandsAt (map position_of_reply replies) number position
+    → IsNeverWon space position
+never_by_node space pass meter wins replies entries position number s h = all_stand position_of_reply (IsNeverWon space) replies number position s.lost h
 
 -- so where it finishes
-pub never_by_led : (game : GameNumbers) (pass : ℕ) (meter : Metered) (wins : List Win) (replies : List Reply) (entries : List (Position × Verdict))
-    (position : Position) (number : ℕ) → AreSound game pass meter wins replies entries → IsLed game replies position number → IsNeverWon game position
-never_by_led game pass meter wins replies entries position number s (inl h) = never_by_node game pass meter wins replies entries position number s h.stands
-never_by_led game pass meter wins replies entries position number s (inr h) = h.never
+pub never_by_led : (space : Space) (pass : ℕ) (meter : Metered) (wins : List Win) (replies : List Reply) (entries : List (Position × Verdict))
+    (position : Position) (number : ℕ) → AreSound space pass meter wins replies entries → IsLed space replies position number → IsNeverWon space position
+never_by_led space pass meter wins replies entries position number s (inl h) = never_by_node space pass meter wins replies entries position number s h.stands
+never_by_led space pass meter wins replies entries position number s (inr h) = h.never
 
 -- a verdict that is no win of the adversary says that it does not win this pass
-pub not_won_by_verdict : (game : GameNumbers) (pass : ℕ) (search : Search) (entries : List (Position × Verdict)) (position : Position) (verdict : Verdict)
-    → IsSound game pass search entries → IsNoWin verdict → Tells game pass search position verdict → IsWonIn game pass position → ⊥
-not_won_by_verdict game pass state entries position (Adversary number) s nothing t won = nothing
-not_won_by_verdict game pass state entries position (Algorithm number) s nothing t won =
-    never_by_led game pass state.meter state.wins state.replies entries position number s t.says (allowed_by game pass) won
-not_won_by_verdict game pass state entries position (Held held) s nothing t won = t.says.not_won (subst (λ k. IsWonIn game k position) (sym t.of_pass) won)
+pub not_won_by_verdict : (space : Space) (pass : ℕ) (search : Search) (entries : List (Position × Verdict)) (position : Position) (verdict : Verdict)
+    → IsSound space pass search entries → IsNoWin verdict → Tells space pass search position verdict → IsWonIn space pass position → ⊥
+not_won_by_verdict space pass state entries position (Adversary number) s nothing t won = nothing
+not_won_by_verdict space pass state entries position (Algorithm number) s nothing t won =
+    never_by_led space pass state.meter state.wins state.replies entries position number s t.says pass won
+not_won_by_verdict space pass state entries position (Held held) s nothing t won = t.says.not_won (subst (λ k. IsWonIn space k position) (sym t.of_pass) won)
 
 -- ---- what follows an item
 
@@ -127,19 +124,19 @@ pub LeadsTo-goes : (wins more : List Win) (next : Then) (position : Position) �
 LeadsTo-goes wins more Over position g h = tt
 LeadsTo-goes wins more (To child) position g h = StandsAt-goes position_of_win wins more child position g h
 
-pub FollowsUp-goes : (game : GameNumbers) (pass : ℕ) (before after : Search) (position : Position) (size : ℕ) (placement : Placement)
-    → GoesOn before.wins after.wins → FollowsUp game pass before position size placement → FollowsUp game pass after position size placement
-FollowsUp-goes game pass before after position size placement g f =
+pub FollowsUp-goes : (space : Space) (pass : ℕ) (before after : Search) (position : Position) (size : ℕ) (placement : Placement)
+    → GoesOn before.wins after.wins → FollowsUp space pass before position size placement → FollowsUp space pass after position size placement
+FollowsUp-goes space pass before after position size placement g f =
     record { over = f.over; leads = LeadsTo-goes before.wins after.wins placement.next _ g f.leads; won = f.won }
 
-pub IsReply-goes : (game : GameNumbers) (replies more : List AlgNode) (position : Position) (entry : Entry) → GoesOn replies more
-    → IsReply game replies position entry → IsReply game more position entry
-IsReply-goes game replies more position entry g r = record { names = r.names; leads = StandsAt-goes algorithm.position_of replies more entry.to _ g r.leads }
+pub IsReply-goes : (space : Space) (replies more : List AlgNode) (position : Position) (entry : Entry) → GoesOn replies more
+    → IsReply space.game replies position entry → IsReply space.game more position entry
+IsReply-goes space replies more position entry g r = record { names = r.names; leads = StandsAt-goes algorithm.position_of replies more entry.to _ g r.leads }
 
-pub IsPending-goes : (game : GameNumbers) (replies more : List Reply) (position : Position) (entry : Entry) → GoesOn replies more
-    → IsPending game replies position entry → IsPending game more position entry
-IsPending-goes game replies more position entry g p =
-    record { names = p.names; may_come = p.may_come; leads = IsLed-goes game replies more (after position entry.load entry.size) entry.to g p.leads }
+pub IsPending-goes : (space : Space) (replies more : List Reply) (position : Position) (entry : Entry) → GoesOn replies more
+    → IsPending space replies position entry → IsPending space more position entry
+IsPending-goes space replies more position entry g p =
+    record { names = p.names; listed = p.listed; may_come = p.may_come; leads = IsLed-goes space replies more (after position entry.load entry.size) entry.to g p.leads }
 
 -- ---- lists of which something holds over the elements before
 
@@ -158,10 +155,10 @@ EachOver-push P xs x each here k y e = elim (cases_lt k (length xs)) [
 
 -- ---- states that stay sound
 
-module _ (game : GameNumbers) (pass : ℕ) (meter : Metered) (wins : List Win) (replies : List Reply) (entries : List (Position × Verdict)) where
+module _ (space : Space) (pass : ℕ) (meter : Metered) (wins : List Win) (replies : List Reply) (entries : List (Position × Verdict)) where
   -- with other entries that hold
-  pub AreSound-known : (more : List (Position × Verdict)) → AreSound game pass meter wins replies entries → AreKnown game wins replies more
-      → AreSound game pass meter wins replies more
+  pub AreSound-known : (more : List (Position × Verdict)) → AreSound space pass meter wins replies entries → AreKnown space wins replies more
+      → AreSound space pass meter wins replies more
   AreSound-known more s known = record {
     ready_wins = s.ready_wins;
     ready = s.ready;
@@ -174,21 +171,21 @@ module _ (game : GameNumbers) (pass : ℕ) (meter : Metered) (wins : List Win) (
   }
 
   -- after a verdict was put that says what holds
-  pub AreSound-put : (more : List (Position × Verdict)) (position : Position) (verdict : Verdict) → AreSound game pass meter wins replies entries
-      → PutsOnly entries more position verdict → Says game wins replies position verdict → AreSound game pass meter wins replies more
+  pub AreSound-put : (more : List (Position × Verdict)) (position : Position) (verdict : Verdict) → AreSound space pass meter wins replies entries
+      → PutsOnly entries more position verdict → Says space wins replies position verdict → AreSound space pass meter wins replies more
   AreSound-put more position verdict s puts says = AreSound-known more s
       (λ one told e. elim (puts one told e) [
-        | inl (p, v) ↦ subst (λ q. Says game wins replies q told) (sym p) (subst (Says game wins replies position) (sym v) says)
+        | inl (p, v) ↦ subst (λ q. Says space wins replies q told) (sym p) (subst (Says space wins replies position) (sym v) says)
         | inr old ↦ s.known one told old
       ])
 
   -- after one more visit
-  pub AreSound-counted : (after : Metered) (next : Visit) → AreSound game pass meter wins replies entries → after ≡ counted meter next
-      → IsVisit (whole_game game) next → IsLater meter next → (meter.count ≡ meter.budget → ⊥) → AreSound game pass after wins replies entries
-  AreSound-counted after next s e is later left = subst (λ m. AreSound game pass m wins replies entries) (sym e) (record {
+  pub AreSound-counted : (after : Metered) (next : Visit) → AreSound space pass meter wins replies entries → after ≡ counted meter next
+      → IsVisit (space_of space) next → IsLater meter next → (meter.count ≡ meter.budget → ⊥) → AreSound space pass after wins replies entries
+  AreSound-counted after next s e is later left = subst (λ m. AreSound space pass m wins replies entries) (sym e) (record {
     ready_wins = s.ready_wins;
     ready = s.ready;
-    counts = CountsVisits-counted (whole_game game) meter next s.counts is later;
+    counts = CountsVisits-counted (space_of space) meter next s.counts is later;
     within = omega (arith, s.within, left);
     budget = s.budget;
     won = s.won;
@@ -197,53 +194,54 @@ module _ (game : GameNumbers) (pass : ℕ) (meter : Metered) (wins : List Win) (
   })
 
   -- after a win at a won position
-  pub AreSound-win : (after : List Win) (position : Position) (size : ℕ) (placements : List Placement) (number : ℕ) → AreSound game pass meter wins replies entries
-      → (p : KeepsWin wins after position size placements number) → IsWonIn game pass position → IsReadyWin game wins p.win
-      → AreSound game pass meter after replies entries
-  AreSound-win after position size placements number s p won ready = subst (λ w. AreSound game pass meter w replies entries) (sym p.list) (record {
-    ready_wins = EachOver-push (IsReadyWin game) wins p.win s.ready_wins ready;
+  pub AreSound-win : (after : List Win) (position : Position) (size : ℕ) (placements : List Placement) (number : ℕ) → AreSound space pass meter wins replies entries
+      → (p : KeepsWin wins after position size placements number) → IsWonIn space pass position → IsReadyWin space wins p.win
+      → AreSound space pass meter after replies entries
+  AreSound-win after position size placements number s p won ready = subst (λ w. AreSound space pass meter w replies entries) (sym p.list) (record {
+    ready_wins = EachOver-push (IsReadyWin space) wins p.win s.ready_wins ready;
     ready = s.ready;
     counts = s.counts;
     within = s.within;
     budget = s.budget;
-    won = All-push (λ win. IsWonIn game pass (position_of_win win)) wins p.win s.won (subst (IsWonIn game pass) (sym p.stands) won);
+    won = All-push (λ win. IsWonIn space pass (position_of_win win)) wins p.win s.won (subst (IsWonIn space pass) (sym p.stands) won);
     lost = s.lost;
-    known = λ one told e. Says-goes game wins (wins ++ p.win ∷ []) replies replies one told
+    known = λ one told e. Says-goes space wins (wins ++ p.win ∷ []) replies replies one told
         (GoesOn-push wins p.win) (GoesOn-refl replies) (s.known one told e);
   })
 
   -- after replies at a position that is never won
-  pub AreSound-reply : (after : List Reply) (position : Position) (made : List Entry) (number : ℕ) → AreSound game pass meter wins replies entries
-      → (p : KeepsReply replies after position made number) → IsNeverWon game position → IsReady game replies p.reply
-      → AreSound game pass meter wins after entries
-  AreSound-reply after position made number s p never ready = subst (λ r. AreSound game pass meter wins r entries) (sym p.list) (record {
+  pub AreSound-reply : (after : List Reply) (position : Position) (made : List Entry) (number : ℕ) → AreSound space pass meter wins replies entries
+      → (p : KeepsReply replies after position made number) → IsNeverWon space position → IsReady space replies p.reply
+      → AreSound space pass meter wins after entries
+  AreSound-reply after position made number s p never ready = subst (λ r. AreSound space pass meter wins r entries) (sym p.list) (record {
     ready_wins = s.ready_wins;
-    ready = EachOver-push (IsReady game) replies p.reply s.ready ready;
+    ready = EachOver-push (IsReady space) replies p.reply s.ready ready;
     counts = s.counts;
     within = s.within;
     budget = s.budget;
     won = s.won;
-    lost = All-push (λ reply. IsNeverWon game (position_of_reply reply)) replies p.reply s.lost (subst (IsNeverWon game) (sym p.stands) never);
-    known = λ one told e. Says-goes game wins wins replies (replies ++ p.reply ∷ []) one told
+    lost = All-push (λ reply. IsNeverWon space (position_of_reply reply)) replies p.reply s.lost (subst (IsNeverWon space) (sym p.stands) never);
+    known = λ one told e. Says-goes space wins wins replies (replies ++ p.reply ∷ []) one told
         (GoesOn-refl wins) (GoesOn-push replies p.reply) (s.known one told e);
   })
 
   -- in a later pass
-  pub AreSound-later : (later : ℕ) → pass ≤ later → AreSound game pass meter wins replies entries → AreSound game later meter wins replies entries
+  pub AreSound-later : (later : ℕ) → pass ≤ later → AreSound space pass meter wins replies entries → AreSound space later meter wins replies entries
   AreSound-later later l s = record {
     ready_wins = s.ready_wins;
     ready = s.ready;
     counts = s.counts;
     within = s.within;
     budget = s.budget;
-    won = All-weaker (λ win. IsWonIn game pass (position_of_win win)) (λ win. IsWonIn game later (position_of_win win))
-        (λ win w. IsWonIn-later game pass later (position_of_win win) l w) wins s.won;
+    won = All-weaker (λ win. IsWonIn space pass (position_of_win win)) (λ win. IsWonIn space later (position_of_win win))
+        (λ win w. IsWonIn-later space pass later (position_of_win win) l w) wins s.won;
     lost = s.lost;
     known = s.known;
   }
 
 -- ---- pools
 
--- a pool of format 1 for the whole game is one still where its terms stay
-pub IsPlain-same : {Node : Type 0} (before next : Pool Node) → terms_in next ≡ terms_in before → IsPlain before → IsPlain next
-IsPlain-same before next same plain = same ∙ plain ∙ ap (whole_terms One) (sym (ap (λ (t : Terms). t.game) same))
+-- a pool of format 1 for the game with its sizes is one still where its terms stay
+pub IsPlain-same : {Node : Type 0} (space : Space) (before next : Pool Node) → terms_in next ≡ terms_in before → IsPlain space before
+    → IsPlain space next
+IsPlain-same space before next same plain = same ∙ plain

@@ -2,20 +2,20 @@
 use Rattle.std.proofs.Common.{ℕ, zero, suc, ◌+◌, ◌<◌, ◌≤◌, ◌⊎◌, Bool, List, [], ◌∷◌, ◌++◌, Contains, sym, subst, inl, inr, arith}
 use Rattle.std.proofs.lemmas.Bool.{cases_eq}
 use Rattle.items.specs.Game.{GameNumbers}
-use Rattle.items.specs.Multiset.{sizes_of}
+use Rattle.minimax.specs.declared.space.Space.{Space}
 use Rattle.items.specs.Packable.{Packable}
 use Rattle.items.proofs.MemberLemmas.{Contains-cons, Contains-here, Contains-tail, Contains-nil}
 use Rattle.loads.specs.After.{after}
 use Rattle.loads.specs.Wins.{IsWinningSize, IsWon, Wins}
 use Rattle.loads.specs.declared.position.Position.{Position}
 use Rattle.online_play.proofs.WonLemmas.{Wins-more_items, Wins-more_sizes}
-use Rattle.monotone.proofs.PassLemmas.{allowed_later}
+use Rattle.monotone.proofs.PassLemmas.{allowed_in-exact, allowed_later}
 use Rattle.minimax.specs.State.{IsNeverWon, IsWonIn, allowed_by}
 
 -- a win in a pass is one in each later pass
-pub IsWonIn-later : (game : GameNumbers) (pass later : ℕ) (position : Position) → pass ≤ later → IsWonIn game pass position → IsWonIn game later position
-IsWonIn-later game pass later position l (n, w) =
-    (n, Wins-more_sizes game (allowed_by game pass) (allowed_by game later) n position (λ items size h. allowed_later (sizes_of game) items pass later size l h) w)
+pub IsWonIn-later : (space : Space) (pass later : ℕ) (position : Position) → pass ≤ later → IsWonIn space pass position → IsWonIn space later position
+IsWonIn-later space pass later position l (n, w) =
+    (n, Wins-more_sizes space.game (allowed_by space pass) (allowed_by space later) n position (λ items size h. allowed_later space.sizes items pass later size l h) w)
 
 -- a number of items that is enough at each of some loads
 enough : (game : GameNumbers) (allowed : List ℕ → ℕ → Bool) (position : Position) (size : ℕ) (loads : List ℕ)
@@ -85,16 +85,18 @@ no_winning_size game allowed position size load c below not w = elim (w.each_loa
 ]
 
 -- a load that stays below the target with a size, and leads to a position that is never won
-pub record HasAnswer (game : GameNumbers) (position : Position) (size : ℕ) : Type 0 where
+pub record HasAnswer (space : Space) (position : Position) (size : ℕ) : Type 0 where
   pub load : ℕ
   pub member : Contains position.loads load
-  pub below : load + size < game.target
-  pub never : IsNeverWon game (after position load size)
+  pub below : load + size < space.game.target
+  pub never : IsNeverWon space (after position load size)
 
--- a position with an answer to each size that may come is never won
-pub IsNeverWon-answered : (game : GameNumbers) (position : Position)
-    → ((size : ℕ) → Packable game (position.items ++ size ∷ []) → HasAnswer game position size) → IsNeverWon game position
-IsNeverWon-answered game position answer = λ allowed won.
-    let w = winning_size_of game allowed position won in
-    let a = answer w.0 w.1.may_come in
-    no_winning_size game allowed position w.0 a.load a.member a.below (a.never allowed) w.1
+-- a position with an answer to each of the sizes that may come is never won
+pub IsNeverWon-answered : (space : Space) (position : Position)
+    → ((size : ℕ) → Contains space.sizes size → Packable space.game (position.items ++ size ∷ []) → HasAnswer space position size)
+    → IsNeverWon space position
+IsNeverWon-answered space position answer = λ pass won.
+    let w = winning_size_of space.game (allowed_by space pass) position won in
+    let listed = ((allowed_in-exact space.sizes position.items pass w.0).0 w.1.allows).0 in
+    let a = answer w.0 listed w.1.may_come in
+    no_winning_size space.game (allowed_by space pass) position w.0 a.load a.member a.below (a.never pass) w.1

@@ -2,7 +2,7 @@
 use Rattle.std.specs.Prelude.{◌≡◌, ℕ, ◌+◌, ◌<◌, ◌≤◌, ◌⊎◌, List, Option, Some, None, IsSome, length, map}
 use Rattle.std.specs.Prelude.{slice_index_or, if◌then◌else◌}
 use Rattle.std.specs.Prelude.{All, Contains}
-use Rattle.items.specs.Game.{GameNumbers}
+use Rattle.minimax.specs.declared.space.Space.{Space}
 use Rattle.loads.specs.Position.{are_equal}
 use Rattle.loads.specs.Position.{StandsAt}
 use Rattle.loads.specs.declared.position.Position.{Position}
@@ -18,19 +18,19 @@ use Rattle.minimax.specs.declared.writing.Written.{Written}
 use Rattle.minimax.specs.declared.finish_nodes.TheConstants.{FINISHES}
 
 -- the algorithm's pool is of the whole game and of format 1
-pub record HasReplies (game : GameNumbers) (written : Written) : Type 0 where
-  pub of_game : written.pool.game ≡ game
-  pub of_format : IsPlain written.pool
+pub record HasReplies (space : Space) (written : Written) : Type 0 where
+  pub of_game : written.pool.game ≡ space.game
+  pub of_format : IsPlain space written.pool
 
 -- the number of the node that finishes at a position, where it was put
 abbrev pub number_of : List (Position × ℕ) → Position → Option ℕ
 number_of finishes position = found are_equal finishes position
 
 -- a node that finishes may be put at the position where there is none
-pub record MayFinish (game : GameNumbers) (written : Written) (position : Position) : Type 0 where
-  pub replies : HasReplies game written
-  pub playable : IsPlayable game position
-  pub finishes : Finishes game position.loads
+pub record MayFinish (space : Space) (written : Written) (position : Position) : Type 0 where
+  pub replies : HasReplies space written
+  pub playable : IsPlayable space position
+  pub finishes : Finishes space.game position.loads
   pub room : number_of written.finishes position ≡ None → length written.pool.nodes < most_nodes
 
 -- a node that finishes was put at a position that had none
@@ -53,11 +53,11 @@ pub record AreNumbered (earlier : List Reply) (written : Written) : Type 0 where
       → StandsAt (map algorithm.position_of written.pool.nodes) (slice_index_or written.numbers.items k 0) position
 
 -- replies of this number stand at the position, or a node that finishes may be put there
-pub record MayNumber (game : GameNumbers) (earlier : List Reply) (written : Written) (position : Position)
+pub record MayNumber (space : Space) (earlier : List Reply) (written : Written) (position : Position)
     (told : ℕ) : Type 0 where
-  pub replies : HasReplies game written
-  pub playable : IsPlayable game position
-  pub led : IsLed game earlier position told
+  pub replies : HasReplies space written
+  pub playable : IsPlayable space position
+  pub led : IsLed space earlier position told
   pub numbered : AreNumbered earlier written
   pub few : length earlier ≤ most_nodes
   pub room : told ≡ FINISHES → number_of written.finishes position ≡ None → length written.pool.nodes < most_nodes
@@ -69,11 +69,11 @@ Numbers before after position told number =
     ⊎ ((told ≡ FINISHES) × Names before after position number)
 
 -- the entry may get the number of a node
-pub record MayName (game : GameNumbers) (earlier : List Reply) (written : Written) (position : Position)
+pub record MayName (space : Space) (earlier : List Reply) (written : Written) (position : Position)
     (entry : Entry) : Type 0 where
-  pub playable : IsPlayable game position
-  pub pending : IsPending game earlier position entry
-  pub number : MayNumber game earlier written (led_to position entry) entry.to
+  pub playable : IsPlayable space position
+  pub pending : IsPending space earlier position entry
+  pub number : MayNumber space earlier written (led_to position entry) entry.to
 
 -- the entry with the number of a node, of the size and load that it had
 pub record IsNamed (before after : Written) (position : Position) (entry named : Entry) : Type 0 where
@@ -82,12 +82,12 @@ pub record IsNamed (before after : Written) (position : Position) (entry named :
   pub number : Numbers before after (led_to position entry) entry.to named.to
 
 -- nodes that finish were put where entries lead
-pub data NamesAll (game : GameNumbers) (position : Position) (entries : List Entry) : Written → Written → Type 0 where
-  none_named : (written : Written) → NamesAll game position entries written written
+pub data NamesAll (space : Space) (position : Position) (entries : List Entry) : Written → Written → Type 0 where
+  none_named : (written : Written) → NamesAll space position entries written written
   one_named : (before middle after : Written) (entry : Entry) (number : ℕ)
-      → NamesAll game position entries before middle
+      → NamesAll space position entries before middle
       → Contains entries entry → entry.to ≡ FINISHES → Names middle after (led_to position entry) number
-      → NamesAll game position entries before after
+      → NamesAll space position entries before after
 
 -- so many nodes may be put beside those of the list, and each number that was given is that of a node at the position
 pub record LeavesRoom (limit spare : ℕ) (unnamed : List Position) (written : Written) : Type 0 where
@@ -103,11 +103,11 @@ abbrev pub IsEntryPlaced : List Position → Written → Position → Entry → 
 IsEntryPlaced unnamed written position entry = entry.to ≡ FINISHES → IsPlaced unnamed written (led_to position entry)
 
 -- each entry may get the number of a node, and each that leads to a position that finishes is placed
-pub record MayNameAll (game : GameNumbers) (earlier : List Reply) (written : Written) (position : Position)
+pub record MayNameAll (space : Space) (earlier : List Reply) (written : Written) (position : Position)
     (entries : List Entry) : Type 0 where
-  pub replies : HasReplies game written
-  pub playable : IsPlayable game position
-  pub pending : All (IsPending game earlier position) entries
+  pub replies : HasReplies space written
+  pub playable : IsPlayable space position
+  pub pending : All (IsPending space earlier position) entries
   pub numbered : AreNumbered earlier written
   pub few : length earlier ≤ most_nodes
   pub limit : ℕ
@@ -117,15 +117,15 @@ pub record MayNameAll (game : GameNumbers) (earlier : List Reply) (written : Wri
   pub placed : All (IsEntryPlaced unnamed written position) entries
 
 -- the entries are the same but for the numbers, and each leads to a node
-pub record AreNamed (game : GameNumbers) (written : Written) (position : Position)
+pub record AreNamed (space : Space) (written : Written) (position : Position)
     (entries named : List Entry) : Type 0 where
   pub sizes : map (λ (entry : Entry). entry.size) named ≡ map (λ (entry : Entry). entry.size) entries
-  pub each : All (IsReply game written.pool.nodes position) named
+  pub each : All (IsReply space.game written.pool.nodes position) named
 
 -- nodes that finish were put where entries lead, and then the node that replies at the position
-pub record PutsNamed (game : GameNumbers) (before after : Written) (position : Position) (entries : List Entry)
+pub record PutsNamed (space : Space) (before after : Written) (position : Position) (entries : List Entry)
     (number : ℕ) : Type 0 where
   pub between : Written
-  pub all : NamesAll game position entries before between
+  pub all : NamesAll space position entries before between
   pub puts : PutsReply between.pool after.pool position number
   pub same : after ≡ record between { pool = after.pool }

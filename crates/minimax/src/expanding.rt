@@ -23,11 +23,12 @@ use crate::nodes::{key_after, loads_after};
 use crate::replies::{Replies, keep, put};
 use crate::rooms::Rooms;
 use crate::skipping::skipped;
+use crate::space::Space;
 use crate::table::{Told, known, remember, remember_finish};
 use crate::wins::{Wins, keep_win};
 use good_situations::finishes;
 use items::laws::game_is_legal;
-use items::{Game, MOST_BINS};
+use items::MOST_BINS;
 use loads::{Loads, Position};
 use monotone::{Meter, Path, PathMove, VisitFault, allows};
 use std::alloc::Global;
@@ -62,18 +63,19 @@ pub(crate) enum Tried {
 }
 
 // What was found of a size and kept: the number of its win, or the reply to it, or no more than that it
-// has no win in this pass.
+// has no win in this pass, or that no item may have it.
 #[derive(Clone, Copy)]
 pub(crate) enum Weighed {
     Won(u32),
     Replied(Entry),
     NoReply,
+    Unlisted,
 }
 
 /// The verdict of the position of this key and these loads, to which the path of the search leads.
 #[cycle(expanding)]
 pub(crate) fn expand<M: Memo>(
-    game: &Game,
+    space: &Space,
     pass: u16,
     search: &mut Search,
     memo: &mut M,
@@ -81,23 +83,23 @@ pub(crate) fn expand<M: Memo>(
     key: Key,
 ) -> Result<Verdict, VisitFault>
     requires of_key { loads ≡ key.loads }
-    requires sound { IsSound game.now pass search.old (M.entries memo.old) }
-    requires may { MayVisit game.now pass search.old key }
-    requires behind { HasSpare game.now 0 search.old (M.entries memo.old) }
+    requires sound { IsSound space.now pass search.old (M.entries memo.old) }
+    requires may { MayVisit space.now pass search.old key }
+    requires behind { HasSpare space.now 0 search.old (M.entries memo.old) }
     ensures found { MatchResult result
-        (FindsVerdict game.now pass key search.old search.new (M.entries memo.new))
-        (Stops game.now pass search.old.meter.budget search.new) }
-    ensures counts { KeepsCount game.now pass (sum key.items)
+        (FindsVerdict space.now pass key search.old search.new (M.entries memo.new))
+        (Stops space.now pass search.old.meter.budget search.new) }
+    ensures counts { KeepsCount space.now pass (sum key.items)
         (progress search.old.meter (M.entries memo.old) (M.room memo.old))
         (progress search.new.meter (M.entries memo.new) (M.room memo.new)) result }
-    ensures serves { IfOk result (λ verdict. KeepsServing game.now 0 search.old (M.entries memo.old)
-        search.new (M.entries memo.new) (λ later. IsServedBy game.now later key verdict)) }
+    ensures serves { IfOk result (λ verdict. KeepsServing space.now 0 search.old (M.entries memo.old)
+        search.new (M.entries memo.new) (λ later. IsServedBy space.now later key verdict)) }
 {
-    game_is_legal(game);
-    if finishes(game, &loads) {
-        return visit_finish(game, pass, search, memo, key);
+    game_is_legal(&space.game);
+    if finishes(&space.game, &loads) {
+        return visit_finish(space, pass, search, memo, key);
     }
-    look_up(game, pass, search, memo, loads, key)
+    look_up(space, pass, search, memo, loads, key)
 }
 
 // The verdict of a position that does not finish. Apart from what is done at each load, so that a position that finishes
@@ -105,7 +107,7 @@ pub(crate) fn expand<M: Memo>(
 #[cycle(expanding)]
 #[inline(never)]
 fn look_up<M: Memo>(
-    game: &Game,
+    space: &Space,
     pass: u16,
     search: &mut Search,
     memo: &mut M,
@@ -113,18 +115,18 @@ fn look_up<M: Memo>(
     key: Key,
 ) -> Result<Verdict, VisitFault>
     requires of_key { loads ≡ key.loads }
-    requires unfinished { Finishes game.now key.loads → ⊥ }
-    requires sound { IsSound game.now pass search.old (M.entries memo.old) }
-    requires may { MayVisit game.now pass search.old key }
-    requires behind { HasSpare game.now 0 search.old (M.entries memo.old) }
+    requires unfinished { Finishes space.now.game key.loads → ⊥ }
+    requires sound { IsSound space.now pass search.old (M.entries memo.old) }
+    requires may { MayVisit space.now pass search.old key }
+    requires behind { HasSpare space.now 0 search.old (M.entries memo.old) }
     ensures found { MatchResult result
-        (FindsVerdict game.now pass key search.old search.new (M.entries memo.new))
-        (Stops game.now pass search.old.meter.budget search.new) }
-    ensures counts { KeepsCount game.now pass (sum key.items)
+        (FindsVerdict space.now pass key search.old search.new (M.entries memo.new))
+        (Stops space.now pass search.old.meter.budget search.new) }
+    ensures counts { KeepsCount space.now pass (sum key.items)
         (progress search.old.meter (M.entries memo.old) (M.room memo.old))
         (progress search.new.meter (M.entries memo.new) (M.room memo.new)) result }
-    ensures serves { IfOk result (λ verdict. KeepsServing game.now 0 search.old (M.entries memo.old)
-        search.new (M.entries memo.new) (λ later. IsServedBy game.now later key verdict)) }
+    ensures serves { IfOk result (λ verdict. KeepsServing space.now 0 search.old (M.entries memo.old)
+        search.new (M.entries memo.new) (λ later. IsServedBy space.now later key verdict)) }
 {
     let told = known(memo, &key, pass);
     if let Told::Settled(verdict) = told {
@@ -132,31 +134,31 @@ fn look_up<M: Memo>(
     }
     search.meter.visit(pass, &search.path)?;
     let position = position_of(loads, &key);
-    let verdict = decide(game, pass, told, search, memo, &position, &key)?;
+    let verdict = decide(space, pass, told, search, memo, &position, &key)?;
     remember(memo, key, verdict)?;
     Ok(verdict)
 }
 
 // The verdict of a position that finishes. It is told from the loads alone, so it takes one look-up, which puts it.
 fn visit_finish<M: Memo>(
-    game: &Game,
+    space: &Space,
     pass: u16,
     search: &mut Search,
     memo: &mut M,
     key: Key,
 ) -> Result<Verdict, VisitFault>
-    requires legal { IsGame game.now }
-    requires sound { IsSound game.now pass search.old (M.entries memo.old) }
-    requires may { MayVisit game.now pass search.old key }
-    requires finishes { Finishes game.now key.loads }
+    requires legal { IsGame space.now.game }
+    requires sound { IsSound space.now pass search.old (M.entries memo.old) }
+    requires may { MayVisit space.now pass search.old key }
+    requires finishes { Finishes space.now.game key.loads }
     ensures found { MatchResult result
-        (FindsVerdict game.now pass key search.old search.new (M.entries memo.new))
-        (Stops game.now pass search.old.meter.budget search.new) }
-    ensures counts { KeepsCount game.now pass (sum key.items)
+        (FindsVerdict space.now pass key search.old search.new (M.entries memo.new))
+        (Stops space.now pass search.old.meter.budget search.new) }
+    ensures counts { KeepsCount space.now pass (sum key.items)
         (progress search.old.meter (M.entries memo.old) (M.room memo.old))
         (progress search.new.meter (M.entries memo.new) (M.room memo.new)) result }
-    ensures serves { IfOk result (λ verdict. KeepsServing game.now 0 search.old (M.entries memo.old)
-        search.new (M.entries memo.new) (λ later. IsServedBy game.now later key verdict)) }
+    ensures serves { IfOk result (λ verdict. KeepsServing space.now 0 search.old (M.entries memo.old)
+        search.new (M.entries memo.new) (λ later. IsServedBy space.now later key verdict)) }
 {
     if remember_finish(memo, key)? {
         let path = &search.path;
@@ -179,7 +181,7 @@ fn position_of(loads: Loads, key: &Key) -> Position
 // The verdict of a position that was visited and does not finish.
 #[cycle(expanding)]
 fn decide<M: Memo>(
-    game: &Game,
+    space: &Space,
     pass: u16,
     told: Told,
     search: &mut Search,
@@ -188,28 +190,28 @@ fn decide<M: Memo>(
     key: &Key,
 ) -> Result<Verdict, VisitFault>
     requires of_key { key.now ≡ position.now }
-    requires sound { IsSound game.now pass search.old (M.entries memo.old) }
-    requires stands { StandsAtPath game.now pass search.old.path position.now }
-    requires unfinished { Finishes game.now position.now.loads → ⊥ }
+    requires sound { IsSound space.now pass search.old (M.entries memo.old) }
+    requires stands { StandsAtPath space.now pass search.old.path position.now }
+    requires unfinished { Finishes space.now.game position.now.loads → ⊥ }
     requires visited { search.old.meter.last ≡ Some (visit pass search.old.path) }
     requires told { IsTold pass (verdict_of (M.entries memo.old) position.now) told }
-    requires behind { HasSpare game.now 1 search.old (M.entries memo.old) }
-    requires bound { IsBound game.now position.now.items search.old.most }
+    requires behind { HasSpare space.now 1 search.old (M.entries memo.old) }
+    requires bound { IsBound space.now.game position.now.items search.old.most }
     ensures found { MatchResult result
-        (FindsVerdict game.now pass position.now search.old search.new (M.entries memo.new))
-        (Stops game.now pass search.old.meter.budget search.new) }
-    ensures counts { KeepsCount game.now pass (sum position.now.items + 1)
+        (FindsVerdict space.now pass position.now search.old search.new (M.entries memo.new))
+        (Stops space.now pass search.old.meter.budget search.new) }
+    ensures counts { KeepsCount space.now pass (sum position.now.items + 1)
         (progress search.old.meter (M.entries memo.old) (M.room memo.old))
         (progress search.new.meter (M.entries memo.new) (M.room memo.new)) result }
-    ensures serves { IfOk result (λ verdict. KeepsServing game.now 1 search.old (M.entries memo.old)
-        search.new (M.entries memo.new) (λ later. IsServedBy game.now later position.now verdict)) }
+    ensures serves { IfOk result (λ verdict. KeepsServing space.now 1 search.old (M.entries memo.old)
+        search.new (M.entries memo.new) (λ later. IsServedBy space.now later position.now verdict)) }
 {
     let most = search.most;
     let room = search
         .rooms
-        .room_up_to(search.alloc, game, &position.items, key, most)?;
+        .room_up_to(search.alloc, &space.game, &position.items, key, most)?;
     search.most = room;
-    let verdict = weigh_all(game, pass, told, search, memo, position, key, room)?;
+    let verdict = weigh_all(space, pass, told, search, memo, position, key, room)?;
     search.most = most;
     Ok(verdict)
 }
@@ -217,7 +219,7 @@ fn decide<M: Memo>(
 // The verdict of a position by the sizes up to the room, from the largest on.
 #[cycle(expanding)]
 fn weigh_all<M: Memo>(
-    game: &Game,
+    space: &Space,
     pass: u16,
     told: Told,
     search: &mut Search,
@@ -227,28 +229,29 @@ fn weigh_all<M: Memo>(
     room: u16,
 ) -> Result<Verdict, VisitFault>
     requires of_key { key.now ≡ position.now }
-    requires sound { IsSound game.now pass search.old (M.entries memo.old) }
-    requires from_room { IsOpenFrom game.now pass room search.old position.now }
-    requires is_room { IsRoom game.now position.now.items room }
+    requires sound { IsSound space.now pass search.old (M.entries memo.old) }
+    requires from_room { IsOpenFrom space.now pass room search.old position.now }
+    requires is_room { IsRoom space.now.game position.now.items room }
     requires told { IsTold pass (verdict_of (M.entries memo.old) position.now) told }
-    requires behind { HasSpare game.now 1 search.old (M.entries memo.old) }
+    requires behind { HasSpare space.now 1 search.old (M.entries memo.old) }
     ensures found { MatchResult result
-        (FindsVerdict game.now pass position.now search.old search.new (M.entries memo.new))
-        (Stops game.now pass search.old.meter.budget search.new) }
-    ensures counts { KeepsCount game.now pass (sum position.now.items + 1)
+        (FindsVerdict space.now pass position.now search.old search.new (M.entries memo.new))
+        (Stops space.now pass search.old.meter.budget search.new) }
+    ensures counts { KeepsCount space.now pass (sum position.now.items + 1)
         (progress search.old.meter (M.entries memo.old) (M.room memo.old))
         (progress search.new.meter (M.entries memo.new) (M.room memo.new)) result }
-    ensures serves { IfOk result (λ verdict. KeepsServing game.now 1 search.old (M.entries memo.old)
-        search.new (M.entries memo.new) (λ later. IsServedBy game.now later position.now verdict)) }
+    ensures serves { IfOk result (λ verdict. KeepsServing space.now 1 search.old (M.entries memo.old)
+        search.new (M.entries memo.new) (λ later. IsServedBy space.now later position.now verdict)) }
 {
     let mut entries = Vec::new(search.alloc);
-    let collects = allows_all(game, pass, position);
+    let mut answered = true;
+    let collects = allows_all(space, pass, position);
     let found = distinct_loads(&position.loads);
     let count = position.loads.distinct_count();
     let loads = &found[..count];
     for tried in 0..room {
         match weigh(
-            game,
+            space,
             pass,
             told,
             search,
@@ -262,12 +265,15 @@ fn weigh_all<M: Memo>(
             Weighed::Replied(entry) => {
                 if collects {
                     put(&mut entries, entry)?;
+                } else {
+                    answered = false;
                 }
             }
-            Weighed::NoReply => {}
+            Weighed::NoReply => answered = false,
+            Weighed::Unlisted => {}
         }
     }
-    if entries.len() < usize::from(room) {
+    if !answered {
         return Ok(Verdict::Held(pass));
     }
     let number = keep(search.alloc, &mut search.replies, position, entries)?;
@@ -276,18 +282,18 @@ fn weigh_all<M: Memo>(
 
 // Whether the pass allows all sizes after the items of the position. Where it does not, there are no replies to all
 // sizes, and none need to be kept.
-fn allows_all(game: &Game, pass: u16, position: &Position) -> bool
-    requires of_game { pass < game.now.capacity }
+fn allows_all(space: &Space, pass: u16, position: &Position) -> bool
+    requires of_game { pass < space.now.game.capacity }
     ensures { IsTrue result ↔ (largest_of position.now.items ≤ 1 + pass) }
 {
-    game_is_legal(game);
+    game_is_legal(&space.game);
     allows(pass, &position.items, 1)
 }
 
 // What a size comes to; where it wins, that is kept.
 #[cycle(expanding)]
 fn weigh<M: Memo>(
-    game: &Game,
+    space: &Space,
     pass: u16,
     told: Told,
     search: &mut Search,
@@ -299,28 +305,31 @@ fn weigh<M: Memo>(
 ) -> Result<Weighed, VisitFault>
     requires of_key { key.now ≡ position.now }
     requires of_loads { loads.now ≡ distinct position.now.loads }
-    requires sound { IsSound game.now pass search.old (M.entries memo.old) }
-    requires from_size { IsOpenFrom game.now pass size search.old position.now }
-    requires may_come { Packable game.now (position.now.items ++ size ∷ []) }
-    requires behind { HasSpare game.now 1 search.old (M.entries memo.old) }
+    requires sound { IsSound space.now pass search.old (M.entries memo.old) }
+    requires from_size { IsOpenFrom space.now pass size search.old position.now }
+    requires may_come { Packable space.now.game (position.now.items ++ size ∷ []) }
+    requires behind { HasSpare space.now 1 search.old (M.entries memo.old) }
     ensures found { MatchResult result
-        (HasWeighed game.now pass size position.now search.old search.new (M.entries memo.new))
-        (Stops game.now pass search.old.meter.budget search.new) }
-    ensures counts { KeepsCount game.now pass (sum position.now.items + 1)
+        (HasWeighed space.now pass size position.now search.old search.new (M.entries memo.new))
+        (Stops space.now pass search.old.meter.budget search.new) }
+    ensures counts { KeepsCount space.now pass (sum position.now.items + 1)
         (progress search.old.meter (M.entries memo.old) (M.room memo.old))
         (progress search.new.meter (M.entries memo.new) (M.room memo.new)) result }
-    ensures serves { IfOk result (λ weighed. KeepsServingTold game.now told position.now (taken_by weighed) search.old
+    ensures serves { IfOk result (λ weighed. KeepsServingTold space.now told position.now (taken_by weighed) search.old
         (M.entries memo.old) search.new (M.entries memo.new)
-        (λ later. IsServedFor game.now pass later position.now size weighed)) }
+        (λ later. IsServedFor space.now pass later position.now size weighed)) }
 {
-    game_is_legal(game);
+    game_is_legal(&space.game);
+    if !space.sizes.contains(size) {
+        return Ok(Weighed::Unlisted);
+    }
     if !allows(pass, &position.items, size) {
         return Ok(Weighed::NoReply);
     }
-    if let Some(load) = skipped(game, told, position, size) {
+    if let Some(load) = skipped(space, told, position, size) {
         return Ok(kept(size, load, Verdict::Algorithm(FINISHES)));
     }
-    match try_size(game, pass, search, memo, position, key, loads, size)? {
+    match try_size(space, pass, search, memo, position, key, loads, size)? {
         Tried::Wins(placements) => {
             let number = keep_win(search.alloc, &mut search.wins, position, size, placements)?;
             Ok(Weighed::Won(number))
@@ -342,7 +351,7 @@ fn kept(size: u16, load: u16, verdict: Verdict) -> Weighed
 // What each load comes to with a size, from the greatest on, up to the first that is no win of the adversary.
 #[cycle(expanding)]
 fn try_size<M: Memo>(
-    game: &Game,
+    space: &Space,
     pass: u16,
     search: &mut Search,
     memo: &mut M,
@@ -353,21 +362,21 @@ fn try_size<M: Memo>(
 ) -> Result<Tried, VisitFault>
     requires of_key { key.now ≡ position.now }
     requires of_loads { loads.now ≡ distinct position.now.loads }
-    requires sound { IsSound game.now pass search.old (M.entries memo.old) }
-    requires from_size { IsOpenFrom game.now pass size search.old position.now }
-    requires may_come { MayCome game.now pass position.now size }
-    requires behind { HasSpare game.now 0 search.old (M.entries memo.old) }
+    requires sound { IsSound space.now pass search.old (M.entries memo.old) }
+    requires from_size { IsOpenFrom space.now pass size search.old position.now }
+    requires may_come { MayCome space.now pass position.now size }
+    requires behind { HasSpare space.now 0 search.old (M.entries memo.old) }
     ensures found { MatchResult result
-        (λ tried. WentOn game.now pass (with_move search.old (size - 1) game.now.target) search.old search.new
-        (M.entries memo.new) × HasTried game.now pass search.new position.now size tried)
-        (Stops game.now pass search.old.meter.budget search.new) }
-    ensures counts { KeepsCount game.now pass (sum position.now.items + 1)
+        (λ tried. WentOn space.now pass (with_move search.old (size - 1) space.now.game.target) search.old search.new
+        (M.entries memo.new) × HasTried space.now pass search.new position.now size tried)
+        (Stops space.now pass search.old.meter.budget search.new) }
+    ensures counts { KeepsCount space.now pass (sum position.now.items + 1)
         (progress search.old.meter (M.entries memo.old) (M.room memo.old))
         (progress search.new.meter (M.entries memo.new) (M.room memo.new)) result }
-    ensures serves { IfOk result (λ tried. KeepsServing game.now 0 search.old (M.entries memo.old)
-        search.new (M.entries memo.new) (λ later. IsServedWith game.now later position.now size tried)) }
+    ensures serves { IfOk result (λ tried. KeepsServing space.now 0 search.old (M.entries memo.old)
+        search.new (M.entries memo.new) (λ later. IsServedWith space.now later position.now size tried)) }
 {
-    game_is_legal(game);
+    game_is_legal(&space.game);
     // They become a list where the size wins; else they take no memory.
     let mut placements = [Placement {
         load: 0,
@@ -376,7 +385,7 @@ fn try_size<M: Memo>(
     let count = count_of(position, loads);
     for i in 0..count {
         let load = load_at(position, loads, i);
-        match try_load(game, pass, search, memo, position, key, size, load)? {
+        match try_load(space, pass, search, memo, position, key, size, load)? {
             Reached::ByNext(next) => placements[i] = Placement { load, next },
             Reached::Answers(verdict) => return Ok(Tried::Answered { load, verdict }),
         }
@@ -388,7 +397,7 @@ fn try_size<M: Memo>(
 // What an item of this size comes to at this load.
 #[cycle(expanding)]
 fn try_load<M: Memo>(
-    game: &Game,
+    space: &Space,
     pass: u16,
     search: &mut Search,
     memo: &mut M,
@@ -398,28 +407,28 @@ fn try_load<M: Memo>(
     load: u16,
 ) -> Result<Reached, VisitFault>
     requires of_key { key.now ≡ position.now }
-    requires sound { IsSound game.now pass search.old (M.entries memo.old) }
-    requires at_load { IsOpenAt game.now pass size load search.old position.now }
-    requires may_come { MayCome game.now pass position.now size }
-    requires behind { HasSpare game.now 0 search.old (M.entries memo.old) }
+    requires sound { IsSound space.now pass search.old (M.entries memo.old) }
+    requires at_load { IsOpenAt space.now pass size load search.old position.now }
+    requires may_come { MayCome space.now pass position.now size }
+    requires behind { HasSpare space.now 0 search.old (M.entries memo.old) }
     ensures found { MatchResult result
-        (λ reached. WentOn game.now pass (with_move search.old size load) search.old search.new
-        (M.entries memo.new) × HasReached game.now pass search.new position.now size load reached)
-        (Stops game.now pass search.old.meter.budget search.new) }
-    ensures counts { KeepsCount game.now pass (sum position.now.items + 1)
+        (λ reached. WentOn space.now pass (with_move search.old size load) search.old search.new
+        (M.entries memo.new) × HasReached space.now pass search.new position.now size load reached)
+        (Stops space.now pass search.old.meter.budget search.new) }
+    ensures counts { KeepsCount space.now pass (sum position.now.items + 1)
         (progress search.old.meter (M.entries memo.old) (M.room memo.old))
         (progress search.new.meter (M.entries memo.new) (M.room memo.new)) result }
-    ensures serves { IfOk result (λ reached. KeepsServing game.now 0 search.old (M.entries memo.old)
-        search.new (M.entries memo.new) (λ later. IsServedAt game.now later position.now size load reached)) }
+    ensures serves { IfOk result (λ reached. KeepsServing space.now 0 search.old (M.entries memo.old)
+        search.new (M.entries memo.new) (λ later. IsServedAt space.now later position.now size load reached)) }
 {
-    let target = game.t();
+    let target = space.game.t();
     if load + size >= target {
         return Ok(Reached::ByNext(Then::Over));
     }
-    let loads = loads_after(game, position, size, load);
-    let next = key_after(search.alloc, game, key, &loads, size)?;
+    let loads = loads_after(space, position, size, load);
+    let next = key_after(search.alloc, space, key, &loads, size)?;
     search.path.push(PathMove { item: size, load })?;
-    let verdict = expand(game, pass, search, memo, loads, next)?;
+    let verdict = expand(space, pass, search, memo, loads, next)?;
     search.path.pop();
     Ok(reach_of(verdict))
 }

@@ -1,24 +1,27 @@
 //! The search of a game, pass by pass.
 
-ghost use Rattle.std.specs.Prelude.{◌≡◌, ◌≤◌, ◌+◌, ◌*◌, ℕ, [], IfOk};
-ghost use Rattle.items.specs.Multiset.{sizes_of};
+ghost use Rattle.std.specs.Prelude.{◌≡◌, ◌≤◌, ◌<◌, ◌+◌, ◌-◌, ◌*◌, ◌^◌, ℕ, [], All, IfOk};
+ghost use Rattle.items.specs.Multiset.{IsSize, sizes_of};
 ghost use Rattle.loads.specs.Wins.{IsWon, empty_position};
-ghost use Rattle.monotone.specs.Positions.{CountsAllReachable};
-ghost use Rattle.monotone.specs.Passes.{allowed_in, whole_game};
+ghost use Rattle.monotone.specs.Positions.{CountsAllReachable, CountsReachable};
+ghost use Rattle.monotone.specs.Passes.{allowed_in, listed_sizes, whole_game};
 ghost use Rattle.monotone.specs.Visits.{most_visits};
 ghost use Rattle.strategy_text.specs.Spelling.{most_nodes};
-ghost use Rattle.minimax.specs.Answers.{IsAnswer, IsDecided};
+ghost use Rattle.minimax.specs.Answers.{IsAnswer, IsAnswerOver, IsDecided};
 ghost use Rattle.minimax.specs.Budgets.{AreNumbersOfReachable, HasRoom, IsOfAdversary, reachable_before};
 ghost use Rattle.minimax.specs.Fresh.{IsWithin};
+ghost use Rattle.minimax.specs.State.{space_of};
 
 use crate::answer::Answer;
 use crate::expanding::{Search, expand};
 use crate::replies::Replies;
 use crate::rooms::Rooms;
+use crate::space::Space;
 use crate::wins::Wins;
 use crate::wins_writing::write_wins;
 use crate::writing::write_replies;
-use items::{Game, Items};
+use items::laws::game_is_legal;
+use items::{Game, Items, Sizes};
 use loads::{Loads, Position};
 use monotone::{Meter, Path, VisitFault};
 use std::alloc::{AllocError, Global};
@@ -63,22 +66,67 @@ pub fn solve<M: Memo>(
         → IsWon game.now (allowed_in (sizes_of game.now) pass) (empty_position game.now)
         → reachable_before numbers (pass + 1) ≤ budget → IfOk result IsOfAdversary }
 {
-    search_passes(alloc, game, budget, memo)
+    game_is_legal(game);
+    let space = Space {
+        game: *game,
+        sizes: Sizes::of_game(game),
+        first_pass: 0,
+    };
+    search_passes(alloc, &space, budget, memo)
 }
 
-// The answer of a search of a game, pass by pass.
-fn search_passes<M: Memo>(
+/// Who wins a game whose items may have these of its sizes alone, searched in the last pass, under a budget of visits;
+/// the memo is empty at the start.
+///
+/// The visits, their order and the memo are those of [`solve`], with these sizes in place of all. A strategy has format
+/// 1, is legal over these sizes, and has at most as many nodes as the budget allows visits. `Undecided` is answered
+/// where the budget is spent and a further visit is due, before which all is decided. With a budget of
+/// `(m + 1) ^ (m * g)` visits it never is, and neither where the memo has room for all positions that are reachable with
+/// these sizes and the budget is as much. Fails only for want of memory; what the memo then holds is open.
+///
+/// Time and memory are as for [`solve`].
+pub fn solve_listed<M: Memo>(
     alloc: Global,
     game: &Game,
+    sizes: &Sizes,
     budget: u32,
     memo: &mut M,
 ) -> Result<Answer, AllocError>
+    requires sizes { All (IsSize game.now.capacity) sizes.now }
     requires some { 1 ≤ budget }
     requires most { budget ≤ most_nodes }
     requires empty { M.entries memo.old ≡ [] }
-    ensures answer { IfOk result (IsAnswer game.now budget) }
-    ensures within { IfOk result (IsWithin game.now (M.room memo.old) budget) }
+    ensures answer { IfOk result (IsAnswerOver (listed_sizes game.now sizes.now) budget) }
+    ensures many_visits { (game.now.bins + 1) ^ (game.now.bins * game.now.capacity) ≤ budget
+        → IfOk result IsDecided }
+    ensures all_positions { (all : ℕ) → CountsReachable game.now (allowed_in sizes.now (game.now.capacity - 1)) all
+        → all ≤ M.room memo.old → all ≤ budget → IfOk result IsDecided }
 {
+    game_is_legal(game);
+    let space = Space {
+        game: *game,
+        sizes: sizes.copy(),
+        first_pass: game.g() - 1,
+    };
+    search_passes(alloc, &space, budget, memo)
+}
+
+// The answer of a search, pass by pass.
+fn search_passes<M: Memo>(
+    alloc: Global,
+    space: &Space,
+    budget: u32,
+    memo: &mut M,
+) -> Result<Answer, AllocError>
+    requires sizes { All (IsSize space.now.game.capacity) space.now.sizes }
+    requires first { space.now.first_pass < space.now.game.capacity }
+    requires some { 1 ≤ budget }
+    requires most { budget ≤ most_nodes }
+    requires empty { M.entries memo.old ≡ [] }
+    ensures answer { IfOk result (IsAnswerOver (space_of space.now) budget) }
+    ensures within { IfOk result (IsWithin space.now (M.room memo.old) budget) }
+{
+    let game = &space.game;
     let mut search = Search {
         alloc,
         meter: Meter::new(alloc, game, budget),
@@ -92,16 +140,16 @@ fn search_passes<M: Memo>(
         loads: Loads::zero(alloc, game),
         items: Items::empty(),
     };
-    for pass in 0..game.g() {
+    for pass in space.first_pass..game.g() {
         let key = Key::of(alloc, &root.loads, &root.items)?;
-        match expand(game, pass, &mut search, memo, root.loads.copy(), key) {
+        match expand(space, pass, &mut search, memo, root.loads.copy(), key) {
             Ok(Verdict::Held(_)) => {}
             Ok(Verdict::Adversary(number)) => {
-                let strategy = write_wins(alloc, game, &search.wins, number)?;
+                let strategy = write_wins(alloc, space, &search.wins, number)?;
                 return Ok(Answer::Adversary(strategy));
             }
             Ok(Verdict::Algorithm(told)) => {
-                let strategy = write_replies(alloc, game, &search.replies, &root, told, budget)?;
+                let strategy = write_replies(alloc, space, &search.replies, &root, told, budget)?;
                 return Ok(Answer::Algorithm(strategy));
             }
             Err(VisitFault::Spent) => {

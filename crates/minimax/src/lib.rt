@@ -12,13 +12,14 @@ mod reached;
 mod replies;
 mod rooms;
 mod skipping;
+mod space;
 mod table;
 mod wins;
 mod wins_writing;
 mod writing;
 
 pub use answer::Answer;
-pub use game_search::solve;
+pub use game_search::{solve, solve_listed};
 
 #[cfg(test)]
 mod tests;

@@ -11,10 +11,11 @@ ghost use Rattle.adversary_graph.specs.Nodes.{position_of};
 ghost use Rattle.good_situations.specs.Finish.{Finishes};
 ghost use Rattle.minimax.specs.State.{IsPlain, IsPlayable, PutsWin, PutsReply, PlacesAll, ReplyToAll, MayAct};
 
+use crate::space::Space;
 use adversary_graph::AdvJudged;
 use algorithm_graph::AlgJudged;
 use items::laws::game_is_legal;
-use items::{Game, Nums};
+use items::Nums;
 use loads::{Loads, Position};
 use reachable_loads::pack;
 use std::alloc::{AllocError, Global};
@@ -25,21 +26,22 @@ use transposition::Key;
 /// the sent one, and gives its number.
 pub(crate) fn push_win(
     alloc: Global,
+    space: &Space,
     wins: &mut AdvJudged,
     position: &Position,
     size: u16,
     placements: Placements,
 ) -> Result<u32, AllocError>
-    requires playable { IsPlayable wins.old.game position.now }
-    requires may_come { Packable wins.old.game (position.now.items ++ size ∷ []) }
-    requires format { IsPlain wins.old }
+    requires playable { IsPlayable space.now position.now }
+    requires listed { Contains space.now.sizes size }
+    requires may_come { Packable space.now.game (position.now.items ++ size ∷ []) }
+    requires format { IsPlain space.now wins.old }
     requires room { length wins.old.nodes < most_nodes }
-    requires places { PlacesAll wins.old.game (map position_of wins.old.nodes) position.now size placements }
+    requires places { PlacesAll space.now.game (map position_of wins.old.nodes) position.now size placements }
     ensures { IfOk result (PutsWin wins.old wins.new position.now) }
 {
-    let game = wins.game();
-    game_is_legal(&game);
-    let pack = pack(alloc, &game, &position.items.add(size))?;
+    game_is_legal(&space.game);
+    let pack = pack(alloc, &space.game, &position.items.add(size))?;
     let step = Step::Send {
         size,
         pack,
@@ -56,46 +58,48 @@ pub(crate) fn push_win(
 /// Puts the node of the algorithm that finishes at the position, and gives its number.
 pub(crate) fn push_finish(
     alloc: Global,
+    space: &Space,
     replies: &mut AlgJudged,
     position: &Position,
 ) -> Result<u32, AllocError>
-    requires playable { IsPlayable replies.old.game position.now }
-    requires format { IsPlain replies.old }
+    requires playable { IsPlayable space.now position.now }
+    requires format { IsPlain space.now replies.old }
     requires room { length replies.old.nodes < most_nodes }
-    requires finishes { Finishes replies.old.game position.now.loads }
+    requires finishes { Finishes space.now.game position.now.loads }
     ensures { IfOk result (PutsReply replies.old replies.new position.now) }
 {
-    push_act(alloc, replies, position, Act::Finish)
+    push_act(alloc, space, replies, position, Act::Finish)
 }
 
 /// Puts the node of the algorithm that replies at the position by these entries, which are given from the last to the
 /// first, and gives its number.
 pub(crate) fn push_reply(
     alloc: Global,
+    space: &Space,
     replies: &mut AlgJudged,
     position: &Position,
-    room: u16,
     mut entries: Vec<Entry>,
 ) -> Result<u32, AllocError>
-    requires playable { IsPlayable replies.old.game position.now }
-    requires format { IsPlain replies.old }
+    requires playable { IsPlayable space.now position.now }
+    requires format { IsPlain space.now replies.old }
     requires room { length replies.old.nodes < most_nodes }
-    requires replies { ReplyToAll replies.old.game replies.old.nodes position.now room entries.items }
+    requires replies { ReplyToAll space.now replies.old.nodes position.now entries.items }
     ensures { IfOk result (PutsReply replies.old replies.new position.now) }
 {
     entries.reverse();
     let entries = Entries::from_slice(alloc, entries.as_slice())?;
-    push_act(alloc, replies, position, Act::Reply(entries))
+    push_act(alloc, space, replies, position, Act::Reply(entries))
 }
 
 // Puts a node of the algorithm, and gives its number.
 fn push_act(
     alloc: Global,
+    space: &Space,
     replies: &mut AlgJudged,
     position: &Position,
     act: Act,
 ) -> Result<u32, AllocError>
-    requires { MayAct replies.old position.now act }
+    requires { MayAct space.now replies.old position.now act }
     ensures { IfOk result (PutsReply replies.old replies.new position.now) }
 {
     let node = AlgNode {
@@ -107,42 +111,42 @@ fn push_act(
 }
 
 /// The position after an item of this size went to a bin of this load. Takes no memory.
-pub(crate) fn after(game: &Game, position: &Position, size: u16, load: u16) -> Position
-    requires playable { IsPlayable game.now position.now }
+pub(crate) fn after(space: &Space, position: &Position, size: u16, load: u16) -> Position
+    requires playable { IsPlayable space.now position.now }
     requires has_load { Contains position.now.loads load }
-    requires below_target { load + size < game.now.target }
-    requires may_come { Packable game.now (position.now.items ++ size ∷ []) }
+    requires below_target { load + size < space.now.game.target }
+    requires may_come { Packable space.now.game (position.now.items ++ size ∷ []) }
     ensures { result ≡ after position.now load size }
 {
-    game_is_legal(game);
+    game_is_legal(&space.game);
     Position {
-        loads: position.loads.place(game, load, size).unwrap(),
+        loads: position.loads.place(&space.game, load, size).unwrap(),
         items: position.items.add(size),
     }
 }
 
 /// The loads after an item of this size went to a bin of this load. Takes no memory.
-pub(crate) fn loads_after(game: &Game, position: &Position, size: u16, load: u16) -> Loads
-    requires playable { IsPlayable game.now position.now }
+pub(crate) fn loads_after(space: &Space, position: &Position, size: u16, load: u16) -> Loads
+    requires playable { IsPlayable space.now position.now }
     requires has_load { Contains position.now.loads load }
-    requires below_target { load + size < game.now.target }
+    requires below_target { load + size < space.now.game.target }
     ensures { result ≡ loads_after position.now.loads load size }
 {
-    position.loads.place(game, load, size).unwrap()
+    position.loads.place(&space.game, load, size).unwrap()
 }
 
 /// The key of the position of these loads after an item of this size.
 pub(crate) fn key_after(
     alloc: Global,
-    game: &Game,
+    space: &Space,
     key: &Key,
     loads: &Loads,
     size: u16,
 ) -> Result<Key, AllocError>
-    requires playable { IsPlayable game.now key.now }
-    requires may_come { Packable game.now (key.now.items ++ size ∷ []) }
+    requires playable { IsPlayable space.now key.now }
+    requires may_come { Packable space.now.game (key.now.items ++ size ∷ []) }
     ensures { IfOk result (λ made. made ≡ position loads.now (put_ascending size key.now.items)) }
 {
-    game_is_legal(game);
+    game_is_legal(&space.game);
     key.after(alloc, loads, size)
 }

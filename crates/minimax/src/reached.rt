@@ -10,7 +10,7 @@ use strategy_text::{Placement, Then};
 
 /// The marks of the wins that are reached from the win of this number, up to that one.
 pub(crate) fn reached_from(alloc: Global, wins: &Wins, root: u32) -> Result<Vec<bool>, AllocError>
-    requires ready { (game : _) × AreReadyWins game wins.now }
+    requires ready { (space : _) × AreReadyWins space wins.now }
     requires within { root < length wins.now }
     ensures { IfOk result (λ marks. AreReached wins.now root 0 marks.items) }
 {
@@ -25,7 +25,7 @@ pub(crate) fn reached_from(alloc: Global, wins: &Wins, root: u32) -> Result<Vec<
 
 // Marks what a win leads to, where that is marked.
 fn look_at(wins: &Wins, marks: &mut Vec<bool>, number: usize)
-    requires ready { (game : _) × AreReadyWins game wins.now }
+    requires ready { (space : _) × AreReadyWins space wins.now }
     requires within { number < length wins.now }
     requires has_mark { number < length marks.old.items }
     ensures { LooksAt wins.now number marks.old.items marks.new.items }

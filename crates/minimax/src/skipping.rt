@@ -8,29 +8,30 @@ ghost use Rattle.loads.specs.After.{after};
 ghost use Rattle.minimax.specs.Serving.{IsFirst, IsSkipped};
 ghost use Rattle.minimax.specs.State.{IsPlayable, allowed_by};
 
+use crate::space::Space;
 use crate::table::Told;
 use good_situations::finishes_after;
-use items::Game;
 use items::laws::game_is_legal;
 use loads::Position;
 use monotone::allows;
 
 /// The load of the reply to an item of this size, where an earlier pass allowed it and the first load that stays below
 /// the target leads to a position that finishes: that pass visited this position.
-pub(crate) fn skipped(game: &Game, told: Told, position: &Position, size: u16) -> Option<u16>
-    requires playable { IsPlayable game.now position.now }
-    requires may_come { Packable game.now (position.now.items ++ size ∷ []) }
-    ensures { IfSome result (IsSkipped game.now told position.now size) }
+pub(crate) fn skipped(space: &Space, told: Told, position: &Position, size: u16) -> Option<u16>
+    requires playable { IsPlayable space.now position.now }
+    requires may_come { Packable space.now.game (position.now.items ++ size ∷ []) }
+    requires listed { Contains space.now.sizes size }
+    ensures { IfSome result (IsSkipped space.now told position.now size) }
 {
-    game_is_legal(game);
+    game_is_legal(&space.game);
     let Told::Earlier(pass) = told else {
         return None;
     };
-    if pass > game.g() || !allows(pass, &position.items, size) {
+    if pass > space.game.g() || !allows(pass, &position.items, size) {
         return None;
     }
-    let load = first_below(game, position, size)?;
-    if leads_to_finish(game, position, size, load) {
+    let load = first_below(space, position, size)?;
+    if leads_to_finish(space, position, size, load) {
         Some(load)
     } else {
         None
@@ -38,12 +39,12 @@ pub(crate) fn skipped(game: &Game, told: Told, position: &Position, size: u16) -
 }
 
 // The greatest load that stays below the target with an item of this size.
-fn first_below(game: &Game, position: &Position, size: u16) -> Option<u16>
-    requires playable { IsPlayable game.now position.now }
-    requires may_come { Packable game.now (position.now.items ++ size ∷ []) }
-    ensures { IfSome result (IsFirst game.now position.now size) }
+fn first_below(space: &Space, position: &Position, size: u16) -> Option<u16>
+    requires playable { IsPlayable space.now position.now }
+    requires may_come { Packable space.now.game (position.now.items ++ size ∷ []) }
+    ensures { IfSome result (IsFirst space.now.game position.now size) }
 {
-    let target = game.t();
+    let target = space.game.t();
     for load in position.loads.as_slice() {
         if *load + size < target {
             return Some(*load);
@@ -53,11 +54,11 @@ fn first_below(game: &Game, position: &Position, size: u16) -> Option<u16>
 }
 
 // Whether the position after an item of this size went to a bin of this load finishes.
-fn leads_to_finish(game: &Game, position: &Position, size: u16, load: u16) -> bool
-    requires playable { IsPlayable game.now position.now }
+fn leads_to_finish(space: &Space, position: &Position, size: u16, load: u16) -> bool
+    requires playable { IsPlayable space.now position.now }
     requires has_load { Contains position.now.loads load }
-    requires below_target { load + size < game.now.target }
-    ensures { OnTrue result (Finishes game.now (after position.now load size).loads) }
+    requires below_target { load + size < space.now.game.target }
+    ensures { OnTrue result (Finishes space.now.game (after position.now load size).loads) }
 {
-    finishes_after(game, &position.loads, load, size)
+    finishes_after(&space.game, &position.loads, load, size)
 }

@@ -1,16 +1,16 @@
 //! The strategy of the wins that a search kept.
 
 ghost use Rattle.std.specs.Prelude.{◌≡◌, All, IfOk, IsTrue, length, map};
-ghost use Rattle.adversary_graph.specs.Pools.{IsLegalOfAdversary};
-ghost use Rattle.minimax.specs.Answers.{IsFor};
+ghost use Rattle.items.specs.Multiset.{IsSize};
+ghost use Rattle.minimax.specs.Answers.{IsFor, IsLegalOfAdversaryOver};
 ghost use Rattle.minimax.specs.Reached.{LeadsBelow};
 ghost use Rattle.minimax.specs.WinsWriting.{MayPutWin, MayWriteWins, WritesWin, renumbered, renumbered_next};
 
 use crate::nodes::push_win;
 use crate::reached::reached_from;
+use crate::space::Space;
 use crate::wins::{Win, Wins};
 use adversary_graph::AdvJudged;
-use items::Game;
 use node_pool::Terms;
 use std::alloc::{AllocError, Global};
 use strategy_text::{Format, Placement, Placements, Strategy, Then};
@@ -19,20 +19,21 @@ use strategy_text::{Format, Placement, Placements, Strategy, Then};
 /// node, with a packing of its items and the sent one.
 pub(crate) fn write_wins(
     alloc: Global,
-    game: &Game,
+    space: &Space,
     wins: &Wins,
     root: u32,
 ) -> Result<Strategy, AllocError>
-    requires may { MayWriteWins game.now wins.now root }
-    ensures legal { IfOk result IsLegalOfAdversary }
-    ensures for_game { IfOk result (IsFor game.now (length wins.now)) }
+    requires sizes { All (IsSize space.now.game.capacity) space.now.sizes }
+    requires may { MayWriteWins space.now wins.now root }
+    ensures legal { IfOk result (IsLegalOfAdversaryOver space.now.sizes) }
+    ensures for_game { IfOk result (IsFor space.now.game (length wins.now)) }
 {
     let marks = reached_from(alloc, wins, root)?;
-    let mut pool = AdvJudged::new(alloc, Terms::of_game(Format::One, game));
+    let mut pool = AdvJudged::new(alloc, Terms::of_sizes(Format::One, &space.game, &space.sizes));
     let mut numbers = Vec::new(alloc);
     for k in 0..marks.len() {
         let win = &wins.as_slice()[k];
-        let number = write_win(alloc, &mut pool, numbers.as_slice(), win, marks[k])?;
+        let number = write_win(alloc, space, &mut pool, numbers.as_slice(), win, marks[k])?;
         numbers.push(number)?;
     }
     Ok(pool.into_strategy(numbers[root as usize]))
@@ -41,19 +42,20 @@ pub(crate) fn write_wins(
 // Puts the node of a win where that is reached, and gives its number; else 0.
 fn write_win(
     alloc: Global,
+    space: &Space,
     pool: &mut AdvJudged,
     numbers: &[u32],
     win: &Win,
     reached: bool,
 ) -> Result<u32, AllocError>
-    requires may { IsTrue reached → MayPutWin pool.old numbers.now win.now }
+    requires may { IsTrue reached → MayPutWin space.now pool.old numbers.now win.now }
     ensures { IfOk result (WritesWin pool.old pool.new win.now reached) }
 {
     if !reached {
         return Ok(0);
     }
     let placements = renumber(alloc, numbers, win.placements.as_slice())?;
-    push_win(alloc, pool, &win.position.position(), win.size, placements)
+    push_win(alloc, space, pool, &win.position.position(), win.size, placements)
 }
 
 // The placements of a win, with the numbers of the nodes in place of those of the wins.

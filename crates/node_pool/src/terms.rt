@@ -1,7 +1,8 @@
 //! What a node is judged by.
 
-ghost use Rattle.std.specs.Prelude.{◌≡◌};
-ghost use Rattle.node_pool.specs.Terms.{AreTerms, whole_game};
+ghost use Rattle.std.specs.Prelude.{◌≡◌, All};
+ghost use Rattle.items.specs.Multiset.{IsSize};
+ghost use Rattle.node_pool.specs.Terms.{AreTerms, terms_of, whole_game};
 
 use items::laws::game_is_legal;
 use items::{Game, Sizes};
@@ -36,6 +37,19 @@ impl Terms {
             format,
             game: *game,
             sizes: Sizes::of_game(game),
+        }
+    }
+
+    /// The game with these of its sizes. Takes no memory.
+    pub fn of_sizes(format: Format, game: &Game, sizes: &Sizes) -> Terms
+        requires sizes { All (IsSize game.now.capacity) sizes.now }
+        ensures value { result ≡ terms_of format game.now sizes.now }
+    {
+        game_is_legal(game);
+        Terms {
+            format,
+            game: *game,
+            sizes: sizes.copy(),
         }
     }
 

@@ -7,7 +7,7 @@ use Rattle.minimax.proofs.naming.name_all.Given as goal
 
 abbrev pub invariant-loop-entry : goal.invariant-loop-entry
 invariant-loop-entry l = record {
-  chain : NamesAll l.game l.position l.entries l.fn.written l.written;
+  chain : NamesAll l.space l.position l.entries l.fn.written l.written;
   sizes : map (λ (entry : Entry). entry.size) l.all.items ≡ map (λ (entry : Entry). entry.size) (take l.entry-index l.entries);
-  each : All (IsReply l.game l.written.pool.nodes l.position) l.all.items;
+  each : All (IsReply l.space.game l.written.pool.nodes l.position) l.all.items;
 }

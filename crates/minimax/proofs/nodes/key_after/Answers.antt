@@ -5,4 +5,4 @@ use Rattle.minimax.proofs.nodes.key_after.Goals as goal
 
 pub after-requires-clause-fits : goal.after-requires-clause-fits
 after-requires-clause-fits c =
-    omega (arith, total_with c.args.game.now c.args.key.now c.args.size c.requires.may_come, game_volume c.args.game.now c.game_is_legal.ensures)
+    omega (arith, total_with c.args.space.now.game c.args.key.now c.args.size c.requires.may_come, game_volume c.args.space.now.game c.game_is_legal.ensures)
