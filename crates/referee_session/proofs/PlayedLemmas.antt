@@ -6,8 +6,8 @@ use Rattle.std.specs.List.{slice_get, concat}
 use Rattle.std.specs.Option.{option_and_then, unwrap_or}
 use Rattle.std.proofs.Math.Seq.{take-length}
 use Rattle.std.proofs.lemmas.Bool.{cases_lt, cond-true, cond-false, lt-ltb, le-ltb}
-use Rattle.std.proofs.lemmas.List.{append-nil, length-replicate, take-append-drop, append_assoc}
-use Rattle.std.proofs.lemmas.List.Elements.{All-take}
+use Rattle.std.proofs.lemmas.List.{append-nil, length-append, length-replicate, length-take-le, take-append-drop, take-append-le, take-take, append_assoc}
+use Rattle.std.proofs.lemmas.List.Elements.{All-append, All-replicate, All-take}
 use Rattle.std.proofs.lemmas.List.Sums.{fold-append}
 use Rattle.std.proofs.lemmas.Option.{none-some, same_Some}
 use Rattle.items.specs.Game.{GameNumbers}
@@ -201,6 +201,46 @@ each_talk_ends pool root bins p r below many =
             (subst (λ (front : List ℕ). Any (λ load. pool.game.target ≤ load) (loads_by_bin pool.game items front)) same facts.reached);
       },
     )
+
+-- ---- a talk that has ended is lost
+
+-- no answers go on after the end of a play
+none_after : (pool : Pool) (root : ℕ) (bins more all : List ℕ) → all ≡ bins ++ more → AreAnswers pool root bins → IsOver pool root bins
+    → AreAnswers pool root all → all ≡ bins
+none_after pool root bins more all e are over also =
+    sym also.asked ∙ ap (λ (xs : List ℕ). (talk_in pool root xs).bins) e ∙ ap (λ (t : Talk). t.bins) (stays_over pool root bins more over) ∙ are.asked
+
+-- of two fronts of one list at whose end the play has ended one is the other
+one_end : (pool : Pool) (root : ℕ) (bins all : List ℕ) (count n : ℕ) → bins ≡ take n all → AreAnswers pool root bins → IsOver pool root bins
+    → IsLost pool root (take count all) → IsLost pool root bins
+one_end pool root bins all count n e are over lost =
+    let front = take count all in
+    ⊎_elim
+    (λ (less : count < n).
+    let split : bins ≡ front ++ drop count bins =
+    sym (take-append-drop count bins) ∙ ap (λ (xs : List ℕ). xs ++ drop count bins) (ap (take count) e ∙ take-take count n all (omega (arith, less))) in
+    subst (IsLost pool root) (sym (none_after pool root front (drop count bins) bins split lost.answers lost.over are)) lost)
+    (λ (more : n ≤ count).
+    let split : front ≡ bins ++ drop n front =
+    sym (take-append-drop n front) ∙ ap (λ (xs : List ℕ). xs ++ drop n front) (take-take n count all more ∙ sym e) in
+    subst (IsLost pool root) (none_after pool root bins (drop n front) front split are over lost.answers) lost)
+    (cases_lt count n)
+
+-- the play ends with a load of at least the target, and its items are packable
+pub over_is_lost : (pool : Pool) (root : ℕ) (bins : List ℕ) → IsPool pool → IsRoot pool.nodes root → AreAnswers pool root bins → IsOver pool root bins
+    → IsLost pool root bins
+over_is_lost pool root bins p r are over =
+    let most = pool.game.bins * pool.game.capacity in
+    let zeros : List ℕ = replicate most 0 in
+    let all = bins ++ zeros in
+    let below = λ (bin : ℕ). bin < pool.game.bins in
+    let long : most ≤ length all = omega (arith, length-append bins zeros, length-replicate {A = ℕ} most 0) in
+    let each : All below all = All-append below bins zeros are.below (All-replicate below most 0 (omega (arith, p.of_game.bins.low))) in
+    let end = each_talk_ends pool root (take most all) p r (All-take below most all each) (length-take-le most all long) in
+    let within : end.0 ≤ most = omega (arith, end.1, length-take-le most all long) in
+    let lost : IsLost pool root (take end.0 all) = subst (IsLost pool root) (take-take end.0 most all within) end.2 in
+    let front : bins ≡ take (length bins) all = sym (take-length bins) ∙ sym (take-append-le (length bins) bins zeros (omega arith)) in
+    one_end pool root bins all end.0 (length bins) front are over lost
 
 -- ---- a talk is a play
 

@@ -49,6 +49,12 @@ EachTalkEnds =
     → All (λ bin. bin < pool.game.bins) bins → length bins ≡ pool.game.bins * pool.game.capacity
     → (count : ℕ) × (count ≤ length bins) × IsLost pool root (take count bins)
 
+-- where the play has ended, the algorithm has lost
+abbrev pub EachEndIsLost : Type 0
+EachEndIsLost =
+    (pool : Pool) (root : ℕ) (bins : List ℕ) → IsPool pool → IsRoot pool.nodes root → AreAnswers pool root bins
+    → IsOver pool root bins → IsLost pool root bins
+
 -- whatever comes, some list of answers comes, and then a reason to halt
 abbrev pub SomeTextIsDue : Type 0
 SomeTextIsDue =

@@ -1,6 +1,6 @@
 //! Laws of sessions, as contracts of functions that do nothing.
 
-ghost use Rattle.referee_session.specs.Laws.{EachTalkEnds, OneTextIsDue, PlaysAreTalks, SaidIsAtTheFront};
+ghost use Rattle.referee_session.specs.Laws.{EachEndIsLost, EachTalkEnds, OneTextIsDue, PlaysAreTalks, SaidIsAtTheFront};
 ghost use Rattle.referee_session.specs.Laws.{SomeTextIsDue, TalksArePlays};
 ghost use Rattle.referee_session.specs.Turns.{IsLegal};
 
@@ -21,9 +21,10 @@ pub fn talks_are_plays()
 {}
 
 /// Whatever bins are answered, the play ends, at the latest when as many were answered as there are bins times the
-/// capacity. A load has then reached the target, and the items are packable.
+/// capacity. Wherever it ends, a load has reached the target, and the items are packable.
 pub fn each_talk_ends()
     ensures ends { EachTalkEnds }
+    ensures lost { EachEndIsLost }
 {}
 
 /// Of each input one text is due: some list of answers comes, and then a reason to ask for no further one, and only

@@ -18,6 +18,8 @@ use Rattle.port_io.proofs.FaultLemmas.{then-Rose}
 use Rattle.port_io.proofs.ToldLemmas.{AppendsSome-then, prepend_known-prepend}
 use Rattle.referee_session.specs.Due.{AreAnswers, Comes, IsOver, due_text, met_by, said_in}
 use Rattle.referee_session.specs.Halt.{Halt, ending_of, taken_for}
+use Rattle.referee_session.specs.Halt as why
+use Rattle.referee_session.specs.Laws.{IsLost}
 use Rattle.referee_session.specs.Lines.{answer_lines}
 use Rattle.referee_session.specs.Refereed.{ComesTo, IsOutcome as IsRefereed, Sitting, StopsReading, Takes}
 use Rattle.referee_session.specs.Refereed.{said_before_last}
@@ -27,6 +29,7 @@ use Rattle.referee_session.specs.declared.refereeing.Ending.TheVariants.{Lost, E
 use Rattle.referee_session.specs.declared.refereeing.SessionFault.{SessionFault}
 use Rattle.referee_session.specs.declared.refereeing.SessionFault.TheVariants.{Read, Write}
 use Rattle.referee_session.proofs.DueLemmas.{said_is_at_the_front, some_text_is_due}
+use Rattle.referee_session.proofs.PlayedLemmas.{over_is_lost}
 use Rattle.strategy_text.specs.Text.{text_of}
 use Rattle.strategy_text.specs.declared.node.AdvNode.{AdvNode}
 use Rattle.strategy_text.specs.declared.node.Nodes.TheVariants as nodes_of_side
@@ -106,6 +109,12 @@ module _ (strategy : Strategy) (nodes : List AdvNode) (of : strategy.nodes ≡ n
       ap (prepend_known reader.held) takes.2 ∙ prepend_known-prepend reader.held takes.0 new_left
       ∙ ap (λ (bytes : List ℕ). prepend_known bytes new_left) (sym takes.1)
 
+  over_of : (ending : Ending) (halt : Halt) (rest : List ℕ) → ending ≡ ending_of halt → ending ≡ Lost → Comes pool root None rest answers halt → IsOver pool root answers
+  over_of ending why.lost rest e f comes = comes.halts
+  over_of ending why.ended rest e f comes = absurd cc
+  over_of ending why.cut rest e f comes = absurd cc
+  over_of ending (why.other line) rest e f comes = absurd cc
+
   talk_of : (ending : Ending) (halt : Halt) → ending ≡ ending_of halt → (comes : ComesTo sitting halt)
       → IsTalkOf ending strategy (rest_of (answer_lines answers ++ taken_for halt)) new_left (due_text pool root answers halt)
   talk_of ending halt e comes =
@@ -123,6 +132,7 @@ module _ (strategy : Strategy) (nodes : List AdvNode) (of : strategy.nodes ≡ n
         is = e;
         came = moved (λ p r. Comes p r None rest answers halt) came;
         comes = moved (λ p r. IfSome new_left (λ more. Comes p r None (rest ++ more) answers halt)) all;
+        lost = λ f. moved (λ p r. IsLost p r answers) (over_is_lost pool root answers legal at_root came.answers (over_of ending halt rest e f came));
         spelled = moved (λ p r. due_text pool root answers halt ≡ due_text p r answers halt) refl;
       }
 

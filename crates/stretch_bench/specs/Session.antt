@@ -7,6 +7,7 @@ use Rattle.port_io.specs.Lines.{HasNoLf}
 use Rattle.port_io.specs.Told.{AppendsSome}
 use Rattle.referee_session.specs.Due.{AreAnswers, Comes, IsOver, due_text, said_in}
 use Rattle.referee_session.specs.Halt.{Halt, ending_of}
+use Rattle.referee_session.specs.Laws.{IsLost}
 use Rattle.referee_session.specs.Lines.{answer_lines}
 use Rattle.referee_session.specs.declared.refereeing.Ending.{Ending}
 use Rattle.referee_session.specs.declared.refereeing.Ending.TheVariants.{Lost}
@@ -26,7 +27,7 @@ last_of nodes = length nodes - 1
 
 -- The talk of a strategy of the adversary came to this ending, and this is the text that is due then. The lines after
 -- the text of the strategy, those that were read and those of the whole input, are the lines of the answers of these
--- bins, and then the talk halts.
+-- bins, and then the talk halts. Where it was lost, a load has reached the target, and the items are packable.
 pub record IsTalkOf (ending : Ending) (strategy : Strategy) (rest : List ℕ) (new_left : Option (List ℕ))
     (text : List ℕ) : Type 0 where
   pub nodes : List AdvNode
@@ -36,6 +37,7 @@ pub record IsTalkOf (ending : Ending) (strategy : Strategy) (rest : List ℕ) (n
   pub is : ending ≡ ending_of halt
   pub came : Comes (pool_in strategy nodes) (last_of nodes) None rest bins halt
   pub comes : IfSome new_left (λ more. Comes (pool_in strategy nodes) (last_of nodes) None (rest ++ more) bins halt)
+  pub lost : ending ≡ Lost → IsLost (pool_in strategy nodes) (last_of nodes) bins
   pub spelled : text ≡ due_text (pool_in strategy nodes) (last_of nodes) bins halt
 
 -- The talk of a strategy of the adversary goes on after the answers whose lines were read whole, and this is what is
