@@ -33,13 +33,14 @@ use Rattle.match_player.specs.declared.answered.Answered.{Answered}
 use Rattle.stretch_bench.specs.Call.{Call, Players}
 use Rattle.stretch_bench.specs.Check.{accepted_line, accepted_of, adversary_accepted, algorithm_accepted}
 use Rattle.stretch_bench.specs.Commands.{Spells, SpellsNone, form_of, wanted_by}
-use Rattle.stretch_bench.specs.Due.{IsDue, IsOutcome, IsRejected, commanded, done, rejected, undecided, unpackable, unscaled, unweakened, usage}
+use Rattle.stretch_bench.specs.Due.{IsDue, IsOutcome, IsRejected, commanded, done, rejected, undecided, unpackable, unscaled, unweakened, unvalued, usage}
 use Rattle.stretch_bench.specs.Form.{IsDone, Work, of_strategy, of_words, wanted_of}
 use Rattle.stretch_bench.specs.Replying.{Replying}
 use Rattle.stretch_bench.specs.Run.{IsAnswer, IsExact, IsServed, IsStopped, Run, memory_refused, read_failed, write_failed, wrote}
+use Rattle.stretch_bench.specs.Value.{IsValued}
 use Rattle.stretch_bench.specs.Written.{WritesFirst}
 use Rattle.stretch_bench.specs.declared.command.Command.{Command}
-use Rattle.stretch_bench.specs.declared.command.Command.TheVariants.{Check, Play, Answer, Minimise, Upgrade, Report, Drill, Search, Scale, Weaken}
+use Rattle.stretch_bench.specs.declared.command.Command.TheVariants.{Check, Play, Answer, Minimise, Upgrade, Report, Drill, Search, Scale, Weaken, Value}
 use Rattle.stretch_bench.specs.declared.status.Status.{Status}
 use Rattle.stretch_bench.specs.declared.status.Status.TheVariants.{Done, Rejected, Usage, ReadFault, WriteFault, OutOfMemory}
 use Rattle.stretch_bench.proofs.Fronts.{HasSmallNumbers, same_line}
@@ -94,6 +95,14 @@ not_spelled : (strategy : Strategy) (accepted : Accepted) (more : List ℕ) → 
 not_spelled strategy accepted more e =
     absurd (let other : 115 ≡ 97 = sym (first_letter strategy.format _) ∙ ap (λ (l : List ℕ). get_or l 0 0) e in omega arith)
 
+-- the line of a value begins with another letter
+not_valued : (bins capacity budget : ℕ) (text : List ℕ) (accepted : Accepted) (more : List ℕ) → IsValued bins capacity budget text
+    → text ≡ accepted_line accepted ++ more → ⊥
+not_valued bins capacity budget text accepted more (inl at) e =
+    absurd (let other : 118 ≡ 97 = ap (λ (l : List ℕ). get_or l 0 0) (sym at.spelled ∙ e) in omega arith)
+not_valued bins capacity budget text accepted more (inr nowhere) e =
+    absurd (let other : 118 ≡ 97 = ap (λ (l : List ℕ). get_or l 0 0) (sym nowhere.spelled ∙ e) in omega arith)
+
 -- only the text of a check that was done begins with an accepted line, and a legal strategy stands behind it
 done_stands : (players : Players) (left new_left : Option (List ℕ)) (command : Command) (text : List ℕ) (accepted : Accepted) (more : List ℕ)
     → IsDone (form_of players command).work left new_left text → text ≡ accepted_line accepted ++ more → Accepts Either accepted left new_left
@@ -117,6 +126,8 @@ done_stands players left new_left (Search game budget table) text accepted more 
     absurd (not_spelled due.1.strategy accepted more (sym due.1.spelled ∙ e))
 done_stands players left new_left (Scale factor) text accepted more due e = absurd (not_spelled _ accepted more (sym due.is.spelled ∙ e))
 done_stands players left new_left (Weaken target) text accepted more due e = absurd (not_spelled _ accepted more (sym due.is.spelled ∙ e))
+done_stands players left new_left (Value bins capacity budget table) text accepted more due e =
+    absurd (not_valued bins capacity budget text accepted more due.1 e)
 
 outcome_stands : (players : Players) (left new_left : Option (List ℕ)) (command : Command) (status : Status) (text : List ℕ) (accepted : Accepted) (more : List ℕ)
     → IsOutcome players left new_left command status text → text ≡ accepted_line accepted ++ more → Accepts Either accepted left new_left
@@ -131,6 +142,8 @@ outcome_stands players left new_left command status text accepted more (unscaled
     absurd (let other : 110 ≡ 97 = ap (λ (l : List ℕ). get_or l 0 0) (sym is.is.line ∙ e) in omega arith)
 outcome_stands players left new_left command status text accepted more (unweakened target s c is) e =
     absurd (let other : 110 ≡ 97 = ap (λ (l : List ℕ). get_or l 0 0) (sym is.is.line ∙ e) in omega arith)
+outcome_stands players left new_left command status text accepted more (unvalued bins capacity budget table s c l is) e =
+    absurd (let other : 117 ≡ 97 = ap (λ (l : List ℕ). get_or l 0 0) (sym is.line ∙ e) in omega arith)
 
 stands_after : (call : Call) (status : Status) (text : List ℕ) (accepted : Accepted) (more : List ℕ) → IsDue call status text
     → text ≡ accepted_line accepted ++ more → Accepts Either accepted call.left call.new_left
@@ -226,6 +239,8 @@ outcome_exact players bytes new_left command status text (unscaled factor s c is
 outcome_exact players bytes new_left command status text (unweakened target s c is) =
     subst (λ (x : Command). IsExact (wanted_by players x) (Some bytes) status) (sym c)
     (λ on. (λ served. legal_bytes Either is.strategy bytes new_left is.loaded, λ legal. inr (inr s)))
+outcome_exact players bytes new_left command status text (unvalued bins capacity budget table s c l is) =
+    subst (λ (x : Command). IsExact (wanted_by players x) (Some bytes) status) (sym c) tt
 
 -- nothing is claimed of a source that tells nothing
 untold : (wanted : Option Wanted) (status : Status) → IsExact wanted None status

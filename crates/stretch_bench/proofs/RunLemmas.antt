@@ -7,7 +7,7 @@ use Rattle.checker.specs.declared.fault.Wanted.{Wanted}
 use Rattle.port_io.specs.Faults.{Rose}
 use Rattle.stretch_bench.specs.Call.{Call, Players}
 use Rattle.stretch_bench.specs.Commands.{Spells, SpellsNone}
-use Rattle.stretch_bench.specs.Due.{IsDue, IsOutcome, done, rejected, undecided, unpackable, unscaled, unweakened, commanded, usage}
+use Rattle.stretch_bench.specs.Due.{IsDue, IsOutcome, done, rejected, undecided, unpackable, unscaled, unweakened, unvalued, commanded, usage}
 use Rattle.stretch_bench.specs.Lines.{usage_line}
 use Rattle.stretch_bench.specs.Pieces.{IsDueWith, IsEnding, IsMade, IsStopOf, all, due_text, some, unmade, unread}
 use Rattle.stretch_bench.specs.Run.{IsAnswer, IsCut, IsCutShort, IsStopped, Run, memory_refused, read_failed, write_failed, wrote}
@@ -74,6 +74,8 @@ outcome_goes players left new_left command status text (unpackable items e c is)
 outcome_goes players left new_left command status text (undecided game budget table e c l is) stopped = stop_differs status Undecided e stopped undecided_goes
 outcome_goes players left new_left command status text (unscaled factor e c is) stopped = stop_differs status NoTransfer e stopped no_transfer_goes
 outcome_goes players left new_left command status text (unweakened target e c is) stopped = stop_differs status NoTransfer e stopped no_transfer_goes
+outcome_goes players left new_left command status text (unvalued bins capacity budget table e c l is) stopped =
+    stop_differs status Undecided e stopped undecided_goes
 
 pub due_goes : (call : Call) (status : Status) (text : List ℕ) → IsDue call status text → IsStopped status → ⊥
 due_goes call status text (commanded command spells is) stopped = outcome_goes call.players call.left call.new_left command status text is stopped

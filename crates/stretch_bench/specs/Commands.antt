@@ -6,7 +6,7 @@ use Rattle.stretch_bench.specs.Call.{Players}
 use Rattle.stretch_bench.specs.Form.{Form, wanted_of}
 use Rattle.stretch_bench.specs.declared.command.Command.{Command}
 use Rattle.stretch_bench.specs.declared.command.Command.TheVariants.{Check, Play, Answer, Minimise, Upgrade}
-use Rattle.stretch_bench.specs.declared.command.Command.TheVariants.{Report, Drill, Search, Scale, Weaken}
+use Rattle.stretch_bench.specs.declared.command.Command.TheVariants.{Report, Drill, Search, Scale, Weaken, Value}
 use Rattle.stretch_bench.specs.Check.{check}
 use Rattle.stretch_bench.specs.Play.{play_against}
 use Rattle.stretch_bench.specs.Answer.{answer}
@@ -17,6 +17,7 @@ use Rattle.stretch_bench.specs.Drill.{drill}
 use Rattle.stretch_bench.specs.Search.{search}
 use Rattle.stretch_bench.specs.Scale.{scale}
 use Rattle.stretch_bench.specs.Weaken.{weaken}
+use Rattle.stretch_bench.specs.Value.{value}
 
 -- the list of commands
 abbrev pub form_of : Players → Command → Form
@@ -30,6 +31,7 @@ form_of players (Drill number copies) = drill number copies
 form_of players (Search game budget table) = search game budget table
 form_of players (Scale factor) = scale factor
 form_of players (Weaken target) = weaken target
+form_of players (Value bins capacity budget table) = value bins capacity budget table
 
 -- the side that a command wants a strategy of, where it reads one
 abbrev pub wanted_by : Players → Command → Option Wanted

@@ -12,6 +12,7 @@ pub mod Drill
 pub mod Search
 pub mod Scale
 pub mod Weaken
+pub mod Value
 pub mod Commands
 pub mod Due
 pub mod Run

@@ -34,6 +34,13 @@ use std::alloc::Global;
 ///   `drill NUMBER COPIES nodes N bytes B accepted minimised K`.
 /// - `search M G T budget=B table=N` searches the game, and writes the canonical form of the strategy that it finds, or
 ///   `undecided M G T visits V pass K path MOVES` where its budget was spent.
+/// - `scale C` reads a strategy of the adversary and writes it on C times its scale, or `notransfer M G T` where that
+///   is no game.
+/// - `weaken T` reads a strategy and writes its canonical form at the target T, or `notransfer M G T` where it doesn't
+///   serve that target.
+/// - `value M G budget=B table=N` searches for the greatest target at which every algorithm is forced, and writes
+///   `value M G target T` and a strategy of each side that shows it, or `value M G none` and one of the algorithm, or
+///   `undecided M G T visits V pass K path MOVES` where a budget was spent.
 ///
 /// Each command that reads writes the first fault of the input where it has one, `rejected line L syntax` or
 /// `rejected line L rule NAME`. For words that spell no command it writes `usage`. Each line ends in a line feed.

@@ -25,6 +25,7 @@ mod status;
 #[cfg(test)]
 mod tests;
 mod upgrading;
+mod valuing;
 mod weakening;
 
 pub use bench::run_bench;
