@@ -40,15 +40,16 @@ use Rattle.stretch_bench.specs.Call.{Call, Players}
 use Rattle.stretch_bench.specs.Check.{accepted_line, accepted_of, adversary_accepted, algorithm_accepted}
 use Rattle.stretch_bench.specs.Commands.{Spells, SpellsNone, form_of, reads_by}
 use Rattle.stretch_bench.specs.Due.{IsDue, IsFrontRejected, IsOutcome, IsRejected, bad_answer, commanded, done, input_ended, rejected, rejected_front}
-use Rattle.stretch_bench.specs.Due.{undecided, unpackable, unscaled, unweakened, usage}
+use Rattle.stretch_bench.specs.Due.{undecided, unpackable, unscaled, unvalued, unweakened, usage}
 use Rattle.stretch_bench.specs.Form.{IsDone, IsReadFirst, Reads, Work, in_turns, of_strategy, of_words, reads_front, reads_nothing, reads_of, reads_whole}
 use Rattle.stretch_bench.specs.Replying.{Replying}
 use Rattle.stretch_bench.specs.Run.{IsAnswer, IsExact, IsServed, IsStopped, Run, answer_unread, memory_refused, read_failed, talk_unsaid, write_failed, wrote}
 use Rattle.stretch_bench.specs.Session.{IsTalkOf, last_of, pool_in}
+use Rattle.stretch_bench.specs.Value.{IsValued}
 use Rattle.stretch_bench.specs.Written.{WritesFirst}
 use Rattle.stretch_bench.specs.declared.command.Command.{Command}
 use Rattle.stretch_bench.specs.declared.command.Command.TheVariants.{Check, Play, Answer, Minimise, Upgrade, Report, Drill, Search, Session}
-use Rattle.stretch_bench.specs.declared.command.Command.TheVariants.{Scale, Weaken}
+use Rattle.stretch_bench.specs.declared.command.Command.TheVariants.{Scale, Value, Weaken}
 use Rattle.stretch_bench.specs.declared.status.Status.{Status}
 use Rattle.stretch_bench.specs.declared.status.Status.TheVariants.{Done, Rejected, Usage, WriteFault, OutOfMemory}
 use Rattle.stretch_bench.proofs.Fronts.{HasSmallNumbers, same_line}
@@ -117,6 +118,14 @@ not_talked : (ending : Ending) (strategy : Strategy) (rest : List ℕ) (new_left
 not_talked ending strategy rest new_left text accepted more talk e =
     not_said (pool_in strategy talk.nodes) (last_of talk.nodes) talk.bins (closing (length talk.bins) talk.halt) accepted more (sym talk.spelled ∙ e)
 
+-- the line of a value begins with another letter
+not_valued : (bins capacity budget : ℕ) (text : List ℕ) (accepted : Accepted) (more : List ℕ) → IsValued bins capacity budget text
+    → text ≡ accepted_line accepted ++ more → ⊥
+not_valued bins capacity budget text accepted more (inl at) e =
+    absurd (let other : 118 ≡ 97 = ap (λ (l : List ℕ). get_or l 0 0) (sym at.spelled ∙ e) in omega arith)
+not_valued bins capacity budget text accepted more (inr nowhere) e =
+    absurd (let other : 118 ≡ 97 = ap (λ (l : List ℕ). get_or l 0 0) (sym nowhere.spelled ∙ e) in omega arith)
+
 -- only the text of a check that was done begins with an accepted line, and a legal strategy stands behind it
 done_stands : (players : Players) (left new_left : Option (List ℕ)) (command : Command) (text : List ℕ) (accepted : Accepted) (more : List ℕ)
     → IsDone (form_of players command).work left new_left text → text ≡ accepted_line accepted ++ more → Accepts Either accepted left new_left
@@ -141,6 +150,8 @@ done_stands players left new_left (Search game budget table) text accepted more 
 done_stands players left new_left Session text accepted more due e = absurd (not_talked _ due.strategy due.rest new_left text accepted more due.is e)
 done_stands players left new_left (Scale factor) text accepted more due e = absurd (not_spelled _ accepted more (sym due.is.spelled ∙ e))
 done_stands players left new_left (Weaken target) text accepted more due e = absurd (not_spelled _ accepted more (sym due.is.spelled ∙ e))
+done_stands players left new_left (Value bins capacity budget table) text accepted more due e =
+    absurd (not_valued bins capacity budget text accepted more due.1 e)
 
 outcome_stands : (players : Players) (left new_left : Option (List ℕ)) (command : Command) (status : Status) (text : List ℕ) (accepted : Accepted) (more : List ℕ)
     → IsOutcome players left new_left command status text → text ≡ accepted_line accepted ++ more → Accepts Either accepted left new_left
@@ -161,6 +172,8 @@ outcome_stands players left new_left command status text accepted more (unscaled
     absurd (let other : 110 ≡ 97 = ap (λ (l : List ℕ). get_or l 0 0) (sym is.is.line ∙ e) in omega arith)
 outcome_stands players left new_left command status text accepted more (unweakened target s c is) e =
     absurd (let other : 110 ≡ 97 = ap (λ (l : List ℕ). get_or l 0 0) (sym is.is.line ∙ e) in omega arith)
+outcome_stands players left new_left command status text accepted more (unvalued bins capacity budget table s c l is) e =
+    absurd (let other : 117 ≡ 97 = ap (λ (l : List ℕ). get_or l 0 0) (sym is.line ∙ e) in omega arith)
 
 stands_after : (call : Call) (status : Status) (text : List ℕ) (accepted : Accepted) (more : List ℕ) → IsDue call status text
     → text ≡ accepted_line accepted ++ more → Accepts Either accepted call.left call.new_left
@@ -320,6 +333,8 @@ outcome_exact players bytes new_left command status text (unscaled factor s c is
 outcome_exact players bytes new_left command status text (unweakened target s c is) =
     subst (λ (x : Command). IsExact (reads_by players x) (Some bytes) status) (sym c)
     (λ on. (λ served. legal_bytes Either is.strategy bytes new_left is.loaded, λ legal. inr (inr (inl s))))
+outcome_exact players bytes new_left command status text (unvalued bins capacity budget table s c l is) =
+    subst (λ (x : Command). IsExact (reads_by players x) (Some bytes) status) (sym c) tt
 
 -- nothing is claimed of a source that tells nothing
 untold : (reads : Reads) (status : Status) → IsExact reads None status

@@ -6,6 +6,7 @@ mod OnceLemmas
 mod PlayLemmas
 mod AnswerLemmas
 mod OutcomeLemmas
+mod ValueLemmas
 mod WriteLemmas
 mod RunLemmas
 mod TalkLemmas

@@ -20,6 +20,7 @@ use Rattle.stretch_bench.specs.Lines.{rejected_line}
 use Rattle.stretch_bench.specs.Report.{report_line, report_words}
 use Rattle.stretch_bench.specs.Scale.{no_transfer_line}
 use Rattle.stretch_bench.specs.Search.{move_word, move_words, undecided_line}
+use Rattle.stretch_bench.specs.Value.{no_value_line, value_line}
 use Rattle.strategy_text.specs.Rules.{rule_word}
 use Rattle.strategy_text.specs.Text.{line_of, side_word}
 
@@ -50,6 +51,15 @@ pub no_transfer_text : (bins capacity target : ℕ)
     → codes "notransfer " ++ (decimal bins ++ (codes " " ++ (decimal capacity ++ (codes " " ++ (decimal target ++ codes "\n")))))
     ≡ no_transfer_line bins capacity target
 no_transfer_text bins capacity target = refl
+
+pub value_text : (bins capacity target : ℕ)
+    → codes "value " ++ (decimal bins ++ (codes " " ++ (decimal capacity ++ (codes " target " ++ (decimal target ++ codes "\n")))))
+    ≡ value_line bins capacity target
+value_text bins capacity target = refl
+
+pub no_value_text : (bins capacity : ℕ)
+    → codes "value " ++ (decimal bins ++ (codes " " ++ (decimal capacity ++ codes " none\n"))) ≡ no_value_line bins capacity
+no_value_text bins capacity = refl
 
 pub report_text : (report : Report) (side : List ℕ) (bins capacity target : ℕ) → side ≡ side_word report.side → bins ≡ report.game.bins
     → capacity ≡ report.game.capacity → target ≡ report.game.target

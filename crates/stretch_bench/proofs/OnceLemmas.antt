@@ -11,7 +11,7 @@ use Rattle.stretch_bench.specs.Answer.{most_item}
 use Rattle.stretch_bench.specs.Commands.{WordsSpellOneCommand, form_of}
 use Rattle.stretch_bench.specs.Play.{IsFirstNamed, name_at}
 use Rattle.stretch_bench.specs.declared.command.Command.TheVariants.{Check, Play, Answer, Minimise, Upgrade, Report, Drill, Search, Session}
-use Rattle.stretch_bench.specs.declared.command.Command.TheVariants.{Scale, Weaken}
+use Rattle.stretch_bench.specs.declared.command.Command.TheVariants.{Scale, Value, Weaken}
 
 -- two names that differ
 differ : (a b : List ℕ) (words rest more : List (List ℕ)) → pointwise nat_eq a b ≡ false → words ≡ a ∷ rest → words ≡ b ∷ more → ⊥
@@ -83,6 +83,15 @@ words_spell_one_command players words (Scale factor) (Scale other) e f =
     ap Scale (decimal_injective factor other (omega (arith, e.allowed.most)) (omega (arith, f.allowed.most)) (at 1 words _ _ e.spelled f.spelled))
 words_spell_one_command players words (Weaken target) (Weaken other) e f =
     ap Weaken (decimal_injective target other (omega (arith, e.allowed.most)) (omega (arith, f.allowed.most)) (at 1 words _ _ e.spelled f.spelled))
+words_spell_one_command players words (Value bins capacity budget table) (Value other more visits entries) e f =
+    let numbers = decimal_injective bins other (omega (arith, e.allowed.of_bins.high)) (omega (arith, f.allowed.of_bins.high)) (at 1 words _ _ e.spelled f.spelled) in
+    let sizes = decimal_injective capacity more (omega (arith, e.allowed.of_capacity.high)) (omega (arith, f.allowed.of_capacity.high))
+    (at 2 words _ _ e.spelled f.spelled) in
+    let budgets = decimal_injective budget visits (omega (arith, e.allowed.setting.most_visits)) (omega (arith, f.allowed.setting.most_visits))
+    (ap (λ (word : List ℕ). drop 7 word) (at 3 words _ _ e.spelled f.spelled)) in
+    let tables = decimal_injective table entries (omega (arith, e.allowed.setting.most_entries)) (omega (arith, f.allowed.setting.most_entries))
+    (ap (λ (word : List ℕ). drop 6 word) (at 4 words _ _ e.spelled f.spelled)) in
+    λ i. Value (numbers i) (sizes i) (budgets i) (tables i)
 words_spell_one_command players words one other e f =
     absurd (differ (form_of players one).name (form_of players other).name words (form_of players one).arguments (form_of players other).arguments refl e.spelled
     f.spelled)

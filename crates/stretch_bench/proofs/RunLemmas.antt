@@ -6,7 +6,7 @@ use Rattle.checker.specs.declared.fault.CheckFault.TheVariants as check_fault
 use Rattle.port_io.specs.Faults.{Rose}
 use Rattle.stretch_bench.specs.Call.{Call, Players}
 use Rattle.stretch_bench.specs.Commands.{Spells, SpellsNone}
-use Rattle.stretch_bench.specs.Due.{IsDue, IsOutcome, bad_answer, done, input_ended, rejected, rejected_front, undecided, unpackable, unscaled, unweakened, commanded, usage}
+use Rattle.stretch_bench.specs.Due.{IsDue, IsOutcome, bad_answer, done, input_ended, rejected, rejected_front, undecided, unpackable, unscaled, unvalued, unweakened, commanded, usage}
 use Rattle.stretch_bench.specs.Form.{Reads, reads_front, reads_nothing, reads_whole}
 use Rattle.stretch_bench.specs.Lines.{usage_line}
 use Rattle.stretch_bench.specs.Pieces.{IsDueWith, IsEnding, IsMade, IsStopOf, all, due_text, some, unmade, unread}
@@ -88,6 +88,8 @@ outcome_goes players left new_left command status text (input_ended e c is) stop
 outcome_goes players left new_left command status text (bad_answer e c is) stopped = stop_differs status BadAnswer e stopped bad_answer_goes
 outcome_goes players left new_left command status text (unscaled factor e c is) stopped = stop_differs status NoTransfer e stopped no_transfer_goes
 outcome_goes players left new_left command status text (unweakened target e c is) stopped = stop_differs status NoTransfer e stopped no_transfer_goes
+outcome_goes players left new_left command status text (unvalued bins capacity budget table e c l is) stopped =
+    stop_differs status Undecided e stopped undecided_goes
 
 pub due_goes : (call : Call) (status : Status) (text : List ℕ) → IsDue call status text → IsStopped status → ⊥
 due_goes call status text (commanded command spells is) stopped = outcome_goes call.players call.left call.new_left command status text is stopped

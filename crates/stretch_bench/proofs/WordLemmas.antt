@@ -93,6 +93,19 @@ three_words ws a b c n p q r =
     three_of ws n ∙ ap (λ (w : List ℕ). w ∷ get_or ws 1 [] ∷ get_or ws 2 [] ∷ []) p ∙ ap (λ (w : List ℕ). a ∷ w ∷ get_or ws 2 [] ∷ []) q
     ∙ ap (λ (w : List ℕ). a ∷ b ∷ w ∷ []) r
 
+pub five_of : (ws : List (List ℕ)) → length ws ≡ 5 → ws ≡ get_or ws 0 [] ∷ get_or ws 1 [] ∷ get_or ws 2 [] ∷ get_or ws 3 [] ∷ get_or ws 4 [] ∷ []
+five_of [] e = absurd (omega (arith, e))
+five_of (a ∷ []) e = absurd (omega (arith, e))
+five_of (a ∷ b ∷ []) e = absurd (omega (arith, e))
+five_of (a ∷ b ∷ c ∷ []) e = absurd (omega (arith, e))
+five_of (a ∷ b ∷ c ∷ d ∷ []) e = absurd (omega (arith, e))
+five_of (a ∷ b ∷ c ∷ d ∷ f ∷ []) e = refl
+five_of (a ∷ b ∷ c ∷ d ∷ f ∷ g ∷ ws) e = absurd (omega (arith, e))
+
+pub five_words : (ws : List (List ℕ)) (a b c d f : List ℕ) → length ws ≡ 5 → get_or ws 0 [] ≡ a → get_or ws 1 [] ≡ b → get_or ws 2 [] ≡ c → get_or ws 3 [] ≡ d
+    → get_or ws 4 [] ≡ f → ws ≡ a ∷ b ∷ c ∷ d ∷ f ∷ []
+five_words ws a b c d f n p q r s t = five_of ws n ∙ rw (p, q, r, s, t) refl
+
 pub six_of : (ws : List (List ℕ)) → length ws ≡ 6
     → ws ≡ get_or ws 0 [] ∷ get_or ws 1 [] ∷ get_or ws 2 [] ∷ get_or ws 3 [] ∷ get_or ws 4 [] ∷ get_or ws 5 [] ∷ []
 six_of [] e = absurd (omega (arith, e))

@@ -21,6 +21,7 @@ use Rattle.stretch_bench.specs.Search.{IsUndecided}
 use Rattle.stretch_bench.specs.Session.{IsTalkOf}
 use Rattle.stretch_bench.specs.Scale.{IsUnscaled}
 use Rattle.stretch_bench.specs.Weaken.{IsUnweakened}
+use Rattle.stretch_bench.specs.Value.{IsUnvalued}
 
 -- a fault was found, the first one of the bytes read and of the whole input
 pub record IsRejected (wanted : Wanted) (left new_left : Option (List ℕ)) (text : List ℕ) : Type 0 where
@@ -72,6 +73,10 @@ pub data IsOutcome (players : Players) (left new_left : Option (List ℕ)) (comm
   unweakened : (target : ℕ) → status ≡ NoTransfer → command ≡ commands.Weaken target
       → IsRead Either left new_left (λ strategy. IsUnweakened target strategy text)
       → IsOutcome players left new_left command status text
+  -- the budget of the search of a target was spent
+  unvalued : (bins capacity budget table : ℕ) → status ≡ Undecided
+      → command ≡ commands.Value bins capacity budget table → new_left ≡ left
+      → IsUnvalued bins capacity budget table text → IsOutcome players left new_left command status text
 
 -- what a run is asked for
 pub data IsDue (call : Call) (status : Status) (text : List ℕ) : Type 0 where

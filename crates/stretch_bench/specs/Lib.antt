@@ -13,6 +13,7 @@ pub mod Search
 pub mod Session
 pub mod Scale
 pub mod Weaken
+pub mod Value
 pub mod Commands
 pub mod Due
 pub mod Run

@@ -42,6 +42,13 @@ use std::alloc::Global;
 ///   `session M G T`, and in turns `item S` and reads the item's bin, until `lost loads LIST` at the play's end,
 ///   `ended K` where the input ends after K answers, or `badanswer K` where line K after the text is no answer. It ends
 ///   each play by a game's bins times its capacity answers at the latest, and an answer costs the same for any strategy.
+/// - `scale C` reads a strategy of the adversary and writes it on C times its scale, or `notransfer M G T` where that
+///   is no game.
+/// - `weaken T` reads a strategy and writes its canonical form at the target T, or `notransfer M G T` where it doesn't
+///   serve that target.
+/// - `value M G budget=B table=N` searches for the greatest target at which every algorithm is forced, and writes
+///   `value M G target T` and a strategy of each side that shows it, or `value M G none` and one of the algorithm, or
+///   `undecided M G T visits V pass K path MOVES` where a budget was spent.
 ///
 /// Each command that reads writes the first fault of the input where it has one, `rejected line L syntax` or
 /// `rejected line L rule NAME`; a session looks for it in the text of the strategy alone. For words that spell no

@@ -9,6 +9,7 @@ use crate::drilling::drill_of;
 use crate::playing::player_of;
 use crate::scaling::scale_of;
 use crate::searching::search_of;
+use crate::valuing::value_of;
 use crate::weakening::weaken_of;
 use items::{Game, Nums};
 use online_play::{Online, Player};
@@ -62,6 +63,17 @@ pub enum Command {
     Weaken {
         /// The target, from 1 to 240.
         target: u16,
+    },
+    /// Searches for the value of a number of bins and a capacity, and for a strategy of each side that shows it.
+    Value {
+        /// How many bins there are, from 2 to 8.
+        bins: u16,
+        /// The capacity, from 1 to 120.
+        capacity: u16,
+        /// The most visits that the search of each target may make, from 1 to 4,000,000,000.
+        budget: u32,
+        /// The most entries that its table may have, from 1 to 4,000,000.
+        table: u32,
     },
 }
 
@@ -117,6 +129,14 @@ pub fn read_words(
     }
     if let Some(target) = weaken_of(words) {
         return Ok(Some(Command::Weaken { target }));
+    }
+    if let Some((bins, capacity, budget, table)) = value_of(words) {
+        return Ok(Some(Command::Value {
+            bins,
+            capacity,
+            budget,
+            table,
+        }));
     }
     match answer_of(alloc, words)? {
         Some(items) => Ok(Some(Command::Answer { items })),

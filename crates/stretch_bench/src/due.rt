@@ -32,6 +32,7 @@ use crate::scaling::scaled;
 use crate::searching::searched;
 use crate::status::Status;
 use crate::upgrading::upgraded;
+use crate::valuing::valued;
 use crate::weakening::weakened;
 use checker::{CheckFault, Wanted, load};
 use online_play::{Online, Player};
@@ -202,6 +203,12 @@ fn made<S: Source>(
             let strategy = load(alloc, source, Wanted::Either)?;
             Ok(weakened(alloc, *target, strategy)?)
         }
+        Command::Value {
+            bins,
+            capacity,
+            budget,
+            table,
+        } => Ok(valued(alloc, *bins, *capacity, *budget, *table)?),
     }
 }
 

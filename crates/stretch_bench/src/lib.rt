@@ -26,6 +26,7 @@ mod talking;
 #[cfg(test)]
 mod tests;
 mod upgrading;
+mod valuing;
 mod weakening;
 
 pub use bench::run_bench;

@@ -281,7 +281,7 @@ pub(crate) fn is_found(alloc: Global, row: &Found) -> Result<bool, AllocError> {
     Ok(checked.bytes().starts_with(row.3.as_bytes()))
 }
 
-const NO_COMMANDS: [&str; 33] = [
+const NO_COMMANDS: [&str; 37] = [
     "",
     "check now",
     "play",
@@ -315,6 +315,10 @@ const NO_COMMANDS: [&str; 33] = [
     "weaken 0",
     "weaken 241",
     "weaken 7 now",
+    "value 9 3 budget=1 table=1",
+    "value 2 121 budget=1 table=1",
+    "value 2 3 table=1 budget=1",
+    "value 2 3 4 budget=1 table=1",
 ];
 
 fn is_usage(alloc: Global, words: &str) -> Result<bool, AllocError> {
