@@ -1,7 +1,7 @@
 //! Laws of sessions, as contracts of functions that do nothing.
 
-ghost use Rattle.referee_session.specs.Laws.{EachEndIsLost, EachTalkEnds, OneTextIsDue, PlaysAreTalks, SaidIsAtTheFront};
-ghost use Rattle.referee_session.specs.Laws.{SomeTextIsDue, TalksArePlays};
+ghost use Rattle.referee_session.specs.Laws.{EachEndIsLost, EachTalkEnds, OneTextIsDue, PlaysAreTalks};
+ghost use Rattle.referee_session.specs.Laws.{SaidIsAtTheFront, SomeTextIsDue, TalksArePlays};
 ghost use Rattle.referee_session.specs.Turns.{IsLegal};
 
 use crate::session::Session;

@@ -50,8 +50,8 @@ impl StdSink {
 impl Sink for StdSink {
     ghost faults = { λ s. s.faults };
 
-    // A write of 0 bytes of a nonempty piece is a fault, and so is a flush that fails: each piece is out before the next
-    // read, so that whoever answers a session sees what it answers.
+    // A write of 0 bytes of a nonempty piece is a fault, and so is a flush that fails: each piece is out before the
+    // next read, so that whoever answers a session sees what it answers.
     fn write(&mut self, piece: &[u8]) -> Result<usize, Failed> {
         if piece.is_empty() {
             return Ok(0);

@@ -236,11 +236,13 @@ accepted_stands run status (read_failed s rose cut same) accepted first =
 accepted_stands run status (answer_unread s rose cut) accepted first =
     let un = cut.unanswered in
     let talk = un.talk.is in
-    absurd (said_nothing (pool_in un.talk.strategy talk.nodes) (last_of talk.nodes) talk.bins un.text accepted talk.spelled (whole_front run.written run.new_written un.text accepted un.told first))
+    absurd (said_nothing (pool_in un.talk.strategy talk.nodes) (last_of talk.nodes) talk.bins un.text accepted talk.spelled
+    (whole_front run.written run.new_written un.text accepted un.told first))
 accepted_stands run status (talk_unsaid s rose cut) accepted first =
     let un = cut.unsaid in
     let talk = un.talk.is in
-    absurd (said_nothing (pool_in un.talk.strategy talk.nodes) (last_of talk.nodes) talk.bins un.text accepted talk.spelled (part_front run.written run.new_written un.text accepted un.some first))
+    absurd (said_nothing (pool_in un.talk.strategy talk.nodes) (last_of talk.nodes) talk.bins un.text accepted talk.spelled
+    (part_front run.written run.new_written un.text accepted un.some first))
 accepted_stands run status (memory_refused s same) accepted first =
     absurd (none_written run.written accepted (subst (λ (w : Option (List ℕ)). WritesFirst run.written w (accepted_line accepted)) same first))
 

@@ -6,7 +6,8 @@ use Rattle.checker.specs.declared.fault.CheckFault.TheVariants as check_fault
 use Rattle.port_io.specs.Faults.{Rose}
 use Rattle.stretch_bench.specs.Call.{Call, Players}
 use Rattle.stretch_bench.specs.Commands.{Spells, SpellsNone}
-use Rattle.stretch_bench.specs.Due.{IsDue, IsOutcome, bad_answer, done, input_ended, rejected, rejected_front, undecided, unpackable, unscaled, unvalued, unweakened, commanded, usage}
+use Rattle.stretch_bench.specs.Due.{IsDue, IsOutcome, bad_answer, commanded, done, input_ended, rejected, rejected_front, undecided}
+use Rattle.stretch_bench.specs.Due.{unpackable, unscaled, unvalued, unweakened, usage}
 use Rattle.stretch_bench.specs.Form.{Reads, reads_front, reads_nothing, reads_whole}
 use Rattle.stretch_bench.specs.Lines.{usage_line}
 use Rattle.stretch_bench.specs.Pieces.{IsDueWith, IsEnding, IsMade, IsStopOf, all, due_text, some, unmade, unread}

@@ -10,7 +10,8 @@ use Rattle.strategy_text.specs.declared.node.Side.TheVariants.{Adversary, Algori
 use Rattle.stretch_bench.specs.declared.command.Command.{Command}
 use Rattle.stretch_bench.specs.declared.command.Command.TheVariants as commands
 use Rattle.stretch_bench.specs.declared.status.Status.{Status}
-use Rattle.stretch_bench.specs.declared.status.Status.TheVariants.{Done, NoTransfer, Rejected, Usage, Undecided, Unpackable}
+use Rattle.stretch_bench.specs.declared.status.Status.TheVariants.{Done, NoTransfer, Rejected, Usage}
+use Rattle.stretch_bench.specs.declared.status.Status.TheVariants.{Undecided, Unpackable}
 use Rattle.stretch_bench.specs.declared.status.Status.TheVariants as statuses
 use Rattle.stretch_bench.specs.Answer.{IsUnpackable}
 use Rattle.stretch_bench.specs.Call.{Call, Players}

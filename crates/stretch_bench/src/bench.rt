@@ -40,8 +40,9 @@ use std::alloc::Global;
 ///   `undecided M G T visits V pass K path MOVES` where its budget was spent.
 /// - `session` reads a strategy of the adversary and plays it against the lines `bin B` that follow its text: it writes
 ///   `session M G T`, and in turns `item S` and reads the item's bin, until `lost loads LIST` at the play's end,
-///   `ended K` where the input ends after K answers, or `badanswer K` where line K after the text is no answer. It ends
-///   each play by a game's bins times its capacity answers at the latest, and an answer costs the same for any strategy.
+///   `ended K` where the input ends after K answers, or `badanswer K` where line K after the text is no answer. A play
+///   ends after as many answers as there are bins times the capacity at the latest, and an answer costs the same for
+///   any strategy.
 /// - `scale C` reads a strategy of the adversary and writes it on C times its scale, or `notransfer M G T` where that
 ///   is no game.
 /// - `weaken T` reads a strategy and writes its canonical form at the target T, or `notransfer M G T` where it doesn't
@@ -112,7 +113,8 @@ pub fn run_bench<S: Source, K: Sink>(
       answers = map (λ player. (⟦<dyn Online as Online>⟧ player.player.vtable).answer player.player.value)
           players.now.items;
     } in (command : Command)
-        → Spells players (spelling_of words.now) command → reads_by players command ≡ reads_nothing → source.new ≡ source.old }
+        → Spells players (spelling_of words.now) command → reads_by players command ≡ reads_nothing
+        → source.new ≡ source.old }
 
     // A command is carried out exactly where the input is the text of a legal strategy of the side that it wants.
     ensures exact { let players : Players = record {
