@@ -51,7 +51,7 @@ use Rattle.monotone.specs.declared.path.PathMove.{PathMove}
 use Rattle.monotone.proofs.ReachableLemmas.{reachable_positions_are_counted}
 use Rattle.minimax.specs.Answers.{IsAnswer, IsFor}
 use Rattle.minimax.specs.Answers as answers
-use Rattle.minimax.proofs.RootLemmas.{IsPlayable-empty}
+use Rattle.minimax.proofs.RootLemmas.{AreItemsOf-empty}
 use Rattle.minimax.specs.Budgets.{AreNumbersOfReachable, HasRoom, IsOfAdversary, reachable_before}
 use Rattle.minimax.specs.declared.answer.Answer.{Answer}
 use Rattle.minimax.specs.declared.answer.Answer.TheVariants.{Adversary, Algorithm, Undecided}
@@ -113,7 +113,7 @@ module _ (bins capacity : ℕ) (has_bins : HasBins bins) (has_capacity : HasCapa
   }
 
   no_items : AreItemsOf (sizes_of (numbers bins capacity (2 * capacity))) (replicate bins 0) []
-  no_items = (IsPlayable-empty (numbers bins capacity (2 * capacity)) empty_loads).items
+  no_items = AreItemsOf-empty (sizes_of (numbers bins capacity (2 * capacity))) bins
 
   finishes : Finishes (numbers bins capacity (2 * capacity)) (replicate bins 0)
   finishes =

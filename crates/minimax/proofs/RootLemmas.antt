@@ -11,7 +11,7 @@ use Rattle.minimax.specs.declared.space.Space.{Space}
 use Rattle.items.specs.Multiset.{sizes_of}
 use Rattle.items.proofs.MultisetLemmas.{IsNonDecreasing-from_rises}
 use Rattle.loads.specs.Loads.{IsLoads}
-use Rattle.loads.specs.Position.{IsEmptyPosition, StandsAt}
+use Rattle.loads.specs.Position.{AreItemsOf, IsEmptyPosition, StandsAt}
 use Rattle.loads.specs.Wins.{IsWon, empty_position}
 use Rattle.loads.specs.declared.position.Position.{Position}
 use Rattle.packing_witness.proofs.PackingLemmas.{size_of_last}
@@ -57,14 +57,18 @@ sum-zeros : (n : ℕ) → sum (replicate n 0) ≡ 0
 sum-zeros zero = refl
 sum-zeros (suc n) = sum-zeros n
 
+-- no items, of empty bins
+pub AreItemsOf-empty : (sizes : List ℕ) (bins : ℕ) → AreItemsOf sizes (replicate bins 0) []
+AreItemsOf-empty sizes bins = record {
+  ascending = IsNonDecreasing-from_rises 0 [] tt;
+  allowed = All-nil (Contains sizes);
+  total = sym (sum-zeros bins);
+}
+
 pub IsPlayable-empty : (space : Space) → IsLoads space.game (replicate space.game.bins 0) → IsPlayable space (empty_position space.game)
 IsPlayable-empty space loads = record {
   loads = loads;
-  items = record {
-    ascending = IsNonDecreasing-from_rises 0 [] tt;
-    allowed = All-nil (Contains space.sizes);
-    total = sym (sum-zeros space.game.bins);
-  };
+  items = AreItemsOf-empty space.sizes space.game.bins;
   packable = Packable-nil space.game;
 }
 
