@@ -8,7 +8,8 @@ PROGRAM is the built program, FILE the strategy, LINE the answer that is due, wi
 each command is run, in turns. The seconds are those of the processor, which other work on the machine disturbs least.
 YARDSTICK is another checker, which reads a strategy from standard input: it is run beside the program where it is
 given, and the ratios are told. The other commands that read a strategy are timed once: `minimise`, `report`, `upgrade`,
-`weaken` to the strategy's own target, and `scale 2` where it is the adversary's. It ends with status 1 where a check gives another answer.
+`weaken` to the strategy's own target, and `scale 2` where it is the adversary's. It ends with status 1 where a check
+gives another answer.
 
 With --beside it runs the words, with FILE as their input, with both programs in turns, prints how their seconds compare
 under the name, and ends with status 1 where PROGRAM is slower.
