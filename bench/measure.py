@@ -7,8 +7,9 @@
 PROGRAM is the built program, FILE the strategy, LINE the answer that is due, without its line feed, and TIMES how often
 each command is run, in turns. The seconds are those of the processor, which other work on the machine disturbs least.
 YARDSTICK is another checker, which reads a strategy from standard input: it is run beside the program where it is
-given, and the ratios are told. The other commands that read a strategy of either side are timed once. It ends with
-status 1 where a check gives another answer.
+given, and the ratios are told. The other commands that read a strategy are timed once: `minimise`, `report`, `upgrade`,
+`weaken` to the strategy's own target, and `scale 2` where it is the adversary's. It ends with status 1 where a check
+gives another answer.
 
 With --beside it runs the words, with FILE as their input, with both programs in turns, prints how their seconds compare
 under the name, and ends with status 1 where PROGRAM is slower.
@@ -115,9 +116,14 @@ def main():
     print(f"time {taken / max(min(least['wc -l']), 1e-6):.1f} times that of wc -l")
     held = {name: peak(command, path) for name, command in checks.items()}
     print("peak memory " + ", ".join(f"{name} {most:.1f} MiB" for name, most in held.items()))
-    for word in ("minimise", "report", "upgrade"):
-        status, _, seconds = run([program, word], path)
-        print(f"stretch {word:<9} {seconds:.3f} seconds of the processor, {peak([program, word], path):.1f} MiB, status {status}")
+    side, target = line.split()[1], line.split()[4]
+    words = [["minimise"], ["report"], ["upgrade"], ["weaken", target]]
+    if side == "adversary":
+        words.append(["scale", "2"])
+    for command in ([program, *more] for more in words):
+        name = " ".join(command[1:])
+        status, _, seconds = run(command, path)
+        print(f"stretch {name:<11} {seconds:.3f} seconds of the processor, {peak(command, path):.1f} MiB, status {status}")
     if others:
         time_ratio = taken / max(min(least["yardstick"]), 1e-6)
         print(f"beside the yardstick: {time_ratio:.2f} times its time, "
