@@ -530,9 +530,9 @@ decided_by_listed game sizes room budget (Answers.Undecided visits pass path) is
     let before : (k : ℕ) → k < last → numbers k ≡ 0 =
     λ k l. ap (λ b. cond b all 0) (false_from_ne_true (leb last k) (λ e. let up = leb-true last k e in omega (arith, up, l))) in
     let less = within (all, counts, l) numbers (λ k from of_game.
-        let same : last ≡ k = omega (arith, from, of_game) in
-        subst (λ n. CountsReachable game (allowed_in sizes k) n) (sym (at_last k from))
-        (subst (λ n. CountsReachable game (allowed_in sizes n) all) same counts)) in
+    let same : last ≡ k = omega (arith, from, of_game) in
+    subst (λ n. CountsReachable game (allowed_in sizes k) n) (sym (at_last k from))
+    (subst (λ n. CountsReachable game (allowed_in sizes n) all) same counts)) in
     let none = reachable_before-bound numbers 0 pass (λ k m. omega (arith, before k (omega (arith, m, here)))) in
     absurd (omega (arith, less, enough, none, reachable_before-more numbers pass, at_last pass (omega (arith, here))))
 

@@ -1,5 +1,5 @@
 -- The rules of the nodes that a search puts.
-use Rattle.std.proofs.Common.{◌≡◌, ℕ, ◌+◌, ◌-◌, ◌<◌, ◌≤◌, false, Option, Some, None, List, [], ◌∷◌, ◌++◌, map, reverse}
+use Rattle.std.proofs.Common.{◌≡◌, ℕ, ◌+◌, ◌-◌, ◌<◌, false, Option, Some, None, List, [], ◌∷◌, ◌++◌, map, reverse}
 use Rattle.std.proofs.Common.{length, get_or, sym, ap, ◌∙◌, subst, arith}
 use Rattle.std.specs.Prelude.{All, Contains, MatchOption}
 use Rattle.std.proofs.lemmas.Bool.{false≢true}
@@ -88,9 +88,12 @@ replies_to_each space position entries all =
             let c = (all.sizes.exact size).1 (h.0, low, high) in
             let within : c.0 < length entries = omega (arith, c.1, many) in
             let place : ℕ = length entries - 1 - c.0 in
-            let back : length entries - 1 - place ≡ c.0 = omega (arith, within) in
-            (place, omega (arith, within, turned), turned_at entries place size (omega (arith, within))
-                ∙ ap (λ i. get_or (sizes_in entries) i size) back ∙ c.2),
+            let back : length entries - 1 - place ≡ c.0 = omega (arith, within) in (
+              place,
+              omega (arith, within, turned),
+              turned_at entries place size (omega (arith, within))
+                  ∙ ap (λ i. get_or (sizes_in entries) i size) back ∙ c.2,
+            ),
       );
     }
 

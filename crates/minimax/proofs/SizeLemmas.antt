@@ -83,11 +83,11 @@ next_bound target xs i = rw add-one refl
 descends_push : (xs : List ℕ) (x : ℕ) → IsStrictlyDescending xs → ((y : ℕ) → Contains xs y → x < y) → IsStrictlyDescending (xs ++ x ∷ [])
 descends_push xs x d above k l = elim (cases_lt (k + 1) (length xs)) [
   | inl within ↦ omega (
-      arith,
-      d k within,
-      get_or_append_left xs (x ∷ []) 0 k (omega (arith, within)),
-      get_or_append_left xs (x ∷ []) 0 (k + 1) within,
-    )
+    arith,
+    d k within,
+    get_or_append_left xs (x ∷ []) 0 k (omega (arith, within)),
+    get_or_append_left xs (x ∷ []) 0 (k + 1) within,
+  )
   | inr past ↦
       let last : k + 1 ≡ length xs = omega (arith, past, l, length_push xs x) in
       let lower = above (get_or xs k 0) (k, omega (arith, last), get_or_default xs k _ _ (omega (arith, last))) in

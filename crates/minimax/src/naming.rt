@@ -50,7 +50,11 @@ pub(crate) fn node_number(
 }
 
 // The number of the node that finishes at the position, which is put where there is none.
-fn finish_number(space: &Space, written: &mut Written, position: &Position) -> Result<u32, AllocError>
+fn finish_number(
+    space: &Space,
+    written: &mut Written,
+    position: &Position,
+) -> Result<u32, AllocError>
     requires { MayFinish space.now written.old position.now }
     ensures { IfOk result (Names written.old written.new position.now) }
 {

@@ -14,8 +14,8 @@ ghost use Rattle.minimax.specs.State.{IsPlain, IsPlayable, PutsWin, PutsReply, P
 use crate::space::Space;
 use adversary_graph::AdvJudged;
 use algorithm_graph::AlgJudged;
-use items::laws::game_is_legal;
 use items::Nums;
+use items::laws::game_is_legal;
 use loads::{Loads, Position};
 use reachable_loads::pack;
 use std::alloc::{AllocError, Global};

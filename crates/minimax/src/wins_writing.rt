@@ -29,7 +29,10 @@ pub(crate) fn write_wins(
     ensures for_game { IfOk result (IsFor space.now.game (length wins.now)) }
 {
     let marks = reached_from(alloc, wins, root)?;
-    let mut pool = AdvJudged::new(alloc, Terms::of_sizes(Format::One, &space.game, &space.sizes));
+    let mut pool = AdvJudged::new(
+        alloc,
+        Terms::of_sizes(Format::One, &space.game, &space.sizes),
+    );
     let mut numbers = Vec::new(alloc);
     for k in 0..marks.len() {
         let win = &wins.as_slice()[k];
@@ -55,7 +58,14 @@ fn write_win(
         return Ok(0);
     }
     let placements = renumber(alloc, numbers, win.placements.as_slice())?;
-    push_win(alloc, space, pool, &win.position.position(), win.size, placements)
+    push_win(
+        alloc,
+        space,
+        pool,
+        &win.position.position(),
+        win.size,
+        placements,
+    )
 }
 
 // The placements of a win, with the numbers of the nodes in place of those of the wins.

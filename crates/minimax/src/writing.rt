@@ -43,7 +43,10 @@ pub(crate) fn write_replies(
 {
     let mut written = Written {
         alloc,
-        pool: AlgJudged::new(alloc, Terms::of_sizes(Format::One, &space.game, &space.sizes)),
+        pool: AlgJudged::new(
+            alloc,
+            Terms::of_sizes(Format::One, &space.game, &space.sizes),
+        ),
         finishes: FinishNodes::new(alloc),
         numbers: Vec::new(alloc),
     };

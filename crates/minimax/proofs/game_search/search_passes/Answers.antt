@@ -85,8 +85,8 @@ write_replies-requires-clause-may g c =
     let h = serves 0 behind.0 behind.1 in
     let playable = subst (IsPlayable space) (sym is) (IsPlayable-empty space (subst (IsLoads space.game) c.zero.ensures.value c.zero.ensures.legal)) in
     subst (λ q. MayWrite space s.replies q told c.args.budget) c.in_ok-key.ensures.ok
-          (may_write space c.loop-pass.pass c.args.budget s e root told finds.went.sound (h.later, h.behind) (finds.went.goes.budget ∙ c.loop-pass.invariant.budget)
-          h.more playable is finds.tells.says)
+    (may_write space c.loop-pass.pass c.args.budget s e root told finds.went.sound (h.later, h.behind) (finds.went.goes.budget ∙ c.loop-pass.invariant.budget)
+    h.more playable is finds.tells.says)
 
 pub returns-in-Err-Spent-clause-answer : goal.returns-in-Err-Spent-clause-answer
 returns-in-Err-Spent-clause-answer g c =

@@ -1,4 +1,4 @@
-use Rattle.std.proofs.Common.{◌≡◌, ◌∙◌, ◌++◌, ◌∷◌, [], ℕ, Vec, Global, refl, sym, ap, subst, arith}
+use Rattle.std.proofs.Common.{◌∙◌, ◌++◌, ◌∷◌, [], ℕ, Vec, Global, refl, sym, ap, subst}
 use Rattle.minimax.specs.Naming.{PutsNamed}
 use Rattle.minimax.specs.State.{AreOfAll}
 use Rattle.minimax.proofs.WritingLemmas.{numbers_stay}
