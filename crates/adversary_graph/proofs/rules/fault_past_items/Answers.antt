@@ -34,8 +34,25 @@ returns-then-not-is_over_at_target g c =
     let burst = rw c.game.ensures.value at (c.if-not-is_long_enough.ensures.0 refl) in
     let pack = rw (c.game.ensures.value, c.format.ensures.value) at (c.if-not-is_packed.ensures.0 refl) in
     let placements = c.if-not-places_each_load.ensures.0 refl in
-    record { exact = (the.over, refl, inr (send, inr (burst, inr (pack, inr (placements,
-    inl (refl, λ h. false≢true (c.if-not-is_over_at_target.ensures.1 (rw c.game.ensures.value h)))))))) }
+    record {
+      exact = (
+        the.over,
+        refl,
+        inr (
+          send,
+          inr (
+            burst,
+            inr (
+              pack,
+              inr (
+                placements,
+                inl (refl, λ h. false≢true (c.if-not-is_over_at_target.ensures.1 (rw c.game.ensures.value h))),
+              ),
+            ),
+          ),
+        ),
+      );
+    }
 
 pub returns-then-not-leads_to_children : goal.returns-then-not-leads_to_children
 returns-then-not-leads_to_children g c =
