@@ -19,10 +19,12 @@ check:
 	$(MAKE) build
 	examples/check $(PROGRAM)
 	bench/searches $(PROGRAM)
+	bench/searches --values $(PROGRAM)
 	bench/refusals $(PROGRAM)
 
 install: build
 	install -D $(PROGRAM) $(DESTDIR)$(PREFIX)/bin/stretch
+	install -D -m 644 man/stretch.1 $(DESTDIR)$(PREFIX)/share/man/man1/stretch.1
 
 # Removes what checks and builds have left.
 clean:
