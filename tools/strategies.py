@@ -4,6 +4,8 @@ Forms alone are looked at, as docs/FORMAT.md has them; no rule is. Whether a tex
 A node is found by its number, which its line begins with, in a few steps: of a large file only what is asked for is read.
 """
 
+from __future__ import annotations
+
 import gzip
 import lzma
 import mmap
@@ -16,7 +18,7 @@ MOST_LINE = 16_384
 MOST_NUMBER = 65_535
 MOST_CHILD = 4_294_967_295
 MOST_NODES = 4_000_000_000
-SMALL = {str(number): number for number in range(1, 2_000)} | {"0": 0}
+SMALL = {str(number): number for number in range(2_000)}
 FIRST = re.compile(rb"(\d{1,10}) ")
 HEADS = {"stretch 1": 1, "stretch 2": 2, "listed 1": 1, "relaxed 1": 2}
 PACKED = {b"\x1f\x8b": ("gzip data", gzip.decompress), b"\xfd7zXZ\x00": ("xz data", lzma.decompress)}
