@@ -271,7 +271,7 @@ class Strategy:
                 high = middle
         end = self.data.find(b"\n", low)
         if end < 0 or self.number_at(low) != number:
-            raise NoStrategy(f"no line of the node {number}, where lines rise by their numbers; `stretch check` names the first fault")
+            raise NoStrategy(f"no line of node {number}, where lines rise by their numbers; `stretch check` tells the first fault")
         return self.data[low:end].decode("latin-1")
 
     def node(self, number):
