@@ -3,7 +3,7 @@
 use crate::loads_order::fullest_first;
 use crate::packed_loads::PackedLoads;
 use crate::ranks::Ranks;
-use crate::rows::{Replies, Rows, Sent, WINDOW};
+use crate::rows::{Replies, Rows, Sent, WINDOW, window};
 use items::{Game, MOST_SIZE};
 use std::alloc::{AllocError, Global};
 
@@ -33,7 +33,7 @@ impl PassTable {
         let block = row_len * (usize::from(game.m()) + 1);
         let ranks = Ranks::new(alloc, game, block as u32)?;
         let len = ranks.len(game.t());
-        if len + WINDOW > MOST_BYTES {
+        if len > MOST_BYTES - WINDOW {
             return Ok(None);
         }
         let order = fullest_first(alloc, game, len / block)?;
@@ -51,8 +51,10 @@ impl PassTable {
     pub fn fill(&mut self, pass: u16) {
         let mut starts = [[0u32; SIZES]; 8];
         for place in 0..self.order.len() {
-            let loads = self.order[place];
-            self.decide(loads, pass, &mut starts);
+            if let Some(loads) = self.order.get(place) {
+                let loads = *loads;
+                self.decide(loads, pass, &mut starts);
+            }
         }
     }
 
@@ -87,25 +89,17 @@ impl PassTable {
         let room = left.min(capacity).min(MOST_SIZE);
         let most_large = usize::from(left / (capacity / 2 + 1)).min(bins);
         let start = self.ranks.start_of(loads);
-        let (count, limits) = put_starts(&self.ranks, &self.game, loads, start, room, starts);
+        let limits = put_starts(&self.ranks, &self.game, loads, start, room, starts);
         let mut rows = Rows::new(self.row_len, most_large, room);
-        let mut replies = Replies::none();
         for size in 1..room + 1 {
-            for place in 0..count {
-                replies.put(
-                    &self.bytes,
-                    place,
-                    start_of_reply(starts, &limits, place, size),
-                );
-            }
             let sent = Sent {
                 size: size as u8,
                 forbidden_from: size.saturating_add(pass).saturating_add(1).min(255) as u8,
                 is_large: 2 * size > capacity,
             };
-            rows.send(&sent, &replies);
+            rows.send(&sent, &replies_to(&self.bytes, starts, &limits, size));
         }
-        let made = rows.bytes();
+        let made = rows.bytes(bins + 1);
         let block = self.row_len.wrapping_mul(bins + 1).min(WINDOW);
         if let Some(bytes) = self.bytes.as_mut_slice().get_mut(start..) {
             if let Some(bytes) = bytes.get_mut(..block) {
@@ -115,6 +109,36 @@ impl PassTable {
     }
 }
 
+// The rows of the replies to a size.
+#[inline(always)]
+fn replies_to<'a>(
+    table: &'a [u8],
+    starts: &[[u32; SIZES]; 8],
+    limits: &[u16; 8],
+    size: u16,
+) -> Replies<'a> {
+    let mut count = 0usize;
+    for place in 0..8 {
+        if size <= limits[place] {
+            count = place + 1;
+        }
+    }
+    Replies {
+        windows: [
+            window(table, start_of_reply(starts, limits, 0, size)),
+            window(table, start_of_reply(starts, limits, 1, size)),
+            window(table, start_of_reply(starts, limits, 2, size)),
+            window(table, start_of_reply(starts, limits, 3, size)),
+            window(table, start_of_reply(starts, limits, 4, size)),
+            window(table, start_of_reply(starts, limits, 5, size)),
+            window(table, start_of_reply(starts, limits, 6, size)),
+            window(table, start_of_reply(starts, limits, 7, size)),
+        ],
+        count,
+    }
+}
+
+// Where the rows begin of the reply in this place; None where there is none.
 #[inline(always)]
 fn start_of_reply(
     starts: &[[u32; SIZES]; 8],
@@ -130,7 +154,8 @@ fn start_of_reply(
 }
 
 // For each bin with another load than the next, from the least loaded, and for each size up to a limit: where the rows of
-// the loads begin that the size makes there. Gives the number of such bins and their limits.
+// the loads begin that the size makes there. Gives the limits, 0 where there is no
+// bin.
 #[inline(always)]
 fn put_starts(
     ranks: &Ranks,
@@ -139,7 +164,7 @@ fn put_starts(
     start: usize,
     room: u16,
     starts: &mut [[u32; SIZES]; 8],
-) -> (usize, [u16; 8]) {
+) -> [u16; 8] {
     let bins = usize::from(game.m());
     let mut limits = [0u16; 8];
     let mut count = 0usize;
@@ -162,7 +187,7 @@ fn put_starts(
             }
         }
     }
-    (count, limits)
+    limits
 }
 
 // As `put_starts`, for one bin.

@@ -1,5 +1,7 @@
 //! The rows of one list of loads, in lanes of sixteen bytes.
 
+ghost use Rattle.std.specs.Prelude.{◌+◌, ◌<◌, ◌≤◌};
+
 use std::simd::prelude::*;
 
 /// How many bytes are looked at from the start of a row on: at least those of all rows of a list of loads, and the lanes that
@@ -11,6 +13,9 @@ const LANES: usize = 16;
 // As many lanes as hold a row of the greatest capacity.
 const CHUNKS: usize = 8;
 
+// From one row to the next while they are decided.
+const STRIDE: usize = CHUNKS * LANES;
+
 // A row for each number of large items of the most bins, from 0 on.
 const ROWS: usize = 9;
 
@@ -20,56 +25,44 @@ const LAST_START: usize = 968;
 // What stands in place of a reply that there isn't: the algorithm wins from no greatest item on.
 static NO_REPLY: [u8; WINDOW] = [255; WINDOW];
 
-/// The rows of the replies to one size.
+/// The rows of the replies to one size: at most eight, and no reply in the places that are left.
 #[derive(Drop)]
 pub(crate) struct Replies<'a> {
-    windows: [&'a [u8; WINDOW]; 8],
-    count: usize,
+    pub(crate) windows: [&'a [u8; WINDOW]; 8],
+    pub(crate) count: usize,
 }
 
 impl<'a> Replies<'a> {
-    pub(crate) fn none() -> Self {
-        Replies {
-            windows: [&NO_REPLY; 8],
-            count: 0,
-        }
-    }
-
-    /// Puts the rows that begin there in a place; those of no reply where the start is None or beyond the table.
-    #[inline(always)]
-    pub(crate) fn put(&mut self, table: &'a [u8], place: usize, start: Option<usize>) {
-        if place < 8 {
-            self.windows[place] = window(table, start);
-            if start.is_some() {
-                self.count = place + 1;
-            }
-        }
-    }
-
     // The least of the replies' bytes, in sixteen lanes.
     #[inline(always)]
-    fn least(&self, at: usize) -> u8x16 {
+    fn least(&self, at: usize) -> u8x16
+        requires { at + LANES ≤ WINDOW }
+    {
         let mut least = self.pair(0, at);
         if self.count > 2 {
             least = least.simd_min(self.pair(2, at));
-            if self.count > 4 {
-                least = least.simd_min(self.pair(4, at));
-                if self.count > 6 {
-                    least = least.simd_min(self.pair(6, at));
-                }
-            }
+        }
+        if self.count > 4 {
+            least = least.simd_min(self.pair(4, at));
+        }
+        if self.count > 6 {
+            least = least.simd_min(self.pair(6, at));
         }
         least
     }
 
     #[inline(always)]
-    fn pair(&self, place: usize, at: usize) -> u8x16 {
+    fn pair(&self, place: usize, at: usize) -> u8x16
+        requires place { place + 1 < 8 }
+        requires lanes { at + LANES ≤ WINDOW }
+    {
         lanes(self.windows[place], at).simd_min(lanes(self.windows[place + 1], at))
     }
 }
 
+/// The bytes of a table from a place on; those of no reply where there is no place, or too few bytes.
 #[inline(always)]
-fn window(table: &[u8], start: Option<usize>) -> &[u8; WINDOW] {
+pub(crate) fn window(table: &[u8], start: Option<usize>) -> &[u8; WINDOW] {
     if let Some(start) = start {
         if let Some(rest) = table.get(start..) {
             if let Some(window) = rest.first_chunk::<WINDOW>() {
@@ -81,7 +74,9 @@ fn window(table: &[u8], start: Option<usize>) -> &[u8; WINDOW] {
 }
 
 #[inline(always)]
-fn lanes(window: &[u8; WINDOW], at: usize) -> u8x16 {
+fn lanes(window: &[u8; WINDOW], at: usize) -> u8x16
+    requires { at + LANES ≤ WINDOW }
+{
     u8x16::from_slice(&window[at..])
 }
 
@@ -97,7 +92,7 @@ pub(crate) struct Sent {
 /// The rows of a list of loads while they are decided.
 #[derive(Drop)]
 pub(crate) struct Rows {
-    chunks: [[u8x16; CHUNKS]; ROWS],
+    bytes: [u8; ROWS * STRIDE],
     row_len: usize,
     most_large: usize,
     last_chunk: usize,
@@ -109,10 +104,10 @@ impl Rows {
     #[inline(always)]
     pub(crate) fn new(row_len: usize, most_large: usize, room: u16) -> Self {
         Rows {
-            chunks: [[u8x16::splat(0); CHUNKS]; ROWS],
+            bytes: [0; ROWS * STRIDE],
             row_len,
-            most_large: most_large.min(ROWS - 1),
-            last_chunk: usize::from(room / 16).min(CHUNKS - 1),
+            most_large,
+            last_chunk: usize::from(room / 16),
         }
     }
 
@@ -122,37 +117,45 @@ impl Rows {
         let size = u8x16::splat(sent.size);
         let forbidden_from = u8x16::splat(sent.forbidden_from);
         let large = usize::from(sent.is_large);
+        let last_chunk = self.last_chunk.min(CHUNKS - 1);
         let first_chunk = usize::from(sent.size / 16);
         let places = u8x16::from_array([0, 1, 2, 3, 4, 5, 6, 7, 8, 9, 10, 11, 12, 13, 14, 15]);
         let first_room = places
             .simd_ge(u8x16::splat(sent.size % 16))
             .select(u8x16::splat(255), u8x16::splat(0));
-        for row in large..self.most_large + 1 {
+        for row in large..self.most_large.min(ROWS - 1) + 1 {
             let start = (row - large).wrapping_mul(self.row_len).min(LAST_START);
             let mut has_room = first_room;
-            for chunk in first_chunk..self.last_chunk + 1 {
+            for chunk in first_chunk..last_chunk + 1 {
                 let wins_from = replies
                     .least(start + chunk * LANES)
                     .simd_min(forbidden_from);
                 let counts = wins_from.simd_gt(size).select(wins_from, u8x16::splat(0));
-                self.chunks[row][chunk] = self.chunks[row][chunk].simd_max(counts & has_room);
+                let at = row * STRIDE + chunk * LANES;
+                u8x16::from_slice(&self.bytes[at..])
+                    .simd_max(counts & has_room)
+                    .copy_to_slice(&mut self.bytes[at..]);
                 has_room = u8x16::splat(255);
             }
         }
     }
 
-    /// The rows one after the other, for every number of large items and every greatest size.
+    /// So many rows one after the other, for every greatest size up to the capacity.
     #[inline(always)]
-    pub(crate) fn bytes(&self) -> [u8; WINDOW] {
+    pub(crate) fn bytes(&self, rows: usize) -> [u8; WINDOW] {
         let mut bytes = [0; WINDOW];
-        for row in 0..ROWS {
+        let last_chunk = self.last_chunk.min(CHUNKS - 1);
+        let chunks = (self.row_len / LANES + 1).min(CHUNKS);
+        for row in 0..rows.min(ROWS) {
             let start = row.wrapping_mul(self.row_len).min(LAST_START);
-            let chunks = &self.chunks[row.min(self.most_large)];
-            for chunk in 0..self.last_chunk + 1 {
-                chunks[chunk].copy_to_slice(&mut bytes[start + chunk * LANES..]);
+            let from = row.min(self.most_large).min(ROWS - 1) * STRIDE;
+            for chunk in 0..last_chunk + 1 {
+                u8x16::from_slice(&self.bytes[from + chunk * LANES..]).copy_to_slice(
+                    &mut bytes[start + chunk * LANES..],
+                );
             }
-            let beyond = u8x16::splat(chunks[self.last_chunk][LANES - 1]);
-            for chunk in self.last_chunk + 1..CHUNKS {
+            let beyond = u8x16::splat(self.bytes[from + last_chunk * LANES + LANES - 1]);
+            for chunk in last_chunk + 1..chunks {
                 beyond.copy_to_slice(&mut bytes[start + chunk * LANES..]);
             }
         }

@@ -1,7 +1,6 @@
 -- What the work of a command comes to.
-use Rattle.std.proofs.Common.{◌≡◌, ◌*◌, ◌≤◌, ◌<◌, ◌+◌, ℕ, List, [], length, ⊎_elim}
+use Rattle.std.proofs.Common.{◌≡◌, ◌*◌, ◌≤◌, ◌<◌, ◌+◌, ℕ, List, [], length, lt_of_not-le}
 use Rattle.std.proofs.Common.{Option, Some, Result, Ok, Err, IfOk, inl, inr, sym, ap, subst, refl, ◌∙◌, arith}
-use Rattle.std.proofs.lemmas.Bool.{cases_lt}
 use Rattle.std.specs.Prelude.{slice_get}
 use Rattle.items.specs.Game.{GameNumbers}
 use Rattle.items.specs.Multiset.{sizes_of}
@@ -247,10 +246,6 @@ found_due game budget strategy made due legal for is with =
     })
     with
 
--- a number that is not at least another
-less : (a b : ℕ) → (a ≤ b → ⊥) → b < a
-less a b not = ⊎_elim (λ (l : b < a). l) (λ (m : a ≤ b). absurd (not m)) (cases_lt b a)
-
 -- the visit that was due where a search spent its budget
 pub undecided_due : (game : GameNumbers) (budget table room visits pass : ℕ) (path : List PathMove) (answer : SearchAnswer) (line : List ℕ) (due : Due)
     → answer ≡ answers.Undecided visits pass path → room ≡ table → IsAnswer game budget answer
@@ -267,12 +262,12 @@ undecided_due game budget table room visits pass path answer line due e same is 
       pass = pass;
       path = path;
       due = at.1;
-      fewer_than_visits = less (most_visits (whole_game game)) budget (λ h. subst IsDecided e (many h));
-      fewer_than_positions = λ number counts within. less (game.capacity * number) budget
+      fewer_than_visits = lt_of_not-le (λ h. subst IsDecided e (many h));
+      fewer_than_positions = λ number counts within. lt_of_not-le
           (λ h. subst IsDecided e (all number counts (subst (λ (r : ℕ). number ≤ r) (sym same) within) h));
-      fewer_than_passes = λ numbers are room_for. less (reachable_before numbers game.capacity) budget
+      fewer_than_passes = λ numbers are room_for. lt_of_not-le
           (λ h. subst IsDecided e (each numbers are (subst (HasRoom game) (sym same) room_for) h));
-      fewer_than_won = λ numbers pass are room_for is_won. less (reachable_before numbers (pass + 1)) budget
+      fewer_than_won = λ numbers pass are room_for is_won. lt_of_not-le
           (λ h. subst IsOfAdversary e (won numbers pass are (subst (HasRoom game) (sym same) room_for) is_won h));
       line = told ∙ ap (λ (v : ℕ). undecided_line game v pass path) at.0;
     })
