@@ -4,11 +4,10 @@ ghost use Rattle.std.specs.Prelude.{◌≤◌};
 
 use crate::look::{Burst, Look, Offline};
 use crate::mixing::mix;
+use crate::placing::Placer;
 use crate::replies::count_below;
-use crate::writing::put_times;
-use items::{Game, Items};
+use items::Game;
 use pass_game::PackedLoads;
-use reachable_loads::packable;
 use std::alloc::{AllocError, Global};
 
 // The places of the sizes, and the words that hold a byte for each.
@@ -35,8 +34,8 @@ struct Held {
 /// the numbers of multisets that were met.
 #[derive(Drop)]
 pub(crate) struct Counted {
-    alloc: Global,
     game: Game,
+    placer: Placer,
     depths: Vec<Held>,
     codes: [u64; PLACES],
     // The keys and numbers of multisets, each in as many words as the sizes need and one more.
@@ -59,8 +58,8 @@ impl Counted {
         let depths = usize::from(game.m()) * usize::from(game.g()) + 2;
         let slots = entries.min(MOST_KEPT) as usize;
         Ok(Counted {
-            alloc,
             game: *game,
+            placer: Placer::new(alloc, game.m(), game.g())?,
             depths: vec![in alloc; empty; depths]?,
             codes: codes(),
             kept: vec![in alloc; 0u64; slots * (words_of(game) + 1)]?,
@@ -69,51 +68,6 @@ impl Counted {
             least: 1,
             room: 0,
         })
-    }
-
-    // The numbers of the items of a depth for the sizes from a least one on: those that are kept, or else made and kept.
-    fn numbers_of(&self, held: &Held, least: u16) -> Result<Numbers, AllocError> {
-        let game = &self.game;
-        let mut numbers = [0u64; WORDS];
-        let placed = placed_by_best_fit(game, &held.counts, 0, 0);
-        let spare = (game.m() * game.g()).saturating_sub(held.volume);
-        let mut before = 0u16;
-        for size in (least.max(1)..game.g() + 1).rev() {
-            let mut low = before;
-            if let Some(free) = &placed {
-                low = low.max(count_in(free, size));
-            }
-            let high = (spare / size).min(most_large(game, held, size)).min(255);
-            for more in low..high {
-                if !self.fits(held, size, more + 1)? {
-                    break;
-                }
-                low = more + 1;
-            }
-            set_number(&mut numbers, size, low);
-            before = low;
-        }
-        Ok(numbers)
-    }
-
-    // Whether so many more items of a size pack with others.
-    fn fits(&self, held: &Held, size: u16, more: u16) -> Result<bool, AllocError> {
-        let game = &self.game;
-        if placed_by_best_fit(game, &held.counts, size, more).is_some() {
-            return Ok(true);
-        }
-        if need_more_bins(game, &held.counts, size, more) {
-            return Ok(false);
-        }
-        let mut items = Items::empty();
-        for other in 1..game.g() + 1 {
-            let mut count = held.counts[usize::from(other)];
-            if other == size {
-                count = count.saturating_add(more);
-            }
-            put_times(&mut items, other, count);
-        }
-        packable(self.alloc, game, &items)
     }
 
     // The key of some items and a least size.
@@ -169,16 +123,16 @@ impl Offline for Counted {
         }
     }
 
-    fn look(&mut self, depth: usize, least: u16) -> Result<Look, AllocError> {
+    fn look(&mut self, depth: usize, least: u16) -> Look {
         let Some(held) = self.depths.get(depth) else {
-            return Ok(Look::none());
+            return Look::none();
         };
         let held = *held;
         let key = self.key_of(&held, least);
         let numbers = match self.known(key) {
             Some(numbers) => numbers,
             None => {
-                let numbers = self.numbers_of(&held, least)?;
+                let numbers = numbers_of(&self.game, &mut self.placer, &held, least);
                 self.keep(key, &numbers);
                 numbers
             }
@@ -187,12 +141,12 @@ impl Offline for Counted {
         self.least = least;
         self.room = greatest_of(&self.game, &numbers, least, 1);
         let large = (self.game.g() / 2 + 1).max(least);
-        Ok(Look {
+        Look {
             room: self.room,
             pair: greatest_of(&self.game, &numbers, least, 2),
             big: number_at(&numbers, large).min(self.game.m()),
             profile: mix(held.code),
-        })
+        }
     }
 
     fn burst(&self, loads: PackedLoads) -> Option<Burst> {
@@ -227,6 +181,61 @@ fn codes() -> [u64; PLACES] {
         );
     }
     codes
+}
+
+// The numbers of some items for the sizes from a least one on.
+fn numbers_of(game: &Game, placer: &mut Placer, held: &Held, least: u16) -> Numbers {
+    let mut numbers = [0u64; WORDS];
+    let placed = placed_by_best_fit(game, &held.counts, 0, 0);
+    let spare = (game.m() * game.g()).saturating_sub(held.volume);
+    let mut before = 0u16;
+    for size in (least.max(1)..game.g() + 1).rev() {
+        let mut number = before;
+        if let Some(free) = &placed {
+            number = number.max(count_in(free, size));
+        }
+        let most = (spare / size).min(most_large(game, held, size)).min(255);
+        for more in number..most {
+            if !fits_more(game, placer, held, size, more + 1) {
+                break;
+            }
+            number = more + 1;
+        }
+        set_number(&mut numbers, size, number);
+        before = number;
+    }
+    numbers
+}
+
+// Whether so many more items of a size pack with others.
+fn fits_more(game: &Game, placer: &mut Placer, held: &Held, size: u16, more: u16) -> bool {
+    if placed_by_best_fit(game, &held.counts, size, more).is_some() {
+        return true;
+    }
+    if need_more_bins(game, &held.counts, size, more) {
+        return false;
+    }
+    let spare = (game.m() * game.g())
+        .saturating_sub(held.volume)
+        .saturating_sub(size.saturating_mul(more));
+    placer.clear();
+    for other in (1..game.g() + 1).rev() {
+        placer.put(other, count_with(&held.counts, other, size, more));
+    }
+    placer.fits(spare)
+}
+
+// How many items of a size there are with so many more of another.
+fn count_with(counts: &[u16; PLACES], size: u16, added: u16, more: u16) -> u16 {
+    let count = match counts.get(usize::from(size)) {
+        Some(count) => *count,
+        None => 0,
+    };
+    if size == added {
+        count.saturating_add(more)
+    } else {
+        count
+    }
 }
 
 // How many words the numbers of a multiset take.
@@ -298,11 +307,7 @@ fn placed_by_best_fit(
         *space = game.g();
     }
     for other in (1..game.g() + 1).rev() {
-        let mut count = counts[usize::from(other)];
-        if other == size {
-            count = count.saturating_add(more);
-        }
-        for _item in 0..count {
+        for _item in 0..count_with(counts, other, size, more) {
             if !place(&mut free, other) {
                 return None;
             }
@@ -339,10 +344,7 @@ fn need_more_bins(game: &Game, counts: &[u16; PLACES], size: u16, more: u16) -> 
         let mut middle_total = 0u32;
         let mut small_total = 0u32;
         for other in 1..game.g() + 1 {
-            let mut count = u32::from(counts[usize::from(other)]);
-            if other == size {
-                count = count.saturating_add(u32::from(more));
-            }
+            let count = u32::from(count_with(counts, other, size, more));
             let other = u32::from(other);
             if other + small > capacity {
                 alone = alone.saturating_add(count);

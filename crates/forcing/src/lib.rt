@@ -7,6 +7,7 @@ mod forced;
 mod look;
 mod mixing;
 mod passes;
+mod placing;
 mod planes;
 mod replies;
 mod search;

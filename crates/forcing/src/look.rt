@@ -1,7 +1,6 @@
 //! What is asked of the items of a position: what may still come, for a search that sends no size below a least one.
 
 use pass_game::PackedLoads;
-use std::alloc::AllocError;
 
 /// What may still come.
 #[derive(Clone, Copy)]
@@ -43,7 +42,7 @@ pub(crate) trait Offline: Drop {
     fn add(&mut self, depth: usize, size: u16);
 
     /// What may still come after the items of a depth, of the sizes from a least one on.
-    fn look(&mut self, depth: usize, least: u16) -> Result<Look, AllocError>;
+    fn look(&mut self, depth: usize, least: u16) -> Look;
 
     /// A burst from these loads, after the items that were looked at last.
     fn burst(&self, loads: PackedLoads) -> Option<Burst>;

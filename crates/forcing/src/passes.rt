@@ -64,7 +64,7 @@ fn search_passes<O: Offline>(
         spare: budget,
     };
     for pass in first_pass..game.g() {
-        match search_pass(game, &mut search, pass)? {
+        match search_pass(game, &mut search, pass) {
             Visited::Holds => {}
             Visited::Spent => break,
             Visited::Wins(_) => return answer_of_win(alloc, game, &mut search, budget),
@@ -105,17 +105,13 @@ fn most_left(game: &Game) -> usize {
 }
 
 // Searches one pass from the empty position.
-fn search_pass<O: Offline>(
-    game: &Game,
-    search: &mut Search<O>,
-    pass: u16,
-) -> Result<Visited, AllocError> {
+fn search_pass<O: Offline>(game: &Game, search: &mut Search<O>, pass: u16) -> Visited {
     search.pass = pass;
     if let Some(relaxed) = &mut search.relaxed {
         relaxed.fill(pass);
     }
     let loads = PackedLoads::zero();
-    let look = search.offline.look(0, 1)?;
+    let look = search.offline.look(0, 1);
     let root = Stand {
         depth: 0,
         loads,

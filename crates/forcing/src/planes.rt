@@ -180,16 +180,16 @@ impl Offline for Planes {
         }
     }
 
-    fn look(&mut self, depth: usize, least: u16) -> Result<Look, AllocError> {
+    fn look(&mut self, depth: usize, least: u16) -> Look {
         let (rooms, profile) = self.rooms_at(depth, least);
         self.rooms = rooms;
         let [room, pair, _] = rooms;
-        Ok(Look {
+        Look {
             room,
             pair,
             big: count_large(&self.game, &rooms),
             profile,
-        })
+        }
     }
 
     fn burst(&self, loads: PackedLoads) -> Option<Burst> {

@@ -8,7 +8,6 @@ use crate::replies::Replies;
 use crate::table::{Known, Table};
 use items::Game;
 use pass_game::{PackedLoads, PassTable};
-use std::alloc::AllocError;
 
 /// A search, between its visits.
 #[derive(Drop)]
@@ -152,35 +151,35 @@ impl<O: Offline> Search<O> {
 
     /// Visits a position, from which at most so many items may still come.
     #[cycle(visiting)]
-    pub(crate) fn visit(&mut self, left: usize, stand: &Stand) -> Result<Visited, AllocError> {
+    pub(crate) fn visit(&mut self, left: usize, stand: &Stand) -> Visited {
         if left == 0 {
-            return Ok(Visited::Holds);
+            return Visited::Holds;
         }
         let before = self.spare;
         if before == 0 {
-            return Ok(Visited::Spent);
+            return Visited::Spent;
         }
         self.spare = before - 1;
         let least = self.least_size(stand.largest);
         for size in (least..stand.look.room.saturating_add(1)).rev() {
-            match self.send(left, stand, size)? {
+            match self.send(left, stand, size) {
                 Sent::Wins => {
                     let taken = before.saturating_sub(self.spare);
                     self.table.put(stand.key, Known::Wins(size), taken);
-                    return Ok(Visited::Wins(size));
+                    return Visited::Wins(size);
                 }
                 Sent::Holds => {}
-                Sent::Spent => return Ok(Visited::Spent),
+                Sent::Spent => return Visited::Spent,
             }
         }
         let taken = before.saturating_sub(self.spare);
         self.table.put(stand.key, Known::HoldsIn(self.pass), taken);
-        Ok(Visited::Holds)
+        Visited::Holds
     }
 
     // Sends a size at a position: whether the adversary wins from all loads to which it leads.
     #[cycle(visiting)]
-    fn send(&mut self, left: usize, stand: &Stand, size: u16) -> Result<Sent, AllocError>
+    fn send(&mut self, left: usize, stand: &Stand, size: u16) -> Sent
         requires { 1 ≤ left }
     {
         let largest = stand.largest.max(size);
@@ -196,20 +195,20 @@ impl<O: Offline> Search<O> {
             .saturating_sub(size);
         let big = stand.look.big.saturating_sub(large);
         if self.some_holds(&replies, big, most.min(spare), largest) {
-            return Ok(Sent::Holds);
+            return Sent::Holds;
         }
         let least = self.least_size(largest);
         self.offline.add(stand.depth, size);
         let depth = stand.depth.saturating_add(1);
-        let look = self.offline.look(depth, least)?;
+        let look = self.offline.look(depth, least);
         if replies.len() > 0 && look.room < least {
-            return Ok(Sent::Holds);
+            return Sent::Holds;
         }
         if self.some_holds(&replies, look.big, look.room, largest) {
-            return Ok(Sent::Holds);
+            return Sent::Holds;
         }
         let Some(open) = self.open(&replies, largest, &look) else {
-            return Ok(Sent::Holds);
+            return Sent::Holds;
         };
         for place in 0..open.len() {
             let next = Stand {
@@ -225,15 +224,15 @@ impl<O: Offline> Search<O> {
                 self.known(next.key)
             };
             let found = match found {
-                Visited::Spent => self.visit(left - 1, &next)?,
+                Visited::Spent => self.visit(left - 1, &next),
                 known => known,
             };
             match found {
                 Visited::Wins(_) => {}
-                Visited::Holds => return Ok(Sent::Holds),
-                Visited::Spent => return Ok(Sent::Spent),
+                Visited::Holds => return Sent::Holds,
+                Visited::Spent => return Sent::Spent,
             }
         }
-        Ok(Sent::Wins)
+        Sent::Wins
     }
 }

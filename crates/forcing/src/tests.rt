@@ -34,6 +34,9 @@ fn is_as_due(alloc: Global, row: &Row) -> Result<bool, AllocError> {
 #[test]
 fn strategies_are_found_where_the_adversary_wins(rt: HostRuntime) {
     for row in &GAMES {
-        assert!(rt; is_as_due(rt.alloc(), row).unwrap_or(false), "a row is not as it is due");
+        assert!(rt;
+            is_as_due(rt.alloc(), row).unwrap_or(false),
+            "a row is not as it is due"
+        );
     }
 }

@@ -45,7 +45,7 @@ pub(crate) fn write<O: Offline>(
     if let Some(number) = writing.book.number_of(alloc, &position)? {
         return Ok(Some(number));
     }
-    match sent_at(search, writing.path.len(), left, loads, largest)? {
+    match sent_at(search, writing.path.len(), left, loads, largest) {
         None => Ok(None),
         Some(burst) if burst.count > 0 => put_burst(search, writing, &position, burst),
         Some(single) => {
@@ -118,11 +118,11 @@ fn sent_at<O: Offline>(
     left: usize,
     loads: PackedLoads,
     largest: u16,
-) -> Result<Option<Burst>, AllocError> {
+) -> Option<Burst> {
     let least = search.least_size(largest);
-    let look = search.offline.look(depth, least)?;
+    let look = search.offline.look(depth, least);
     if let Some(burst) = search.offline.burst(loads) {
-        return Ok(Some(burst));
+        return Some(burst);
     }
     let stand = Stand {
         depth,
@@ -133,11 +133,11 @@ fn sent_at<O: Offline>(
     };
     let found = match search.known(stand.key) {
         Visited::Wins(size) => Visited::Wins(size),
-        _ => search.visit(left, &stand)?,
+        _ => search.visit(left, &stand),
     };
     match found {
-        Visited::Wins(size) => Ok(Some(Burst { size, count: 0 })),
-        _ => Ok(None),
+        Visited::Wins(size) => Some(Burst { size, count: 0 }),
+        _ => None,
     }
 }
 
@@ -208,8 +208,8 @@ fn position_of(
     Ok(Some(Position { loads, items }))
 }
 
-/// Puts so many items of a size in, as far as it is a size and the limit on their total allows.
-pub(crate) fn put_times(items: &mut Items, size: u16, count: u16) {
+// Puts so many items of a size in, as far as it is a size and the limit on their total allows.
+fn put_times(items: &mut Items, size: u16, count: u16) {
     if size == 0 || size > MOST_SIZE {
         return;
     }
