@@ -32,7 +32,7 @@ use Rattle.stretch_bench.specs.Call.{Players}
 use Rattle.stretch_bench.specs.Check.{IsAcceptedLine, accepted_line}
 use Rattle.stretch_bench.specs.Commands.{form_of, reads_by}
 use Rattle.stretch_bench.specs.Drill.{drilled}
-use Rattle.stretch_bench.specs.Due.{IsFrontRejected, IsRejected, done, rejected, rejected_front, undecided, unpackable, unscaled, unvalued, unweakened}
+use Rattle.stretch_bench.specs.Due.{IsFrontRejected, IsRejected, done, not_found, rejected, rejected_front, undecided, unpackable, unscaled, unvalued, unweakened}
 use Rattle.stretch_bench.specs.Form.{IsDone, IsRead, Reads, reads_front, reads_nothing, reads_whole}
 use Rattle.stretch_bench.specs.Lines.{rejected_line}
 use Rattle.stretch_bench.specs.Minimise.{IsMinimised}
@@ -43,14 +43,16 @@ use Rattle.stretch_bench.specs.Search.{IsFound, IsUndecided, undecided_line}
 use Rattle.stretch_bench.specs.Scale.{IsScaled, IsUnscaled, no_transfer_line}
 use Rattle.stretch_bench.specs.Weaken.{IsUnweakened, IsWeakened}
 use Rattle.stretch_bench.specs.Value.{IsUnvalued, IsValued}
+use Rattle.stretch_bench.specs.Force.{IsForcing, IsNotFound}
 use Rattle.stretch_bench.specs.Upgrade.{IsUpgraded}
 use Rattle.stretch_bench.specs.declared.command.Command.{Command}
 use Rattle.stretch_bench.specs.declared.command.Command.TheVariants.{Check, Play, Answer, Minimise, Upgrade, Report, Drill, Search, Scale, Weaken, Value}
+use Rattle.stretch_bench.specs.declared.command.Command.TheVariants.{Force}
 use Rattle.stretch_bench.specs.declared.due.Due.{Due}
 use Rattle.stretch_bench.specs.declared.due.Stop.{Stop}
 use Rattle.stretch_bench.specs.declared.due.Stop.TheVariants.{Memory}
 use Rattle.stretch_bench.specs.declared.status.Status.{Status}
-use Rattle.stretch_bench.specs.declared.status.Status.TheVariants.{Done, Rejected, Undecided, Unpackable, NoTransfer}
+use Rattle.stretch_bench.specs.declared.status.Status.TheVariants.{Done, Rejected, Undecided, Unpackable, NoTransfer, NotFound}
 use Rattle.strategy_transfer.specs.Scaled.{scaled_strategy}
 use Rattle.strategy_transfer.specs.Targets.{CanScaleStrategy, CanWeakenStrategy}
 use Rattle.strategy_transfer.specs.Weakened.{weakened_strategy}
@@ -153,6 +155,13 @@ module _ (players : Players) (left new_left : Option (List ℕ)) where
       done_with (Value bins capacity budget table) (IsValued bins capacity budget) due (λ text is. (unread, is)) with
   value_made bins capacity budget table due unread (inr with) =
       record { outcome = unvalued bins capacity budget table with.status_is refl unread with.text; writable = with.writable }
+
+  pub force_made : (game : GameNumbers) (pass budget table : ℕ) (due : Due) → new_left ≡ left
+      → IsEither Done (IsForcing game) NotFound (IsNotFound game budget) due → IsMade players left new_left (Force game pass budget table) due
+  force_made game pass budget table due unread (inl with) =
+      done_with (Force game pass budget table) (IsForcing game) due (λ text is. (unread, is)) with
+  force_made game pass budget table due unread (inr with) =
+      record { outcome = not_found game pass budget table with.status_is refl unread with.text; writable = with.writable }
 
   -- the line of a fault
   fault_by : (command : Command) (reads : Reads) (fault : CheckFault) (r : Result Due Stop) → reads_by players command ≡ reads

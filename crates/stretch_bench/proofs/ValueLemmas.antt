@@ -60,7 +60,7 @@ first_kind (Err e) status other Is Kind Other gives with = tt
 algorithm_legal_too : (strategy : Strategy) → algorithm_pools.IsLegalOfAlgorithm strategy → IsLegal strategy
 algorithm_legal_too strategy legal = (legal_of_one_side strategy).1 (inr legal)
 
-adversary_side : (format : Format) (game : GameNumbers) (nodes : Nodes) → adversary_pools.AreLegal format game nodes → side_of nodes ≡ Adversary
+pub adversary_side : (format : Format) (game : GameNumbers) (nodes : Nodes) → adversary_pools.AreLegal format game nodes → side_of nodes ≡ Adversary
 adversary_side format game (sides.Adversary list) legal = refl
 adversary_side format game (sides.Algorithm list) legal = absurd legal
 
