@@ -1,11 +1,17 @@
 -- The line of the sizes: what it is read as.
 use Rattle.std.proofs.Common.{◌≡◌, ◌≢◌, inl, inr, ℕ, ◌<◌, ◌≤◌, List, [], ◌∷◌, ◌++◌, length, map, take, drop, decimal, codes, Option, Some, None, All}
-use Rattle.std.proofs.Common.{◌==◌, false, true, sym, ap, ◌∙◌, subst, refl, arith}
-use Rattle.std.specs.Prelude.{MatchOption, nat_eq}
-use Rattle.std.specs.Cmp.Lexicographic.{pointwise}
+use Rattle.std.proofs.Common.{Bool, suc, take-append-drop, get_or, ◌==◌, ◌+◌, ◌-◌, ◌*◌, false, true, sym, ap, ◌∙◌, subst, refl, arith}
+use Rattle.std.specs.Prelude.{MatchOption, nat_eq, nat_le, slice_index}
+use Rattle.std.specs.Char.{is_ascii_digit}
+use Rattle.strategy_text.specs.Words.{digits_after, number_of}
+use Rattle.strategy_text.proofs.FirstWord.{number_empty, number_is, number_leads}
+use Rattle.strategy_text.proofs.Numerals.{number_again, number_takes}
+use Rattle.std.proofs.lemmas.Bool.{eq-eqb, eqb-true}
+use Rattle.std.specs.Cmp.Lexicographic.{pointwise, same_text}
 use Rattle.std.specs.List.{slice_split, join_with_byte, AllByRecursion}
-use Rattle.std.proofs.lemmas.List.{append-nil}
-use Rattle.std.proofs.lemmas.List.Elements.{All-nil, All-weaker, All-from_recursion, recursion_from_All}
+use Rattle.std.proofs.lemmas.List.{append-nil, get_or-map, length-map, map_push}
+use Rattle.std.proofs.Math.Seq.{take-suc}
+use Rattle.std.proofs.lemmas.List.Elements.{All-nil, All-push, All-weaker, All-from_recursion, recursion_from_All}
 use Rattle.std.proofs.lemmas.List.Splits.{join_with_byte-slice_split, length-slice_split}
 use Rattle.port_io.specs.Lines.{HasNoLf}
 use Rattle.items.specs.Game.{GameNumbers, IsGame}
@@ -148,3 +154,83 @@ pub sizes_read : (line list : List ℕ) (words : List (List ℕ)) (found : Optio
     → WordsTell words found → MatchOption found ((xs : List ℕ) → SpellsSizes line xs → ⊥) (SpellsSizes line)
 sizes_read line list words None e some split h = λ xs. none_told line list words xs e some split h
 sizes_read line list words (Some xs) e some split h = some_told line list words xs e split h.0 h.1
+
+-- ---- the digits of a number
+
+-- what is left of a word's digits gives its value, after the value so far
+pub record DigitsSoFar (value : ℕ) (left word : List ℕ) : Type 0 where
+  pub same : digits_after 65535 value left ≡ digits_after 65535 0 word
+
+pub digits_go_on : (value x : ℕ) (xs word : List ℕ) → is_ascii_digit x ≡ true → nat_le (10 * value + (x - 48)) 65535 ≡ true → DigitsSoFar value (x ∷ xs) word
+    → DigitsSoFar (10 * value + (x - 48)) xs word
+digits_go_on value x xs word d l h = let v = rw (d, l) at h.same in record { same = v }
+
+pub digits_end : (value : ℕ) (word : List ℕ) → DigitsSoFar value [] word → digits_after 65535 0 word ≡ Some value
+digits_end value word h = sym h.same
+
+pub digits_other : (value x : ℕ) (xs word : List ℕ) → is_ascii_digit x ≡ false → DigitsSoFar value (x ∷ xs) word → digits_after 65535 0 word ≡ None
+digits_other value x xs word d h = let v = rw d at h.same in sym v
+
+pub digits_above : (value x : ℕ) (xs word : List ℕ) → is_ascii_digit x ≡ true → nat_le (10 * value + (x - 48)) 65535 ≡ false → DigitsSoFar value (x ∷ xs) word
+    → digits_after 65535 0 word ≡ None
+digits_above value x xs word d l h = let v = rw (d, l) at h.same in sym v
+
+-- a word of digits without a leading zero
+pub empty_is_none : (word : List ℕ) → (length word == 0) ≡ true → number_of 65535 word ≡ None
+empty_is_none word e = number_empty 65535 word (eqb-true (length word) 0 e)
+
+pub led_is_none : (word : List ℕ) → (1 < length word) × (slice_index word 0 ≡ 48) → number_of 65535 word ≡ None
+led_is_none word led = number_leads 65535 word led.0 (eq-eqb (get_or word 0 0) 48 led.1)
+
+other_first : (word : List ℕ) (b : Bool) → (get_or word 0 0 == 48) ≡ b → ((1 < length word) × (slice_index word 0 ≡ 48) → ⊥) → 1 < length word → (get_or word 0 0 == 48) ≡ false
+other_first word true e never l = absurd (never (l, eqb-true (get_or word 0 0) 48 e))
+other_first word false e never l = e
+
+some_length : (word : List ℕ) → (length word == 0) ≡ false → 0 < length word
+some_length [] e = absurd cc
+some_length (x ∷ xs) e = omega arith
+
+pub plain_number : (word : List ℕ) (found : Option ℕ) → (length word == 0) ≡ false → ((1 < length word) × (slice_index word 0 ≡ 48) → ⊥)
+    → MatchOption found (digits_after 65535 0 word ≡ None) (λ n. digits_after 65535 0 word ≡ Some n)
+    → MatchOption found (number_of 65535 word ≡ None) (λ n. number_of 65535 word ≡ Some n)
+plain_number word found some never h =
+    subst (λ (o : Option ℕ). MatchOption found (o ≡ None) (λ n. o ≡ Some n))
+    (sym (number_is 65535 word (some_length word some) (other_first word (get_or word 0 0 == 48) refl never))) h
+
+-- words that are read one by one
+module _ {X : Type 0} (word : X → List ℕ) (words given : List X) (k : ℕ) (d : X) (same : given ≡ words) (low : k < length given) where
+  -- one that spells no number
+  pub no_number : number_of 65535 (word (get_or given k d)) ≡ None → (xs : List ℕ) → All IsNumber xs → map word words ≢ map decimal xs
+  no_number none xs each e =
+      let count : length words ≡ length xs = sym (length-map words word) ∙ ap length e ∙ length-map xs decimal in
+      let within : k < length xs = omega (arith, low, ap length same, count) in
+      let spelled : word (get_or given k d) ≡ decimal (get_or xs k 0) = ap (λ (ws : List X). word (get_or ws k d)) same
+      ∙ sym (get_or-map word words k d [] (omega (arith, low, ap length same))) ∙ ap (λ (ws : List (List ℕ)). get_or ws k []) e ∙ get_or-map decimal xs k 0 [] within in
+      let read = number_again 65535 (get_or xs k 0) (omega arith) (each k 0 within) in
+      let other : None ≡ Some (get_or xs k 0) = sym none ∙ ap (number_of 65535) spelled ∙ read in
+      absurd cc
+
+  -- one that spells a number, after others
+  pub numbers_push : (n : ℕ) (list new : List ℕ) → number_of 65535 (word (get_or given k d)) ≡ Some n → new ≡ list ++ n ∷ []
+      → (map word (take k words) ≡ map decimal list) × All IsNumber list → (map word (take (k + 1) words) ≡ map decimal new) × All IsNumber new
+  numbers_push n list new read put so_far =
+      let t = number_takes 65535 n (word (get_or given k d)) (omega arith) read in
+      let next : k + 1 ≡ suc k = omega arith in
+      let front : take (k + 1) words ≡ take k words ++ get_or words k d ∷ [] = ap (λ (i : ℕ). take i words) next ∙ take-suc words k d (omega (arith, low, ap length same)) in
+      let here : word (get_or words k d) ≡ decimal n = ap (λ (ws : List X). word (get_or ws k d)) (sym same) ∙ t.0 in (
+        ap (map word) front ∙ map_push word (take k words) (get_or words k d) ∙ ap (λ (ws : List (List ℕ)). ws ++ word (get_or words k d) ∷ []) so_far.0
+            ∙ ap (λ (w : List ℕ). map decimal list ++ w ∷ []) here ∙ sym (map_push decimal list n) ∙ ap (map decimal) (sym put),
+        subst (All IsNumber) (sym put) (All-push IsNumber list n so_far.1 t.1),
+      )
+
+-- ---- the line
+
+pub prefix_is : (line list front : List ℕ) → front ≡ codes "sizes " → pointwise nat_eq (take (length front) line) front ≡ true → list ≡ drop (length front) line
+    → line ≡ codes "sizes " ++ list
+prefix_is line list front e same rest =
+    sym (take-append-drop (length front) line) ∙ ap (λ (x : List ℕ). x ++ drop (length front) line) (same_text (take (length front) line) front (sym same) ∙ e)
+    ∙ ap (λ (x : List ℕ). codes "sizes " ++ x) (sym rest)
+
+pub no_prefix : (line front : List ℕ) → front ≡ codes "sizes " → pointwise nat_eq (take (length front) line) front ≡ false → (xs : List ℕ) → SpellsSizes line xs → ⊥
+no_prefix line front e differs =
+    no_label line (subst (λ (f : List ℕ). pointwise nat_eq (take (length f) line) f ≡ false) e differs)

@@ -232,7 +232,8 @@ fn read_sizes<S: Source>(
         (S.left source.old) (S.left source.new)) }
 {
     next_text(lines, source, 3)?;
-    let Some(list) = parse_sizes(alloc, lines.text())? else {
+    let found = parse_sizes(alloc, lines.text())?;
+    let Some(list) = found else {
         return Err(syntax(3));
     };
     let Some(sizes) = Sizes::from_slice(game, list.as_slice()) else {

@@ -251,9 +251,10 @@ pub fn check_listed<S: Source>(alloc: Global, source: &mut S) -> Result<Accepted
     ensures fault { IfErr result (λ fault. IsFaultUnder Listed [] fault (S.left source.old) (S.left source.new)) }
 {
     let head = read_whole(alloc, source, Heading::Listed, &mut Nothing {})?;
+    let sizes = head.terms.sizes().copy();
     Ok(AcceptedListed {
         game: head.terms.game(),
-        sizes: head.terms.sizes().copy(),
+        sizes,
         side: head.side,
         nodes: head.count,
     })

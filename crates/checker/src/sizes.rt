@@ -1,7 +1,7 @@
 //! The line of the sizes that items may have.
 
-ghost use Rattle.std.specs.Prelude.{◌≡◌, ◌≢◌, ◌==◌, ◌↔◌, ℕ, List, All, IfOk, IsTrue, MatchOption, None, Some};
-ghost use Rattle.std.specs.Prelude.{codes, decimal, map};
+ghost use Rattle.std.specs.Prelude.{◌≡◌, ◌≢◌, ◌==◌, ◌<◌, ◌↔◌, ℕ, List, All, IfOk, IsTrue, MatchOption, None, Some};
+ghost use Rattle.std.specs.Prelude.{codes, decimal, length, map, slice_index};
 ghost use Rattle.std.specs.List.{slice_split};
 ghost use Rattle.strategy_text.specs.Spelling.{IsNumber};
 ghost use Rattle.strategy_text.specs.Words.{digits_after, number_of};
@@ -23,7 +23,8 @@ pub(crate) fn parse_sizes(alloc: Global, line: &[u8]) -> Result<Option<Nums>, Al
         return Ok(Some(Nums::new(alloc)));
     }
     let words = words_of(alloc, list)?;
-    numbers_of(alloc, &words)
+    let found = numbers_of(alloc, &words)?;
+    Ok(found)
 }
 
 // Whether a list is a dash, which stands for no numbers.
@@ -63,13 +64,29 @@ fn number_of(word: &[u8]) -> Option<u16>
     if word.is_empty() {
         return None;
     }
-    if word.len() > 1 && word[0] == b'0' {
+    if is_led_by_zero(word) {
         return None;
     }
     digits(word)
 }
 
+// Whether a word has a zero before other bytes.
+fn is_led_by_zero(word: &[u8]) -> bool
+    ensures exact { IsTrue result ↔ (1 < length word.now) × (slice_index word.now 0 ≡ 48) }
+{
+    word.len() > 1 && word[0] == b'0'
+}
+
 // The number up to 65,535 that decimal digits spell.
+#[tactic(
+    auto,
+    using(
+        crate::proofs::SizesLemmas::digits_go_on,
+        crate::proofs::SizesLemmas::digits_end,
+        crate::proofs::SizesLemmas::digits_other,
+        crate::proofs::SizesLemmas::digits_above
+    )
+)]
 fn digits(word: &[u8]) -> Option<u16>
     ensures exact { MatchOption result
         (digits_after 65535 0 word.now ≡ None) (λ n. digits_after 65535 0 word.now ≡ Some n) }
