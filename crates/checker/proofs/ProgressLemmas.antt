@@ -1,6 +1,6 @@
 -- What was read grows by a line, and what was refused after it.
 use Rattle.std.proofs.Common.{◌≡◌, ◌∙◌, ℕ, ◌++◌, ◌∷◌, [], List, Option, Some, None, sym, ap, subst, refl, append_assoc, IfSome, IfNone, IsTrue, Bool, true, false}
-use Rattle.std.specs.Prelude.{Result, Ok, Err, IfErr, IsErrAnd}
+use Rattle.std.specs.Prelude.{Result, Ok, Err, IfErr, IsErrAnd, MatchOption}
 use Rattle.std.specs.Io.KnownBytes.{prepend_known}
 use Rattle.std.proofs.lemmas.List.{append-nil}
 use Rattle.std.proofs.lemmas.List.Elements.{All-append, All-nil, All-cons, All-head}
@@ -260,6 +260,13 @@ RefusesAfter-then first given Wrong fault old mid left mid_left new_left a b =
 pub none_met : {P : Type 0} {A : Type 0} (met : Option A) → met ≡ None → IfNone met P → P
 none_met None e h = h
 none_met (Some x) e h = absurd cc
+
+pub none_matched : {A : Type 0} (found : Option A) (P : Type 0) (Q : A → Type 0) → found ≡ None → MatchOption found P Q → P
+none_matched None P Q e h = h
+none_matched (Some x) P Q e h = absurd cc
+
+pub some_matched : {A : Type 0} (found : Option A) (x : A) (P : Type 0) (Q : A → Type 0) → found ≡ Some x → MatchOption found P Q → Q x
+some_matched {A = A} found x P Q e h = subst (λ (o : Option A). MatchOption o P Q) e h
 
 pub not_true : IsTrue false → ⊥
 not_true e = absurd cc

@@ -171,7 +171,11 @@ fn read_side<S: Source>(
     Ok(side)
 }
 
-fn read_count<S: Source>(lines: &mut LineReader, source: &mut S, line: u64) -> Result<u32, CheckFault>
+fn read_count<S: Source>(
+    lines: &mut LineReader,
+    source: &mut S,
+    line: u64,
+) -> Result<u32, CheckFault>
     requires { lines.old.ending ≡ None }
     ensures count { S.faults source.old ≤ S.faults source.new }
     ensures ok { IfOk result (λ nodes. ReadsLines (count_line nodes ∷ []) lines.old lines.new (S.left source.old)

@@ -78,15 +78,7 @@ fn is_led_by_zero(word: &[u8]) -> bool
 }
 
 // The number up to 65,535 that decimal digits spell.
-#[tactic(
-    auto,
-    using(
-        crate::proofs::SizesLemmas::digits_go_on,
-        crate::proofs::SizesLemmas::digits_end,
-        crate::proofs::SizesLemmas::digits_other,
-        crate::proofs::SizesLemmas::digits_above
-    )
-)]
+#[tactic(auto, using(crate::proofs::SizesLemmas::digits_go_on, crate::proofs::SizesLemmas::digits_end, crate::proofs::SizesLemmas::digits_other, crate::proofs::SizesLemmas::digits_above))]
 fn digits(word: &[u8]) -> Option<u16>
     ensures exact { MatchOption result
         (digits_after 65535 0 word.now ≡ None) (λ n. digits_after 65535 0 word.now ≡ Some n) }
