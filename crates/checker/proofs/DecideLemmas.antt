@@ -2,13 +2,13 @@
 use Rattle.std.proofs.Common.{◌≡◌, ◌⊎◌, ◌↔◌, inl, inr, Bool, true, false, ℕ, zero, suc, ◌+◌, ◌<◌, ◌≤◌, List, [], ◌∷◌, ◌*◌, length, get_or, All, Contains, Option, Some, None}
 use Rattle.std.proofs.Common.{⊎_elim, ap, ◌∙◌, subst, refl, arith}
 use Rattle.std.specs.Prelude.{IsTrue}
-use Rattle.std.specs.List.{slice_get, concat, sum}
+use Rattle.std.specs.List.{slice_get, slice_index, concat, sum}
 use Rattle.std.specs.List.Sorted.{IsNonDecreasing}
 use Rattle.std.proofs.lemmas.Bool.{cases_eq, cases_lt, false≢true}
 use Rattle.std.proofs.lemmas.List.{nil_from_length}
 use Rattle.std.proofs.lemmas.List.Elements.{All-nil, All-cons, All-head, All-tail}
 use Rattle.items.specs.Game.{GameNumbers, IsGame}
-use Rattle.items.specs.Multiset.{IsSize, Same, count}
+use Rattle.items.specs.Multiset.{AreSizes, IsSize, Same, count}
 use Rattle.items.specs.Packable.{bin_total, IsAssignment, IsPacking, Packable}
 use Rattle.items.proofs.MultisetLemmas.{RisesFrom, IsNonDecreasing-from_rises, RisesFrom-zero}
 use Rattle.loads.specs.Position.{position, StandsAt}
@@ -150,6 +150,20 @@ pub decided_size : (most size : ℕ) → Decided (IsSize most size)
 decided_size most size =
     decided_by ((1 ≤ size) × (size ≤ most)) (IsSize most size) (λ h. record { low = h.0; high = h.1 }) (λ h. (h.low, h.high))
     (decided_both (1 ≤ size) (size ≤ most) (decided_le 1 size) (decided_le size most))
+
+decided_some_list : (xs : List ℕ) → Decided (xs ≡ [] → ⊥)
+decided_some_list [] = inr (λ h. h refl)
+decided_some_list (x ∷ xs) = inl (λ e. absurd (omega (arith, ap length e)))
+
+-- a list of sizes
+pub decided_are_sizes : (most : ℕ) (xs : List ℕ) → Decided (AreSizes most xs)
+decided_are_sizes most xs =
+    let Rises : Type 0 = ((k : ℕ) → k + 1 < length xs → slice_index xs k < slice_index xs (k + 1)) in
+    decided_by ((xs ≡ [] → ⊥) × (Rises × All (IsSize most) xs)) (AreSizes most xs) (λ h. record { nonempty = h.0; ascending = h.1.0; sizes = h.1.1 })
+    (λ h. (h.nonempty, (h.ascending, h.sizes)))
+    (decided_both (xs ≡ [] → ⊥) (Rises × All (IsSize most) xs) (decided_some_list xs)
+    (decided_both Rises (All (IsSize most) xs) (decided_neighbours (λ k l. slice_index xs k < slice_index xs l) (λ k l. decided_lt (slice_index xs k) (slice_index xs l)) (length xs))
+    (decided_all (IsSize most) (decided_size most) xs)))
 
 pub decided_same : (xs ys : List ℕ) → Decided (Same xs ys)
 decided_same xs ys =

@@ -9,6 +9,7 @@ use Rattle.port_io.specs.Lines.{ReaderState, IsLine, HasNoLf, with_lf, longest_l
 use Rattle.port_io.proofs.NextLemmas.{with_lf-only}
 use Rattle.port_io.proofs.NextLemmas.{HasNoLf-with_lf}
 use Rattle.items.specs.Game.{GameNumbers, IsGame}
+use Rattle.items.specs.Multiset.{AreSizes, sizes_of}
 use Rattle.loads.specs.declared.position.Position.{Position}
 use Rattle.strategy_text.specs.Reading.{game_at, count_at, adversary_at, algorithm_at}
 use Rattle.strategy_text.specs.Spelling.{SpellsCount, most_child}
@@ -25,23 +26,29 @@ use Rattle.strategy_text.specs.declared.node.Side.TheVariants.{Adversary, Algori
 use Rattle.strategy_text.specs.declared.rule.Rule.TheVariants as rules
 use Rattle.strategy_text.proofs.HeadLines.{game_exact, count_exact}
 use Rattle.strategy_text.proofs.NodeLines.{adversary_line_takes, algorithm_line_takes, adversary_refused, algorithm_refused}
-use Rattle.checker.specs.Accepted.{IsFaultOf, IsTextFaultOf}
-use Rattle.checker.specs.FirstFault.{IsWanted, IsFirstLine, IsGameLine, IsSideLine, IsCountLine, HasNoFault, IsLegalText}
+use Rattle.checker.specs.Accepted.{IsFaultUnder, IsTextFaultUnder}
+use Rattle.checker.specs.FirstFault.{IsWanted, IsFirstLine, IsFormatOf, IsGameLine, IsSizesLine, IsSideLine, IsCountLine, HasNoFault, IsLegalText}
+use Rattle.checker.specs.FirstFault.{first_of, side_place, wanted_of}
+use Rattle.checker.specs.Listed.{IsLegalListedText, listed_head_lines, listed_line}
 use Rattle.strategies.specs.AnyNode.{position_of}
-use Rattle.checker.specs.Head.{Head, head_of_game, SpellsUnder, IsNodeLine, IsBrokenNodeLine}
-use Rattle.checker.specs.Laws.{HasFirstFault, EveryTextHasAFirstFaultOrNone, OnlyLegalTextsHaveNoFault}
-use Rattle.checker.specs.Progress.{StandFirst, HasNext, IsWrongNext, IsWrongAfter, RefusesAfter, IsPastEnd, NoRule, BreaksGame, BreaksSide, IsHead, lines_of_head, AreJudged}
+use Rattle.checker.specs.Head.{Head, SpellsUnder, IsNodeLine}
+use Rattle.checker.specs.Laws.{HasFirstFault, EveryTextHasAFirstFaultOrNone, OnlyLegalListedTextsHaveNoFault, OnlyLegalTextsHaveNoFault}
+use Rattle.checker.specs.Progress.{StandFirst, HasNext, IsWrongNext, IsWrongAfter, RefusesAfter, IsPastEnd, NoRule, BreaksGame, BreaksSizes, BreaksSide, BreaksNode, IsFront, IsHead}
+use Rattle.checker.specs.Progress.{front_lines, lines_of_head, AreJudged}
 use Rattle.checker.specs.declared.fault.CheckFault.{CheckFault}
 use Rattle.checker.specs.declared.fault.CheckFault.TheVariants.{Rejected, Read}
+use Rattle.checker.specs.declared.fault.Heading.{Heading}
+use Rattle.checker.specs.declared.fault.Heading.TheVariants as headings
 use Rattle.checker.specs.declared.fault.Wanted.{Wanted}
 use Rattle.checker.specs.declared.fault.Wanted.TheVariants.{Either, Only}
 use Rattle.checker.specs.declared.fault.Why.{Why}
 use Rattle.checker.specs.declared.fault.Why.TheVariants as why
 use Rattle.checker.proofs.NodeLemmas.{AreJudged-none, AreJudged-push, node_lines_push}
-use Rattle.checker.proofs.FaultLemmas.{exit_first, exit_game, exit_side, exit_count, exit_node, exit_end, exit_past, lines_of_text}
-use Rattle.checker.proofs.TextLemmas.{legal_from, nodes_kept}
-use Rattle.checker.proofs.LegalText.{legal_text_has_no_fault}
-use Rattle.checker.proofs.DecideLemmas.{Decided, decided_by, decided_le, decided_lists, decided_game}
+use Rattle.checker.proofs.SizesLemmas.{decided_sizes}
+use Rattle.checker.proofs.FaultLemmas.{exit_first, exit_game, exit_sizes, exit_side, exit_count, exit_node, exit_end, exit_past, lines_of_text}
+use Rattle.checker.proofs.TextLemmas.{legal_from, legal_strategy_from, nodes_kept}
+use Rattle.checker.proofs.LegalText.{legal_text_has_no_fault, listed_text_has_no_fault}
+use Rattle.checker.proofs.DecideLemmas.{Decided, decided_by, decided_are_sizes, decided_le, decided_lists, decided_game}
 use Rattle.checker.proofs.DecideRules.{IsJudged, judged_node}
 
 -- ---- the next line
@@ -88,13 +95,14 @@ neither_first : (line : List ℕ) → (line ≡ first_line One → ⊥) → (lin
 neither_first line one two One e = one e
 neither_first line one two Two e = two e
 
-first_from : (line : List ℕ) → Decided (line ≡ first_line One) → Decided (line ≡ first_line Two) → Decided (IsFirstLine line)
-first_from line (inl e) d = inl (One, e)
-first_from line (inr one) (inl e) = inl (Two, e)
-first_from line (inr one) (inr two) = inr (λ h. neither_first line one two h.0 h.1)
+first_from : (wanted : Wanted) (line : List ℕ) → Decided (line ≡ first_line One) → Decided (line ≡ first_line Two) → Decided (IsFirstLine (headings.Strategy wanted) line)
+first_from wanted line (inl e) d = inl (One, tt, e)
+first_from wanted line (inr one) (inl e) = inl (Two, tt, e)
+first_from wanted line (inr one) (inr two) = inr (λ h. neither_first line one two h.0 h.2)
 
-decided_first : (line : List ℕ) → Decided (IsFirstLine line)
-decided_first line = first_from line (decided_lists line (first_line One)) (decided_lists line (first_line Two))
+decided_first : (heading : Heading) (line : List ℕ) → Decided (IsFirstLine heading line)
+decided_first (headings.Strategy wanted) line = first_from wanted line (decided_lists line (first_line One)) (decided_lists line (first_line Two))
+decided_first headings.Listed line = decided_by (line ≡ listed_line) (IsFirstLine headings.Listed line) (λ e. (One, refl, e)) (λ h. h.2) (decided_lists line listed_line)
 
 neither_side : (line : List ℕ) → (line ≡ side_line Adversary → ⊥) → (line ≡ side_line Algorithm → ⊥) → (side : Side) → line ≡ side_line side → ⊥
 neither_side line one two Adversary e = one e
@@ -161,9 +169,14 @@ decided_node head number line le is = node_by_side head number line le is head.s
 
 -- ---- what a text comes to
 
--- a text has a first fault, or it is that of a legal strategy of a wanted side
-abbrev Outcome : Wanted → List ℕ → Type 0
-Outcome wanted bytes = HasFirstFault wanted bytes ⊎ IsLegalText wanted bytes
+-- the text of a legal strategy of a wanted side, or with listed sizes
+abbrev IsTextUnder : Heading → List ℕ → Type 0
+IsTextUnder (headings.Strategy wanted) bytes = IsLegalText wanted bytes
+IsTextUnder headings.Listed bytes = IsLegalListedText bytes
+
+-- a text has a first fault, or it is that of a legal strategy
+abbrev Outcome : Heading → List ℕ → Type 0
+Outcome heading bytes = HasFirstFault heading bytes ⊎ IsTextUnder heading bytes
 
 -- nothing is held
 abbrev nothing : ReaderState
@@ -179,11 +192,11 @@ refused given Wrong line cause bytes w = record {
   no_line = λ e. (let other : Rejected line cause ≡ Read = e in absurd cc);
 }
 
-fault_from : (wanted : Wanted) (bytes : List ℕ) (line : ℕ) (cause : Why) → IsFaultOf wanted [] (Rejected line cause) (Some bytes) (Some []) → Outcome wanted bytes
-fault_from wanted bytes line cause r = inl (line, cause, r.first_of_input)
+fault_from : (heading : Heading) (bytes : List ℕ) (line : ℕ) (cause : Why) → IsFaultUnder heading [] (Rejected line cause) (Some bytes) (Some []) → Outcome heading bytes
+fault_from heading bytes line cause r = inl (line, cause, r.first_of_input)
 
-text_fault_from : (wanted : Wanted) (bytes : List ℕ) (line : ℕ) (cause : Why) → IsTextFaultOf wanted [] (Rejected line cause) (Some bytes) (Some []) → Outcome wanted bytes
-text_fault_from wanted bytes line cause r = fault_from wanted bytes line cause r.rejects
+text_fault_from : (heading : Heading) (bytes : List ℕ) (line : ℕ) (cause : Why) → IsTextFaultUnder heading [] (Rejected line cause) (Some bytes) (Some []) → Outcome heading bytes
+text_fault_from heading bytes line cause r = fault_from heading bytes line cause r.rejects
 
 StandFirst-push : (given : List (List ℕ)) (line bytes rest more : List ℕ) → StandFirst given bytes rest → IsLine line → rest ≡ with_lf line ++ more
     → StandFirst (given ++ line ∷ []) bytes more
@@ -197,187 +210,251 @@ StandFirst-push given line bytes rest more s is e =
 
 -- ---- after the nodes
 
-legal_kept : (wanted : Wanted) (head : Head) (kept : Nodes) (bytes : List ℕ) → IsHead wanted head → side_of kept ≡ head.side
-    → AreJudged head (nodes_of kept) → length (nodes_of kept) ≡ head.count → StandFirst (lines_of_text head (nodes_of kept)) bytes []
-    → IsLegalText wanted bytes
-legal_kept wanted head kept bytes is side judged number stood =
+legal_kept : (heading : Heading) (head : Head) (kept : Nodes) (bytes : List ℕ) → IsHead heading head → side_of kept ≡ head.side
+    → AreJudged head (nodes_of kept) → length (nodes_of kept) ≡ head.count → StandFirst (lines_of_text heading head (nodes_of kept)) bytes []
+    → IsTextUnder heading bytes
+legal_kept (headings.Strategy wanted) head kept bytes is side judged number stood =
     let tail : List (List ℕ) = node_lines 0 (nodes_of kept) ++ end_line ∷ [] in
     record {
       strategy = record { format = head.format; game = head.game; nodes = kept };
-      legal = legal_from wanted head kept is number judged;
+      legal = legal_strategy_from wanted head kept is number judged;
       wanted_side = subst (IsWanted wanted) (sym side) is.wanted_side;
-      spelled = stood.split ∙ append-nil (text_of_lines (lines_of_text head (nodes_of kept)))
+      spelled = stood.split ∙ append-nil (text_of_lines (lines_of_text (headings.Strategy wanted) head (nodes_of kept)))
           ∙ ap (λ (s : Side). text_of_lines (head_lines head.format head.game s head.count ++ tail)) (sym side)
           ∙ ap (λ (n : ℕ). text_of_lines (head_lines head.format head.game (side_of kept) n ++ tail)) (sym number);
     }
+legal_kept headings.Listed head kept bytes is side judged number stood =
+    let tail : List (List ℕ) = node_lines 0 (nodes_of kept) ++ end_line ∷ [] in
+    record {
+      sizes = head.sizes;
+      strategy = record { format = head.format; game = head.game; nodes = kept };
+      legal = record { of_format = is.front.of_format; are_sizes = is.front.of_sizes; nodes = legal_from headings.Listed head kept is number judged };
+      spelled = stood.split ∙ append-nil (text_of_lines (lines_of_text headings.Listed head (nodes_of kept)))
+          ∙ ap (λ (s : Side). text_of_lines (listed_head_lines head.game head.sizes s head.count ++ tail)) (sym side)
+          ∙ ap (λ (n : ℕ). text_of_lines (listed_head_lines head.game head.sizes (side_of kept) n ++ tail)) (sym number);
+    }
 
-legal_from_nodes : (wanted : Wanted) (head : Head) (list : List AnyNode) (bytes : List ℕ) → IsHead wanted head → AreJudged head list
-    → length list ≡ head.count → StandFirst (lines_of_text head list) bytes [] → IsLegalText wanted bytes
-legal_from_nodes wanted head list bytes is judged number stood =
+legal_from_nodes : (heading : Heading) (head : Head) (list : List AnyNode) (bytes : List ℕ) → IsHead heading head → AreJudged head list
+    → length list ≡ head.count → StandFirst (lines_of_text heading head list) bytes [] → IsTextUnder heading bytes
+legal_from_nodes heading head list bytes is judged number stood =
     let kept = nodes_kept head.side list (λ k node e. (judged.spelled k node e).side) in
-    legal_kept wanted head kept.0 bytes is kept.2 (subst (λ (ns : List AnyNode). AreJudged head ns) (sym kept.1) judged)
-    (subst (λ (ns : List AnyNode). length ns ≡ head.count) (sym kept.1) number) (subst (λ (ns : List AnyNode). StandFirst (lines_of_text head ns) bytes []) (sym kept.1) stood)
+    legal_kept heading head kept.0 bytes is kept.2 (subst (λ (ns : List AnyNode). AreJudged head ns) (sym kept.1) judged)
+    (subst (λ (ns : List AnyNode). length ns ≡ head.count) (sym kept.1) number) (subst (λ (ns : List AnyNode). StandFirst (lines_of_text heading head ns) bytes []) (sym kept.1) stood)
 
-past_step : (wanted : Wanted) (head : Head) (list : List AnyNode) (bytes rest : List ℕ) → IsHead wanted head → AreJudged head list
-    → length list ≡ head.count → StandFirst (lines_of_text head list) bytes rest → Outcome wanted bytes
-past_step wanted head list bytes [] is judged number stood = inr (legal_from_nodes wanted head list bytes is judged number stood)
-past_step wanted head list bytes (c ∷ cs) is judged number stood =
+past_step : (heading : Heading) (head : Head) (list : List AnyNode) (bytes rest : List ℕ) → IsHead heading head → AreJudged head list
+    → length list ≡ head.count → StandFirst (lines_of_text heading head list) bytes rest → Outcome heading bytes
+past_step heading head list bytes [] is judged number stood = inr (legal_from_nodes heading head list bytes is judged number stood)
+past_step heading head list bytes (c ∷ cs) is judged number stood =
     let place : ℕ = head.start + head.count + 1 in
     let some : c ∷ cs ≢ [] = λ e. absurd (omega (arith, ap length e)) in
-    fault_from wanted bytes place why.Syntax
-    (exit_past wanted head list (Rejected place why.Syntax) nothing (Some bytes) (Some []) is judged number
-    (refused (lines_of_text head list) (IsPastEnd place) place why.Syntax bytes (c ∷ cs, stood, (refl, some))))
+    fault_from heading bytes place why.Syntax
+    (exit_past heading head list (Rejected place why.Syntax) nothing (Some bytes) (Some []) is judged number
+    (refused (lines_of_text heading head list) (IsPastEnd place) place why.Syntax bytes (c ∷ cs, stood, (refl, some))))
 
-end_step : (wanted : Wanted) (head : Head) (list : List AnyNode) (bytes rest : List ℕ) → IsHead wanted head → AreJudged head list
-    → length list ≡ head.count → StandFirst (lines_of_head head ++ node_lines 0 list) bytes rest → Decided (HasNext (λ line. line ≡ end_line) rest)
-    → Outcome wanted bytes
-end_step wanted head list bytes rest is judged number stood (inr never) =
+end_step : (heading : Heading) (head : Head) (list : List AnyNode) (bytes rest : List ℕ) → IsHead heading head → AreJudged head list
+    → length list ≡ head.count → StandFirst (lines_of_head heading head ++ node_lines 0 list) bytes rest → Decided (HasNext (λ line. line ≡ end_line) rest)
+    → Outcome heading bytes
+end_step heading head list bytes rest is judged number stood (inr never) =
     let place : ℕ = head.start + head.count in
-    text_fault_from wanted bytes place why.Syntax
-    (exit_end wanted head list (Rejected place why.Syntax) nothing (Some bytes) (Some []) is judged number
-    (refused (lines_of_head head ++ node_lines 0 list) (IsWrongNext place (λ line. line ≡ end_line) NoRule) place why.Syntax bytes (rest, stood, (refl, never))))
-end_step wanted head list bytes rest is judged number stood (inl next) =
-    let pushed = StandFirst-push (lines_of_head head ++ node_lines 0 list) next.line bytes rest next.rest stood next.whole next.split in
-    past_step wanted head list bytes next.rest is judged number
-    (subst (λ (line : List ℕ). StandFirst ((lines_of_head head ++ node_lines 0 list) ++ line ∷ []) bytes next.rest) next.form pushed)
+    text_fault_from heading bytes place why.Syntax
+    (exit_end heading head list (Rejected place why.Syntax) nothing (Some bytes) (Some []) is judged number
+    (refused (lines_of_head heading head ++ node_lines 0 list) (IsWrongNext place (λ line. line ≡ end_line) NoRule) place why.Syntax bytes (rest, stood, (refl, never))))
+end_step heading head list bytes rest is judged number stood (inl next) =
+    let pushed = StandFirst-push (lines_of_head heading head ++ node_lines 0 list) next.line bytes rest next.rest stood next.whole next.split in
+    past_step heading head list bytes next.rest is judged number
+    (subst (λ (line : List ℕ). StandFirst (lines_of_head heading head ++ (node_lines 0 list ++ line ∷ [])) bytes next.rest) next.form
+    (subst (λ (ls : List (List ℕ)). StandFirst ls bytes next.rest) (append_assoc (lines_of_head heading head) (node_lines 0 list) (next.line ∷ [])) pushed))
 
 -- ---- the nodes
 
 -- the rest of the text, after one more node
-abbrev OneMore : Wanted → Head → List AnyNode → List ℕ → Type 0
-OneMore wanted head list bytes =
-    (node : AnyNode) (rest : List ℕ) → AreJudged head (list ++ node ∷ []) → StandFirst (lines_of_head head ++ node_lines 0 (list ++ node ∷ [])) bytes rest → Outcome wanted bytes
+abbrev OneMore : Heading → Head → List AnyNode → List ℕ → Type 0
+OneMore heading head list bytes =
+    (node : AnyNode) (rest : List ℕ) → AreJudged head (list ++ node ∷ []) → StandFirst (lines_of_head heading head ++ node_lines 0 (list ++ node ∷ [])) bytes rest → Outcome heading bytes
 
-judged_step : (wanted : Wanted) (head : Head) (list : List AnyNode) (bytes rest : List ℕ) → IsHead wanted head → AreJudged head list
-    → length list < head.count → StandFirst (lines_of_head head ++ node_lines 0 list) bytes rest → OneMore wanted head list bytes
+judged_step : (heading : Heading) (head : Head) (list : List AnyNode) (bytes rest : List ℕ) → IsHead heading head → AreJudged head list
+    → length list < head.count → StandFirst (lines_of_head heading head ++ node_lines 0 list) bytes rest → OneMore heading head list bytes
     → (next : HasNext (IsNodeLine head (length list)) rest)
-    → IsJudged head (map position_of list) (length (map position_of list) + 1 == head.count) next.form.0 → Outcome wanted bytes
-judged_step wanted head list bytes rest is judged few stood more next (inr broken) =
+    → IsJudged head (map position_of list) (length (map position_of list) + 1 == head.count) next.form.0 → Outcome heading bytes
+judged_step heading head list bytes rest is judged few stood more next (inr broken) =
     let place : ℕ = head.start + length list in
     let under : SpellsUnder head (length (map position_of list)) next.line next.form.0 =
     subst (λ (i : ℕ). SpellsUnder head i next.line next.form.0) (sym (length-map list position_of)) next.form.1 in
-    text_fault_from wanted bytes place (why.Rule broken.0)
-    (exit_node wanted head list (Rejected place (why.Rule broken.0)) nothing (Some bytes) (Some []) is judged few
-    (refused (lines_of_head head ++ node_lines 0 list) (IsWrongNext place (IsNodeLine head (length list)) (IsBrokenNodeLine head (map position_of list))) place
+    text_fault_from heading bytes place (why.Rule broken.0)
+    (exit_node heading head list (Rejected place (why.Rule broken.0)) nothing (Some bytes) (Some []) is judged few
+    (refused (lines_of_head heading head ++ node_lines 0 list) (IsWrongNext place (IsNodeLine head (length list)) (BreaksNode head (map position_of list))) place
     (why.Rule broken.0) bytes
     (rest, stood, (refl, record { line = next.line; rest = next.rest; whole = next.whole; split = next.split; form = (next.form.0, under, broken.1) }))))
-judged_step wanted head list bytes rest is judged few stood more next (inl meets) =
+judged_step heading head list bytes rest is judged few stood more next (inl meets) =
     let node = next.form.0 in
     let earlier : List Position = map position_of list in
     let under : SpellsUnder head (length earlier) next.line node = subst (λ (i : ℕ). SpellsUnder head i next.line node) (sym (length-map list position_of)) next.form.1 in
     let all = AreJudged-push head list node earlier (earlier ++ position_of node ∷ []) next.line refl judged (record { under = under; meets = meets; put = refl }) in
-    let pushed = StandFirst-push (lines_of_head head ++ node_lines 0 list) next.line bytes rest next.rest stood next.whole next.split in
+    let pushed = StandFirst-push (lines_of_head heading head ++ node_lines 0 list) next.line bytes rest next.rest stood next.whole next.split in
     let at : length list ≡ 0 + length list = omega arith in
     let lines : node_lines 0 list ++ next.line ∷ [] ≡ node_lines 0 (list ++ node ∷ []) =
     ap (λ (line : List ℕ). node_lines 0 list ++ line ∷ []) (next.form.1.spells.spelled ∙ ap (λ (i : ℕ). node_line i node) at) ∙ sym (node_lines_push 0 list node) in
-    more node next.rest all (subst (λ (ls : List (List ℕ)). StandFirst (lines_of_head head ++ ls) bytes next.rest) lines pushed)
+    more node next.rest all (subst (λ (ls : List (List ℕ)). StandFirst (lines_of_head heading head ++ ls) bytes next.rest) lines
+    (subst (λ (ls : List (List ℕ)). StandFirst ls bytes next.rest) (append_assoc (lines_of_head heading head) (node_lines 0 list) (next.line ∷ [])) pushed))
 
-node_step : (wanted : Wanted) (head : Head) (list : List AnyNode) (bytes rest : List ℕ) → IsHead wanted head → AreJudged head list
-    → length list < head.count → StandFirst (lines_of_head head ++ node_lines 0 list) bytes rest → OneMore wanted head list bytes
-    → Decided (HasNext (IsNodeLine head (length list)) rest) → Outcome wanted bytes
-node_step wanted head list bytes rest is judged few stood more (inr never) =
+node_step : (heading : Heading) (head : Head) (list : List AnyNode) (bytes rest : List ℕ) → IsHead heading head → AreJudged head list
+    → length list < head.count → StandFirst (lines_of_head heading head ++ node_lines 0 list) bytes rest → OneMore heading head list bytes
+    → Decided (HasNext (IsNodeLine head (length list)) rest) → Outcome heading bytes
+node_step heading head list bytes rest is judged few stood more (inr never) =
     let place : ℕ = head.start + length list in
-    text_fault_from wanted bytes place why.Syntax
-    (exit_node wanted head list (Rejected place why.Syntax) nothing (Some bytes) (Some []) is judged few
-    (refused (lines_of_head head ++ node_lines 0 list) (IsWrongNext place (IsNodeLine head (length list)) (IsBrokenNodeLine head (map position_of list))) place why.Syntax bytes
+    text_fault_from heading bytes place why.Syntax
+    (exit_node heading head list (Rejected place why.Syntax) nothing (Some bytes) (Some []) is judged few
+    (refused (lines_of_head heading head ++ node_lines 0 list) (IsWrongNext place (IsNodeLine head (length list)) (BreaksNode head (map position_of list))) place why.Syntax bytes
     (rest, stood, (refl, never))))
-node_step wanted head list bytes rest is judged few stood more (inl next) =
-    judged_step wanted head list bytes rest is judged few stood more next (judged_node head (map position_of list) (length (map position_of list) + 1 == head.count) next.form.0)
+node_step heading head list bytes rest is judged few stood more (inl next) =
+    judged_step heading head list bytes rest is judged few stood more next (judged_node head (map position_of list) (length (map position_of list) + 1 == head.count) next.form.0)
 
-nodes_step : (left : ℕ) (wanted : Wanted) (head : Head) (list : List AnyNode) (bytes rest : List ℕ) → IsHead wanted head → AreJudged head list
-    → length list + left ≡ head.count → StandFirst (lines_of_head head ++ node_lines 0 list) bytes rest → Outcome wanted bytes
-nodes_step zero wanted head list bytes rest is judged number stood =
-    end_step wanted head list bytes rest is judged (omega (arith, number)) stood (decided_next (λ line. line ≡ end_line) (λ line whole. decided_lists line end_line) rest)
-nodes_step (suc left) wanted head list bytes rest is judged number stood =
-    node_step wanted head list bytes rest is judged (omega (arith, number)) stood
-    (λ node more all stands. nodes_step left wanted head (list ++ node ∷ []) bytes more is all (omega (arith, number, length_push list node)) stands)
+nodes_step : (left : ℕ) (heading : Heading) (head : Head) (list : List AnyNode) (bytes rest : List ℕ) → IsHead heading head → AreJudged head list
+    → length list + left ≡ head.count → StandFirst (lines_of_head heading head ++ node_lines 0 list) bytes rest → Outcome heading bytes
+nodes_step zero heading head list bytes rest is judged number stood =
+    end_step heading head list bytes rest is judged (omega (arith, number)) stood (decided_next (λ line. line ≡ end_line) (λ line whole. decided_lists line end_line) rest)
+nodes_step (suc left) heading head list bytes rest is judged number stood =
+    node_step heading head list bytes rest is judged (omega (arith, number)) stood
+    (λ node more all stands. nodes_step left heading head (list ++ node ∷ []) bytes more is all (omega (arith, number, length_push list node)) stands)
     (decided_next (IsNodeLine head (length list)) (λ line whole. decided_node head (length list) line (omega (arith, number, is.high)) whole) rest)
 
 -- ---- the head lines
 
-count_step : (wanted : Wanted) (format : Format) (game : GameNumbers) (side : Side) (bytes rest : List ℕ) → IsGame game → IsWanted wanted side
-    → StandFirst (first_line format ∷ game_line game ∷ side_line side ∷ []) bytes rest → Decided (HasNext IsCountLine rest) → Outcome wanted bytes
-count_step wanted format game side bytes rest of_game of_side stood (inr never) =
-    text_fault_from wanted bytes 4 why.Syntax
-    (exit_count wanted format game side (Rejected 4 why.Syntax) nothing (Some bytes) (Some []) of_game of_side
-    (refused (first_line format ∷ game_line game ∷ side_line side ∷ []) (IsWrongNext 4 IsCountLine NoRule) 4 why.Syntax bytes (rest, stood, (refl, never))))
-count_step wanted format game side bytes rest of_game of_side stood (inl next) =
+count_step : (heading : Heading) (format : Format) (game : GameNumbers) (sizes : List ℕ) (side : Side) (bytes rest : List ℕ) → IsFront heading format game sizes
+    → IsWanted (wanted_of heading) side → StandFirst (front_lines heading format game sizes ++ side_line side ∷ []) bytes rest → Decided (HasNext IsCountLine rest)
+    → Outcome heading bytes
+count_step heading format game sizes side bytes rest is_front of_side stood (inr never) =
+    let place : ℕ = side_place heading + 1 in
+    text_fault_from heading bytes place why.Syntax
+    (exit_count heading format game sizes side (Rejected place why.Syntax) nothing (Some bytes) (Some []) is_front of_side
+    (refused (front_lines heading format game sizes ++ side_line side ∷ []) (IsWrongNext place IsCountLine NoRule) place why.Syntax bytes (rest, stood, (refl, never))))
+count_step heading format game sizes side bytes rest is_front of_side stood (inl next) =
     let count = next.form.0 in
     let spells : SpellsCount next.line count = next.form.1 in
-    let head : Head = head_of_game format game side count in
-    let is : IsHead wanted head = record { of_game = of_game; wanted_side = of_side; low = spells.low; high = spells.high; whole_game = refl; start = refl } in
-    let pushed = StandFirst-push (first_line format ∷ game_line game ∷ side_line side ∷ []) next.line bytes rest next.rest stood next.whole next.split in
-    nodes_step count wanted head [] bytes next.rest is (AreJudged-none head) (omega arith)
-    (subst (λ (line : List ℕ). StandFirst (first_line format ∷ game_line game ∷ side_line side ∷ line ∷ []) bytes next.rest) spells.spelled pushed)
+    let head : Head = record { format = format; game = game; sizes = sizes; side = side; count = count; start = side_place heading + 2 } in
+    let is : IsHead heading head = record { front = is_front; wanted_side = of_side; low = spells.low; high = spells.high; start = refl } in
+    let front : List (List ℕ) = front_lines heading format game sizes in
+    let pushed = StandFirst-push (front ++ side_line side ∷ []) next.line bytes rest next.rest stood next.whole next.split in
+    nodes_step count heading head [] bytes next.rest is (AreJudged-none head) (omega arith)
+    (subst (λ (lines : List (List ℕ)). StandFirst lines bytes next.rest) (sym (append-nil (lines_of_head heading head)))
+    (subst (λ (line : List ℕ). StandFirst (front ++ side_line side ∷ line ∷ []) bytes next.rest) spells.spelled
+    (subst (λ (lines : List (List ℕ)). StandFirst lines bytes next.rest) (append_assoc front (side_line side ∷ []) (next.line ∷ [])) pushed)))
 
-wanted_step : (wanted : Wanted) (format : Format) (game : GameNumbers) (bytes rest : List ℕ) → IsGame game
-    → StandFirst (first_line format ∷ game_line game ∷ []) bytes rest → (next : HasNext IsSideLine rest) → Decided (IsWanted wanted next.form.0)
-    → Outcome wanted bytes
-wanted_step wanted format game bytes rest of_game stood next (inr other) =
-    text_fault_from wanted bytes 3 (why.Rule rules.Side)
-    (exit_side wanted format game (Rejected 3 (why.Rule rules.Side)) nothing (Some bytes) (Some []) of_game
-    (refused (first_line format ∷ game_line game ∷ []) (IsWrongNext 3 IsSideLine (BreaksSide wanted)) 3 (why.Rule rules.Side) bytes
+wanted_step : (heading : Heading) (format : Format) (game : GameNumbers) (sizes : List ℕ) (bytes rest : List ℕ) → IsFront heading format game sizes
+    → StandFirst (front_lines heading format game sizes) bytes rest → (next : HasNext IsSideLine rest) → Decided (IsWanted (wanted_of heading) next.form.0)
+    → Outcome heading bytes
+wanted_step heading format game sizes bytes rest is_front stood next (inr other) =
+    let place : ℕ = side_place heading in
+    text_fault_from heading bytes place (why.Rule rules.Side)
+    (exit_side heading format game sizes (Rejected place (why.Rule rules.Side)) nothing (Some bytes) (Some []) is_front
+    (refused (front_lines heading format game sizes) (IsWrongNext place IsSideLine (BreaksSide (wanted_of heading))) place (why.Rule rules.Side) bytes
     (rest, stood, (refl, record { line = next.line; rest = next.rest; whole = next.whole; split = next.split; form = (refl, (next.form.0, next.form.1, other)) }))))
-wanted_step wanted format game bytes rest of_game stood next (inl of_side) =
-    let pushed = StandFirst-push (first_line format ∷ game_line game ∷ []) next.line bytes rest next.rest stood next.whole next.split in
-    count_step wanted format game next.form.0 bytes next.rest of_game of_side
-    (subst (λ (line : List ℕ). StandFirst (first_line format ∷ game_line game ∷ line ∷ []) bytes next.rest) next.form.1 pushed)
+wanted_step heading format game sizes bytes rest is_front stood next (inl of_side) =
+    let front : List (List ℕ) = front_lines heading format game sizes in
+    let pushed = StandFirst-push front next.line bytes rest next.rest stood next.whole next.split in
+    count_step heading format game sizes next.form.0 bytes next.rest is_front of_side
+    (subst (λ (line : List ℕ). StandFirst (front ++ line ∷ []) bytes next.rest) next.form.1 pushed)
     (decided_next IsCountLine (λ line whole. decided_count line) next.rest)
 
-side_step : (wanted : Wanted) (format : Format) (game : GameNumbers) (bytes rest : List ℕ) → IsGame game
-    → StandFirst (first_line format ∷ game_line game ∷ []) bytes rest → Decided (HasNext IsSideLine rest) → Outcome wanted bytes
-side_step wanted format game bytes rest of_game stood (inr never) =
-    text_fault_from wanted bytes 3 why.Syntax
-    (exit_side wanted format game (Rejected 3 why.Syntax) nothing (Some bytes) (Some []) of_game
-    (refused (first_line format ∷ game_line game ∷ []) (IsWrongNext 3 IsSideLine (BreaksSide wanted)) 3 why.Syntax bytes (rest, stood, (refl, never))))
-side_step wanted format game bytes rest of_game stood (inl next) = wanted_step wanted format game bytes rest of_game stood next (decided_wanted wanted next.form.0)
+side_step : (heading : Heading) (format : Format) (game : GameNumbers) (sizes : List ℕ) (bytes rest : List ℕ) → IsFront heading format game sizes
+    → StandFirst (front_lines heading format game sizes) bytes rest → Decided (HasNext IsSideLine rest) → Outcome heading bytes
+side_step heading format game sizes bytes rest is_front stood (inr never) =
+    let place : ℕ = side_place heading in
+    text_fault_from heading bytes place why.Syntax
+    (exit_side heading format game sizes (Rejected place why.Syntax) nothing (Some bytes) (Some []) is_front
+    (refused (front_lines heading format game sizes) (IsWrongNext place IsSideLine (BreaksSide (wanted_of heading))) place why.Syntax bytes (rest, stood, (refl, never))))
+side_step heading format game sizes bytes rest is_front stood (inl next) =
+    wanted_step heading format game sizes bytes rest is_front stood next (decided_wanted (wanted_of heading) next.form.0)
 
-range_step : (wanted : Wanted) (format : Format) (bytes rest : List ℕ) → StandFirst (first_line format ∷ []) bytes rest
-    → (next : HasNext IsGameLine rest) → Decided (IsGame next.form.0) → Outcome wanted bytes
-range_step wanted format bytes rest stood next (inr outside) =
-    text_fault_from wanted bytes 2 (why.Rule rules.Game)
-    (exit_game wanted format (Rejected 2 (why.Rule rules.Game)) nothing (Some bytes) (Some [])
-    (refused (first_line format ∷ []) (IsWrongNext 2 IsGameLine BreaksGame) 2 (why.Rule rules.Game) bytes
+side_decided : (heading : Heading) (format : Format) (game : GameNumbers) (sizes : List ℕ) (bytes rest : List ℕ) → IsFront heading format game sizes
+    → StandFirst (front_lines heading format game sizes) bytes rest → Outcome heading bytes
+side_decided heading format game sizes bytes rest is_front stood =
+    side_step heading format game sizes bytes rest is_front stood (decided_next IsSideLine (λ line whole. decided_side line) rest)
+
+listed_step : (format : Format) (game : GameNumbers) (bytes rest : List ℕ) → IsFormatOf headings.Listed format → IsGame game
+    → StandFirst (listed_line ∷ game_line game ∷ []) bytes rest → (next : HasNext IsSizesLine rest) → Decided (AreSizes game.capacity next.form.0)
+    → Outcome headings.Listed bytes
+listed_step format game bytes rest of_format of_game stood next (inr other) =
+    text_fault_from headings.Listed bytes 3 why.Sizes
+    (exit_sizes headings.Listed format game (Rejected 3 why.Sizes) nothing (Some bytes) (Some []) refl of_format of_game
+    (refused (listed_line ∷ game_line game ∷ []) (IsWrongNext 3 IsSizesLine (BreaksSizes game)) 3 why.Sizes bytes
+    (rest, stood, (refl, record { line = next.line; rest = next.rest; whole = next.whole; split = next.split; form = (refl, (next.form.0, next.form.1, other)) }))))
+listed_step format game bytes rest of_format of_game stood next (inl of_sizes) =
+    let pushed = StandFirst-push (listed_line ∷ game_line game ∷ []) next.line bytes rest next.rest stood next.whole next.split in
+    side_decided headings.Listed format game next.form.0 bytes next.rest (record { of_format = of_format; of_game = of_game; of_sizes = of_sizes })
+    (subst (λ (line : List ℕ). StandFirst (listed_line ∷ game_line game ∷ line ∷ []) bytes next.rest) next.form.1.spelled pushed)
+
+sizes_step : (format : Format) (game : GameNumbers) (bytes rest : List ℕ) → IsFormatOf headings.Listed format → IsGame game
+    → StandFirst (listed_line ∷ game_line game ∷ []) bytes rest → Decided (HasNext IsSizesLine rest) → Outcome headings.Listed bytes
+sizes_step format game bytes rest of_format of_game stood (inr never) =
+    text_fault_from headings.Listed bytes 3 why.Syntax
+    (exit_sizes headings.Listed format game (Rejected 3 why.Syntax) nothing (Some bytes) (Some []) refl of_format of_game
+    (refused (listed_line ∷ game_line game ∷ []) (IsWrongNext 3 IsSizesLine (BreaksSizes game)) 3 why.Syntax bytes (rest, stood, (refl, never))))
+sizes_step format game bytes rest of_format of_game stood (inl next) =
+    listed_step format game bytes rest of_format of_game stood next (decided_are_sizes game.capacity next.form.0)
+
+-- what comes after the line of the game
+after_game : (heading : Heading) (format : Format) (game : GameNumbers) (bytes rest : List ℕ) → IsFormatOf heading format → IsGame game
+    → StandFirst (first_of heading format ∷ game_line game ∷ []) bytes rest → Outcome heading bytes
+after_game (headings.Strategy wanted) format game bytes rest of_format of_game stood =
+    side_decided (headings.Strategy wanted) format game (sizes_of game) bytes rest (record { of_format = of_format; of_game = of_game; of_sizes = refl }) stood
+after_game headings.Listed format game bytes rest of_format of_game stood =
+    sizes_step format game bytes rest of_format of_game stood (decided_next IsSizesLine (λ line whole. decided_sizes line) rest)
+
+range_step : (heading : Heading) (format : Format) (bytes rest : List ℕ) → IsFormatOf heading format → StandFirst (first_of heading format ∷ []) bytes rest
+    → (next : HasNext IsGameLine rest) → Decided (IsGame next.form.0) → Outcome heading bytes
+range_step heading format bytes rest of_format stood next (inr outside) =
+    text_fault_from heading bytes 2 (why.Rule rules.Game)
+    (exit_game heading format (Rejected 2 (why.Rule rules.Game)) nothing (Some bytes) (Some []) of_format
+    (refused (first_of heading format ∷ []) (IsWrongNext 2 IsGameLine BreaksGame) 2 (why.Rule rules.Game) bytes
     (rest, stood, (refl, record { line = next.line; rest = next.rest; whole = next.whole; split = next.split; form = (refl, (next.form.0, next.form.1, outside)) }))))
-range_step wanted format bytes rest stood next (inl of_game) =
-    let pushed = StandFirst-push (first_line format ∷ []) next.line bytes rest next.rest stood next.whole next.split in
-    side_step wanted format next.form.0 bytes next.rest of_game
-    (subst (λ (line : List ℕ). StandFirst (first_line format ∷ line ∷ []) bytes next.rest) next.form.1.spelled pushed)
-    (decided_next IsSideLine (λ line whole. decided_side line) next.rest)
+range_step heading format bytes rest of_format stood next (inl of_game) =
+    let pushed = StandFirst-push (first_of heading format ∷ []) next.line bytes rest next.rest stood next.whole next.split in
+    after_game heading format next.form.0 bytes next.rest of_format of_game
+    (subst (λ (line : List ℕ). StandFirst (first_of heading format ∷ line ∷ []) bytes next.rest) next.form.1.spelled pushed)
 
-game_step : (wanted : Wanted) (format : Format) (bytes rest : List ℕ) → StandFirst (first_line format ∷ []) bytes rest → Decided (HasNext IsGameLine rest) → Outcome wanted bytes
-game_step wanted format bytes rest stood (inr never) =
-    text_fault_from wanted bytes 2 why.Syntax
-    (exit_game wanted format (Rejected 2 why.Syntax) nothing (Some bytes) (Some [])
-    (refused (first_line format ∷ []) (IsWrongNext 2 IsGameLine BreaksGame) 2 why.Syntax bytes (rest, stood, (refl, never))))
-game_step wanted format bytes rest stood (inl next) = range_step wanted format bytes rest stood next (decided_game next.form.0)
+game_step : (heading : Heading) (format : Format) (bytes rest : List ℕ) → IsFormatOf heading format → StandFirst (first_of heading format ∷ []) bytes rest
+    → Decided (HasNext IsGameLine rest) → Outcome heading bytes
+game_step heading format bytes rest of_format stood (inr never) =
+    text_fault_from heading bytes 2 why.Syntax
+    (exit_game heading format (Rejected 2 why.Syntax) nothing (Some bytes) (Some []) of_format
+    (refused (first_of heading format ∷ []) (IsWrongNext 2 IsGameLine BreaksGame) 2 why.Syntax bytes (rest, stood, (refl, never))))
+game_step heading format bytes rest of_format stood (inl next) = range_step heading format bytes rest of_format stood next (decided_game next.form.0)
 
-first_step : (wanted : Wanted) (bytes : List ℕ) → Decided (HasNext IsFirstLine bytes) → Outcome wanted bytes
-first_step wanted bytes (inr never) =
-    text_fault_from wanted bytes 1 why.Syntax
-    (exit_first wanted (Rejected 1 why.Syntax) nothing (Some bytes) (Some [])
-    (refused [] (IsWrongNext 1 IsFirstLine NoRule) 1 why.Syntax bytes (bytes, record { whole = All-nil IsLine; split = refl }, (refl, never))))
-first_step wanted bytes (inl next) =
+first_step : (heading : Heading) (bytes : List ℕ) → Decided (HasNext (IsFirstLine heading) bytes) → Outcome heading bytes
+first_step heading bytes (inr never) =
+    text_fault_from heading bytes 1 why.Syntax
+    (exit_first heading (Rejected 1 why.Syntax) nothing (Some bytes) (Some [])
+    (refused [] (IsWrongNext 1 (IsFirstLine heading) NoRule) 1 why.Syntax bytes (bytes, record { whole = All-nil IsLine; split = refl }, (refl, never))))
+first_step heading bytes (inl next) =
     let pushed = StandFirst-push [] next.line bytes bytes next.rest (record { whole = All-nil IsLine; split = refl }) next.whole next.split in
-    game_step wanted next.form.0 bytes next.rest
-    (subst (λ (line : List ℕ). StandFirst (line ∷ []) bytes next.rest) next.form.1 pushed)
+    game_step heading next.form.0 bytes next.rest next.form.1
+    (subst (λ (line : List ℕ). StandFirst (line ∷ []) bytes next.rest) next.form.2 pushed)
     (decided_next IsGameLine (λ line whole. decided_game_line line) next.rest)
 
-pub outcome : (wanted : Wanted) (bytes : List ℕ) → Outcome wanted bytes
-outcome wanted bytes = first_step wanted bytes (decided_next IsFirstLine (λ line whole. decided_first line) bytes)
+pub outcome : (heading : Heading) (bytes : List ℕ) → Outcome heading bytes
+outcome heading bytes = first_step heading bytes (decided_next (IsFirstLine heading) (λ line whole. decided_first heading line) bytes)
 
 -- ---- laws
 
-none_from : (wanted : Wanted) (bytes : List ℕ) → Outcome wanted bytes → HasFirstFault wanted bytes ⊎ HasNoFault wanted bytes
-none_from wanted bytes (inl fault) = inl fault
-none_from wanted bytes (inr legal) = inr (legal_text_has_no_fault wanted bytes legal)
+has_no_fault : (heading : Heading) (bytes : List ℕ) → IsTextUnder heading bytes → HasNoFault heading bytes
+has_no_fault (headings.Strategy wanted) bytes legal = legal_text_has_no_fault wanted bytes legal
+has_no_fault headings.Listed bytes legal = listed_text_has_no_fault bytes legal
+
+none_from : (heading : Heading) (bytes : List ℕ) → Outcome heading bytes → HasFirstFault heading bytes ⊎ HasNoFault heading bytes
+none_from heading bytes (inl fault) = inl fault
+none_from heading bytes (inr legal) = inr (has_no_fault heading bytes legal)
 
 pub first_fault_or_none : EveryTextHasAFirstFaultOrNone
-first_fault_or_none wanted bytes = none_from wanted bytes (outcome wanted bytes)
+first_fault_or_none heading bytes = none_from heading bytes (outcome heading bytes)
 
-legal_from_none : (wanted : Wanted) (bytes : List ℕ) → Outcome wanted bytes → HasNoFault wanted bytes → IsLegalText wanted bytes
-legal_from_none wanted bytes (inl fault) none = absurd (none fault.0 fault.1 fault.2.has)
-legal_from_none wanted bytes (inr legal) none = legal
+legal_from_none : (heading : Heading) (bytes : List ℕ) → Outcome heading bytes → HasNoFault heading bytes → IsTextUnder heading bytes
+legal_from_none heading bytes (inl fault) none = absurd (none fault.0 fault.1 fault.2.has)
+legal_from_none heading bytes (inr legal) none = legal
 
 pub only_legal_texts : OnlyLegalTextsHaveNoFault
-only_legal_texts wanted bytes = (legal_from_none wanted bytes (outcome wanted bytes), legal_text_has_no_fault wanted bytes)
+only_legal_texts wanted bytes =
+    (legal_from_none (headings.Strategy wanted) bytes (outcome (headings.Strategy wanted) bytes), legal_text_has_no_fault wanted bytes)
+
+pub only_legal_listed_texts : OnlyLegalListedTextsHaveNoFault
+only_legal_listed_texts bytes = (legal_from_none headings.Listed bytes (outcome headings.Listed bytes), listed_text_has_no_fault bytes)

@@ -10,6 +10,7 @@ use Rattle.checker.specs.FirstFault.{FirstFault, HasHead}
 use Rattle.checker.specs.Progress.{StandFirst, IsHead}
 use Rattle.checker.specs.declared.fault.CheckFault.{CheckFault}
 use Rattle.checker.specs.declared.fault.CheckFault.TheVariants.{Rejected, Read, Memory}
+use Rattle.checker.specs.declared.fault.Heading.TheVariants.{Strategy as OfStrategy}
 use Rattle.checker.specs.declared.fault.Wanted.{Wanted}
 use Rattle.checker.specs.declared.fault.Why.{Why}
 use Rattle.checker.proofs.HeadLemmas.{head_from}
@@ -18,15 +19,15 @@ use Rattle.checker.proofs.LegalText.{head_of, legal_is_head, legal_judged, legal
 use Rattle.checker.proofs.ProgressLemmas.{told_split}
 
 -- a first fault in a line of the text, where the bytes begin with a legal text
-pub no_fault_in_text : (wanted : Wanted) (bytes : List ℕ) (line : ℕ) (cause : Why) → BeginsWithLegalText wanted bytes → FirstFault wanted bytes line cause
-    → IsTextLine wanted bytes line → ⊥
+pub no_fault_in_text : (wanted : Wanted) (bytes : List ℕ) (line : ℕ) (cause : Why) → BeginsWithLegalText wanted bytes → FirstFault (OfStrategy wanted) bytes line cause
+    → IsTextLine (OfStrategy wanted) bytes line → ⊥
 no_fault_in_text wanted bytes line cause b first of_text =
     let head = head_of b.strategy in
     let list = nodes_of b.strategy.nodes in
-    let is : IsHead wanted head = legal_is_head wanted b.strategy b.legal b.wanted_side in
-    let stood : StandFirst (lines_of_text head list) bytes b.rest = record { whole = legal_lines_are_lines b.strategy b.legal; split = b.begins } in
-    let has : HasHead wanted bytes head = head_from wanted head (node_lines 0 list ++ end_line ∷ []) bytes b.rest is stood in
-    none_below wanted bytes (head.start + head.count + 1) (Faultless-text wanted head list bytes b.rest is (legal_judged b.strategy b.legal) refl stood) line cause
+    let is : IsHead (OfStrategy wanted) head = legal_is_head wanted b.strategy b.legal b.wanted_side in
+    let stood : StandFirst (lines_of_text (OfStrategy wanted) head list) bytes b.rest = record { whole = legal_lines_are_lines b.strategy b.legal; split = b.begins } in
+    let has : HasHead (OfStrategy wanted) bytes head = head_from (OfStrategy wanted) head (node_lines 0 list ++ end_line ∷ []) bytes b.rest is stood in
+    none_below (OfStrategy wanted) bytes (head.start + head.count + 1) (Faultless-text (OfStrategy wanted) head list bytes b.rest is (legal_judged b.strategy b.legal) refl stood) line cause
     (omega (arith, of_text.1 head has)) first.has
 
 -- what was read of the bytes is a text, so all of them begin with it

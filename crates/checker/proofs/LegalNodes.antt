@@ -9,7 +9,7 @@ use Rattle.std.proofs.lemmas.List.Sums.{get_or-le-sum_by, sum_by-cons}
 use Rattle.std.proofs.lemmas.List.Elements.{All-nil, All-cons, All-append, All-replicate, All-weaker, All-contains, All-contains_itself, All-get_or, recursion_from_All}
 use Rattle.std.proofs.lemmas.Option.{slice_get_within}
 use Rattle.items.specs.Game.{GameNumbers, IsGame}
-use Rattle.items.specs.Multiset.{sizes_of, IsSize}
+use Rattle.items.specs.Multiset.{IsSize}
 use Rattle.items.specs.Packable.{IsPacking}
 use Rattle.items.proofs.MultisetLemmas.{length-Same}
 use Rattle.items.proofs.SizesLemmas.{size_from_Contains}
@@ -73,15 +73,17 @@ bins_numbers bins most h le k d within j e inside =
 
 -- ---- the position of a node
 
-items_are_sizes : (game : GameNumbers) (loads items : List ℕ) → AreItemsOf (sizes_of game) loads items → All (IsSize game.capacity) items
-items_are_sizes game loads items a = All-weaker (Contains (sizes_of game)) (IsSize game.capacity) (size_from_Contains game.capacity) items a.allowed
+items_are_sizes : (game : GameNumbers) (sizes loads items : List ℕ) → All (IsSize game.capacity) sizes → AreItemsOf sizes loads items → All (IsSize game.capacity) items
+items_are_sizes game sizes loads items z a =
+    All-weaker (Contains sizes) (IsSize game.capacity) (λ x c. All-contains (IsSize game.capacity) sizes x z c) items a.allowed
 
-sizes_small : (game : GameNumbers) (items : List ℕ) → IsGame game → All (IsSize game.capacity) items → All (λ x. x < 1000) items
+pub sizes_small : (game : GameNumbers) (items : List ℕ) → IsGame game → All (IsSize game.capacity) items → All (λ x. x < 1000) items
 sizes_small game items g h = All-weaker (IsSize game.capacity) (λ x. x < 1000) (λ x s. omega (arith, s.high, g.capacity.high)) items h
 
-position_small : (game : GameNumbers) (loads items : List ℕ) → IsGame game → IsLoads game loads → AreItemsOf (sizes_of game) loads items → IsSmallPosition loads items
-position_small game loads items g l a =
-    let sizes = items_are_sizes game loads items a in
+position_small : (game : GameNumbers) (allowed loads items : List ℕ) → IsGame game → All (IsSize game.capacity) allowed → IsLoads game loads → AreItemsOf allowed loads items
+    → IsSmallPosition loads items
+position_small game allowed loads items g z l a =
+    let sizes = items_are_sizes game allowed loads items z a in
     record {
       each_load = below_thousand loads game.target l.below_target (omega (arith, g.target.high, g.capacity.high));
       few_loads = omega (arith, l.one_each, g.bins.high);
@@ -92,8 +94,8 @@ position_small game loads items g l a =
 loads_numbers : (game : GameNumbers) (loads : List ℕ) → IsGame game → IsLoads game loads → All IsNumber loads
 loads_numbers game loads g l = below_numbers loads game.target l.below_target (omega (arith, g.target.high, g.capacity.high))
 
-items_numbers : (game : GameNumbers) (loads items : List ℕ) → IsGame game → AreItemsOf (sizes_of game) loads items → All IsNumber items
-items_numbers game loads items g a = below_numbers items 1000 (sizes_small game items g (items_are_sizes game loads items a)) (omega arith)
+items_numbers : (game : GameNumbers) (sizes loads items : List ℕ) → IsGame game → All (IsSize game.capacity) sizes → AreItemsOf sizes loads items → All IsNumber items
+items_numbers game sizes loads items g z a = below_numbers items 1000 (sizes_small game items g (items_are_sizes game sizes loads items z a)) (omega arith)
 
 -- ---- what the adversary sends
 
@@ -223,12 +225,12 @@ asked_second One game node None step h e = absurd (h.1 tt)
 asked_second One game node (Some bins) step h e = absurd cc
 asked_second Two game node pack step h e = refl
 
-judged_step : (format : Format) (game : GameNumbers) (earlier : List Position) (last : Bool) (node : AdvNode) → length earlier ≤ most_nodes
-    → adversary.MeetsRules format game (sizes_of game) earlier last node → JudgedStep format game earlier node.loads node.items node.step
-judged_step format game earlier last node le m = record {
+judged_step : (format : Format) (game : GameNumbers) (sizes : List ℕ) (earlier : List Position) (last : Bool) (node : AdvNode) → All (IsSize game.capacity) sizes
+    → length earlier ≤ most_nodes → adversary.MeetsRules format game sizes earlier last node → JudgedStep format game earlier node.loads node.items node.step
+judged_step format game sizes earlier last node z le m = record {
   are = m.0;
-  sizes = items_are_sizes game node.loads node.items m.1.0;
-  sent = size_from_Contains game.capacity (sent_size node.step) m.1.1.0;
+  sizes = items_are_sizes game sizes node.loads node.items z m.1.0;
+  sent = All-contains (IsSize game.capacity) sizes (sent_size node.step) z m.1.1.0;
   asked = asked_second format game node (packing_of node.step) node.step m.1.1.1.1.0.shown;
   packed = m.1.1.1.1.0.holds;
   placed = m.1.1.1.1.1.0;
@@ -247,24 +249,25 @@ ascends xs most h sizes (suc k) within =
     omega (arith, up, ascends xs most h sizes k (omega arith))
 
 -- sizes that strictly ascend are at most as many as there are
-few_sizes : (xs : List ℕ) (most : ℕ) → IsStrictlyAscending xs → All (IsSize most) xs → length xs ≤ most
+pub few_sizes : (xs : List ℕ) (most : ℕ) → IsStrictlyAscending xs → All (IsSize most) xs → length xs ≤ most
 few_sizes [] most h sizes = omega arith
 few_sizes (x ∷ xs) most h sizes =
     let last : IsSize most (get_or (x ∷ xs) (length xs) 0) = sizes (length xs) 0 (omega arith) in
     omega (arith, ascends (x ∷ xs) most h sizes (length xs) (omega arith), last.high)
 
 -- what the rules say of what a node does, as far as its line is concerned
-record JudgedAct (format : Format) (game : GameNumbers) (earlier : List Position) (loads items : List ℕ) (act : Act) : Type 0 where
+record JudgedAct (format : Format) (game : GameNumbers) (sizes : List ℕ) (earlier : List Position) (loads items : List ℕ) (act : Act) : Type 0 where
+  of_sizes : All (IsSize game.capacity) sizes
   are : IsLoads game loads
   kept : BigFinishesIfSaid game (record { loads = loads; items = items; act = act }) act
-  replies : RepliesIfSaid game (sizes_of game) (record { loads = loads; items = items; act = act }) act
+  replies : RepliesIfSaid game sizes (record { loads = loads; items = items; act = act }) act
   named : All (NamesLoad game loads) (entries_of act)
   next : All (λ entry. entry.to ≤ most_nodes) (entries_of act)
 
-entry_sizes : (game : GameNumbers) (items : List ℕ) (entries : List Entry) → algorithm.ReplyToEach game (sizes_of game) items entries
+entry_sizes : (game : GameNumbers) (sizes items : List ℕ) (entries : List Entry) → All (IsSize game.capacity) sizes → algorithm.ReplyToEach game sizes items entries
     → All (IsSize game.capacity) (map (λ entry. entry.size) entries)
-entry_sizes game items entries h =
-    All-weaker (Contains (map (λ (e : Entry). e.size) entries)) (IsSize game.capacity) (λ size c. size_from_Contains game.capacity size ((h.exact size).0 c).0)
+entry_sizes game sizes items entries z h =
+    All-weaker (Contains (map (λ (e : Entry). e.size) entries)) (IsSize game.capacity) (λ size c. All-contains (IsSize game.capacity) sizes size z ((h.exact size).0 c).0)
     (map (λ (e : Entry). e.size) entries) (All-contains_itself (map (λ (e : Entry). e.size) entries))
 
 short_entries : (game : GameNumbers) (loads items : List ℕ) (entries : List Entry) → IsGame game
@@ -285,31 +288,32 @@ short_entries game loads items entries g sizes named next k d within =
 entry_number : (entries : List Entry) → All IsShortEntry entries → All IsEntry entries
 entry_number entries h = All-weaker IsShortEntry IsEntry (λ e s. record { size = omega (arith, s.size); load = omega (arith, s.load); to = s.to }) entries h
 
-act_small : (format : Format) (game : GameNumbers) (earlier : List Position) (loads items : List ℕ) (act : Act) → IsGame game
-    → JudgedAct format game earlier loads items act → IsSmallAct act
-act_small format game earlier loads items Finish g j = tt
-act_small format game earlier loads items (Big bins) g j = omega (arith, j.kept.some_left, g.bins.high)
-act_small format game earlier loads items (Reply entries) g j =
-    let sizes = entry_sizes game items entries j.replies in
+act_small : (format : Format) (game : GameNumbers) (sizes : List ℕ) (earlier : List Position) (loads items : List ℕ) (act : Act) → IsGame game
+    → JudgedAct format game sizes earlier loads items act → IsSmallAct act
+act_small format game sizes earlier loads items Finish g j = tt
+act_small format game sizes earlier loads items (Big bins) g j = omega (arith, j.kept.some_left, g.bins.high)
+act_small format game sizes earlier loads items (Reply entries) g j =
+    let each = entry_sizes game sizes items entries j.of_sizes j.replies in
     record {
-      each = recursion_from_All IsShortEntry entries (short_entries game loads items entries g sizes j.named j.next);
-      few = omega (arith, few_sizes (map (λ (e : Entry). e.size) entries) game.capacity j.replies.ascending sizes, length-map entries (λ (e : Entry). e.size), g.capacity.high);
+      each = recursion_from_All IsShortEntry entries (short_entries game loads items entries g each j.named j.next);
+      few = omega (arith, few_sizes (map (λ (e : Entry). e.size) entries) game.capacity j.replies.ascending each, length-map entries (λ (e : Entry). e.size), g.capacity.high);
     }
 
 second_act : (format : Format) (bins : ℕ) → algorithm_nodes.IsOfFormat format (Big bins) → format ≡ Two
 second_act One bins h = absurd h
 second_act Two bins h = refl
 
-act_spellable : (format : Format) (game : GameNumbers) (earlier : List Position) (loads items : List ℕ) (act : Act) → IsGame game
-    → algorithm_nodes.IsOfFormat format act → JudgedAct format game earlier loads items act → IsAct format act
-act_spellable format game earlier loads items Finish g formed j = tt
-act_spellable format game earlier loads items (Big bins) g formed j = record { second = second_act format bins formed; kept = omega (arith, j.kept.some_left, g.bins.high) }
-act_spellable format game earlier loads items (Reply entries) g formed j =
-    entry_number entries (short_entries game loads items entries g (entry_sizes game items entries j.replies) j.named j.next)
+act_spellable : (format : Format) (game : GameNumbers) (sizes : List ℕ) (earlier : List Position) (loads items : List ℕ) (act : Act) → IsGame game
+    → algorithm_nodes.IsOfFormat format act → JudgedAct format game sizes earlier loads items act → IsAct format act
+act_spellable format game sizes earlier loads items Finish g formed j = tt
+act_spellable format game sizes earlier loads items (Big bins) g formed j = record { second = second_act format bins formed; kept = omega (arith, j.kept.some_left, g.bins.high) }
+act_spellable format game sizes earlier loads items (Reply entries) g formed j =
+    entry_number entries (short_entries game loads items entries g (entry_sizes game sizes items entries j.of_sizes j.replies) j.named j.next)
 
-judged_act : (format : Format) (game : GameNumbers) (earlier : List Position) (last : Bool) (node : AlgNode) → length earlier ≤ most_nodes
-    → algorithm.MeetsRules game (sizes_of game) earlier last node → JudgedAct format game earlier node.loads node.items node.act
-judged_act format game earlier last node le m = record {
+judged_act : (format : Format) (game : GameNumbers) (sizes : List ℕ) (earlier : List Position) (last : Bool) (node : AlgNode) → All (IsSize game.capacity) sizes
+    → length earlier ≤ most_nodes → algorithm.MeetsRules game sizes earlier last node → JudgedAct format game sizes earlier node.loads node.items node.act
+judged_act format game sizes earlier last node z le m = record {
+  of_sizes = z;
   are = m.0;
   kept = m.1.1.1.0;
   replies = m.1.1.1.1.0;
@@ -328,34 +332,28 @@ abbrev pub IsFormed : Format → AnyNode → Type 0
 IsFormed format (of_adversary node) = adversary_nodes.IsOfFormat format node.step
 IsFormed format (of_algorithm node) = algorithm_nodes.IsOfFormat format node.act
 
-pub node_small : (head : Head) (earlier : List Position) (last : Bool) (node : AnyNode) → IsGame head.game → head.sizes ≡ sizes_of head.game
+pub node_small : (head : Head) (earlier : List Position) (last : Bool) (node : AnyNode) → IsGame head.game → All (IsSize head.game.capacity) head.sizes
     → length earlier ≤ most_nodes → MeetsUnder head earlier last node → IsSmallNode node
-node_small head earlier last (of_adversary node) g e le m =
-    let m' = subst (λ (sizes : List ℕ). adversary.MeetsRules head.format head.game sizes earlier last node) e m in (
-      position_small head.game node.loads node.items g m'.0 m'.1.0,
-      step_small head.format head.game earlier node.loads node.items node.step g
-          (judged_step head.format head.game earlier last node le m'),
-    )
-node_small head earlier last (of_algorithm node) g e le m =
-    let m' = subst (λ (sizes : List ℕ). algorithm.MeetsRules head.game sizes earlier last node) e m in (
-      position_small head.game node.loads node.items g m'.0 m'.1.0,
-      act_small head.format head.game earlier node.loads node.items node.act g
-          (judged_act head.format head.game earlier last node le m'),
-    )
+node_small head earlier last (of_adversary node) g z le m = (
+  position_small head.game head.sizes node.loads node.items g z m.0 m.1.0,
+  step_small head.format head.game earlier node.loads node.items node.step g
+      (judged_step head.format head.game head.sizes earlier last node z le m),
+)
+node_small head earlier last (of_algorithm node) g z le m = (
+  position_small head.game head.sizes node.loads node.items g z m.0 m.1.0,
+  act_small head.format head.game head.sizes earlier node.loads node.items node.act g
+      (judged_act head.format head.game head.sizes earlier last node z le m),
+)
 
-pub node_spellable : (head : Head) (earlier : List Position) (last : Bool) (node : AnyNode) → IsGame head.game → head.sizes ≡ sizes_of head.game
+pub node_spellable : (head : Head) (earlier : List Position) (last : Bool) (node : AnyNode) → IsGame head.game → All (IsSize head.game.capacity) head.sizes
     → length earlier ≤ most_nodes → IsFormed head.format node → MeetsUnder head earlier last node → IsSpellableNode head.format node
-node_spellable head earlier last (of_adversary node) g e le formed m =
-    let m' = subst (λ (sizes : List ℕ). adversary.MeetsRules head.format head.game sizes earlier last node) e m in
-    record {
-      loads = loads_numbers head.game node.loads g m'.0;
-      items = items_numbers head.game node.loads node.items g m'.1.0;
-      step = step_spellable head.format head.game earlier node.loads node.items node.step g formed (judged_step head.format head.game earlier last node le m');
-    }
-node_spellable head earlier last (of_algorithm node) g e le formed m =
-    let m' = subst (λ (sizes : List ℕ). algorithm.MeetsRules head.game sizes earlier last node) e m in
-    record {
-      loads = loads_numbers head.game node.loads g m'.0;
-      items = items_numbers head.game node.loads node.items g m'.1.0;
-      act = act_spellable head.format head.game earlier node.loads node.items node.act g formed (judged_act head.format head.game earlier last node le m');
-    }
+node_spellable head earlier last (of_adversary node) g z le formed m = record {
+  loads = loads_numbers head.game node.loads g m.0;
+  items = items_numbers head.game head.sizes node.loads node.items g z m.1.0;
+  step = step_spellable head.format head.game earlier node.loads node.items node.step g formed (judged_step head.format head.game head.sizes earlier last node z le m);
+}
+node_spellable head earlier last (of_algorithm node) g z le formed m = record {
+  loads = loads_numbers head.game node.loads g m.0;
+  items = items_numbers head.game head.sizes node.loads node.items g z m.1.0;
+  act = act_spellable head.format head.game head.sizes earlier node.loads node.items node.act g formed (judged_act head.format head.game head.sizes earlier last node z le m);
+}

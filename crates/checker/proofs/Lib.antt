@@ -1,5 +1,6 @@
 pub mod LineLemmas
 pub mod ProgressLemmas
+pub mod SizesLemmas
 pub mod HeadLemmas
 pub mod NodeLemmas
 pub mod FaultLemmas

@@ -26,19 +26,12 @@ use Rattle.adversary_graph.specs.Rules as adversary
 use Rattle.algorithm_graph.specs.Rules as algorithm
 use Rattle.checker.specs.FirstFault.{HasForm, HasPositions}
 use Rattle.strategies.specs.AnyNode.{position_of, EachMeetsRules}
-use Rattle.checker.specs.Head.{Head, SpellsUnder, MeetsUnder, BreaksUnder, EachMeetsUnder, IsNodeLine, IsNodeLineAt, IsBrokenNodeLine}
-use Rattle.checker.specs.Progress.{AreKept, AreJudged, TakesNode, ReadsLines, RefusesNext, RefusesAfter, RefusesNode, IsWrongNext}
+use Rattle.checker.specs.Head.{Head, SpellsUnder, MeetsUnder, BreaksUnder, EachMeetsUnder, IsNodeLine, IsNodeLineAt}
+use Rattle.checker.specs.Progress.{AreKept, BreaksNode, AreJudged, TakesNode, ReadsLines, RefusesNext, RefusesAfter, RefusesNode, IsWrongNext}
 use Rattle.checker.specs.declared.fault.CheckFault.{CheckFault}
 use Rattle.checker.specs.declared.fault.CheckFault.TheVariants.{Memory}
 use Rattle.checker.proofs.ProgressLemmas.{ReadsLines-then, RefusesAfter-then, refuses_memory}
 use Rattle.checker.proofs.LineLemmas.{HasForm-both}
-
-sizes_are : (most : ℕ) → All (IsSize most) (range_with_len 1 most)
-sizes_are most = All-weaker (Contains (range_with_len 1 most)) (IsSize most) (size_from_Contains most) (range_with_len 1 most) (All-contains_itself (range_with_len 1 most))
-
--- the sizes of a head over the whole game
-pub sizes_of_head : (head : Head) → head.sizes ≡ sizes_of head.game → All (IsSize head.game.capacity) head.sizes
-sizes_of_head head e = subst (All (IsSize head.game.capacity)) (sym e) (sizes_are head.game.capacity)
 
 -- ---- rules
 
@@ -236,7 +229,7 @@ lines_push nodes node number text old mid new left mid_left new_left count spell
 -- the node after these was refused
 pub RefusesNode-from : (head : Head) (nodes : List AnyNode) (earlier : List Position) (fault : CheckFault) (old mid : ReaderState) (left mid_left new_left : Option (List ℕ))
     → earlier ≡ map position_of nodes → length nodes < head.count → AreJudged head nodes → ReadsLines (node_lines 0 nodes) old mid left mid_left
-    → RefusesNext (head.start + length earlier) (IsNodeLine head (length earlier)) (IsBrokenNodeLine head earlier) fault mid mid_left new_left
+    → RefusesNext (head.start + length earlier) (IsNodeLine head (length earlier)) (BreaksNode head earlier) fault mid mid_left new_left
     → RefusesNode head fault old left new_left
 RefusesNode-from head nodes earlier fault old mid left mid_left new_left e few judged reads refused =
     let count : length earlier ≡ length nodes = ap length e ∙ length-map nodes position_of in
@@ -245,11 +238,11 @@ RefusesNode-from head nodes earlier fault old mid left mid_left new_left e few j
       few = few;
       judged = judged;
       refused = subst (λ (lines : List (List ℕ)). RefusesAfter lines (IsWrongNext (head.start + length nodes) (IsNodeLine head (length nodes))
-          (IsBrokenNodeLine head (map position_of nodes))) fault old left new_left) (append-nil (node_lines 0 nodes))
+          (BreaksNode head (map position_of nodes))) fault old left new_left) (append-nil (node_lines 0 nodes))
           (RefusesAfter-then (node_lines 0 nodes) [] (IsWrongNext (head.start + length nodes) (IsNodeLine head (length nodes))
-          (IsBrokenNodeLine head (map position_of nodes))) fault old mid left mid_left new_left reads
-          (subst (λ (i : ℕ). RefusesNext (head.start + i) (IsNodeLine head i) (IsBrokenNodeLine head (map position_of nodes)) fault mid mid_left new_left) count
-          (subst (λ (ps : List Position). RefusesNext (head.start + length earlier) (IsNodeLine head (length earlier)) (IsBrokenNodeLine head ps) fault mid mid_left new_left) e
+          (BreaksNode head (map position_of nodes))) fault old mid left mid_left new_left reads
+          (subst (λ (i : ℕ). RefusesNext (head.start + i) (IsNodeLine head i) (BreaksNode head (map position_of nodes)) fault mid mid_left new_left) count
+          (subst (λ (ps : List Position). RefusesNext (head.start + length earlier) (IsNodeLine head (length earlier)) (BreaksNode head ps) fault mid mid_left new_left) e
           refused)));
     }
 
@@ -259,5 +252,5 @@ pub RefusesNode-memory : (head : Head) (nodes : List AnyNode) (earlier : List Po
     → ReadsLines (text ∷ []) mid new mid_left new_left → RefusesNode head Memory old left new_left
 RefusesNode-memory head nodes earlier text old mid new left mid_left new_left e few judged reads more =
     RefusesNode-from head nodes earlier Memory old mid left mid_left new_left e few judged reads
-    (refuses_memory (IsWrongNext (head.start + length earlier) (IsNodeLine head (length earlier)) (IsBrokenNodeLine head earlier)) (text ∷ []) mid new mid_left new_left more
+    (refuses_memory (IsWrongNext (head.start + length earlier) (IsNodeLine head (length earlier)) (BreaksNode head earlier)) (text ∷ []) mid new mid_left new_left more
     (λ bytes. tt))

@@ -6,14 +6,19 @@ use Rattle.std.proofs.lemmas.Option.{slice_get_within}
 use Rattle.port_io.specs.Lines.{HasNoLf, with_lf}
 use Rattle.port_io.proofs.NextLemmas.{with_lf-only}
 use Rattle.loads.specs.declared.position.Position.{Position}
-use Rattle.strategy_text.specs.Text.{text_of_lines, first_line, side_line}
+use Rattle.items.specs.Game.{GameNumbers}
+use Rattle.strategy_text.specs.Text.{text_of_lines, side_line}
 use Rattle.strategy_text.specs.Spelling.{SpellsGame, SpellsCount}
-use Rattle.checker.specs.declared.fault.Wanted.{Wanted}
+use Rattle.checker.specs.declared.fault.Heading.{Heading}
+use Rattle.checker.specs.declared.fault.Heading.TheVariants as headings
 use Rattle.checker.specs.declared.fault.Why.{Why}
 use Rattle.checker.specs.Head.{Head, IsNodeLineAt}
-use Rattle.checker.specs.FirstFault.{HasLine, HasForm, HasWhole, HasBytesPast, HasPositions, HasHead, HeadFault, first_syntax, game_syntax, game_rule, side_syntax, side_rule}
+use Rattle.checker.specs.FirstFault.{HasLine, HasForm, HasWhole, HasBytesPast, HasPositions, HasHead, HeadFault, first_syntax, game_syntax, game_rule, sizes_syntax, sizes_rule, side_syntax, side_rule}
+use Rattle.checker.specs.FirstFault.{HasSizes, first_of, side_place}
+use Rattle.checker.specs.Listed.{SpellsSizes}
 use Rattle.checker.specs.FirstFault.{count_syntax, BodyFault, node_syntax, node_rule, end_syntax, past_syntax, LineFault, in_head, in_body, FaultDependsOnLinesBefore}
 use Rattle.checker.proofs.LineLemmas.{same_rest}
+use Rattle.checker.proofs.HeadLemmas.{side_after}
 use Rattle.checker.proofs.OneFault.{body_high}
 
 -- ---- bytes cut before a line
@@ -127,26 +132,37 @@ tells_less bytes more rest n w = record {
   past = λ m le p. past-less bytes rest n m w le;
 }
 
-head_moves : (wanted : Wanted) (a b : List ℕ) (n : ℕ) → Tells a b n → Tells b a n → (line : ℕ) (fault : Why) → line ≤ n
-    → HeadFault wanted a line fault → HeadFault wanted b line fault
-head_moves wanted a b n to from line fault le (first_syntax never) = first_syntax (λ f. never (form_moves b a n from 1 _ le f))
-head_moves wanted a b n to from line fault le (game_syntax never) = game_syntax (λ f. never (form_moves b a n from 2 _ le f))
-head_moves wanted a b n to from line fault le (game_rule game form never) = game_rule game (form_moves a b n to 2 (λ l. SpellsGame l game) le form) never
-head_moves wanted a b n to from line fault le (side_syntax never) = side_syntax (λ f. never (form_moves b a n from 3 _ le f))
-head_moves wanted a b n to from line fault le (side_rule side form never) = side_rule side (form_moves a b n to 3 (λ l. l ≡ side_line side) le form) never
-head_moves wanted a b n to from line fault le (count_syntax never) = count_syntax (λ f. never (form_moves b a n from 4 _ le f))
+head_moves : (heading : Heading) (a b : List ℕ) (n : ℕ) → Tells a b n → Tells b a n → (line : ℕ) (fault : Why) → line ≤ n
+    → HeadFault heading a line fault → HeadFault heading b line fault
+head_moves heading a b n to from line fault le (first_syntax never) = first_syntax (λ f. never (form_moves b a n from 1 _ le f))
+head_moves heading a b n to from line fault le (game_syntax never) = game_syntax (λ f. never (form_moves b a n from 2 _ le f))
+head_moves heading a b n to from line fault le (game_rule game form never) = game_rule game (form_moves a b n to 2 (λ l. SpellsGame l game) le form) never
+head_moves heading a b n to from line fault le (sizes_syntax is never) = sizes_syntax is (λ f. never (form_moves b a n from 3 _ le f))
+head_moves heading a b n to from line fault le (sizes_rule is game sizes form of_game spelled never) =
+    sizes_rule is game sizes (form_moves a b n to 2 (λ l. SpellsGame l game) (omega (arith, le)) form) of_game (form_moves a b n to 3 (λ l. SpellsSizes l sizes) le spelled) never
+head_moves heading a b n to from line fault le (side_syntax never) = side_syntax (λ f. never (form_moves b a n from (side_place heading) _ le f))
+head_moves heading a b n to from line fault le (side_rule side form never) =
+    side_rule side (form_moves a b n to (side_place heading) (λ l. l ≡ side_line side) le form) never
+head_moves heading a b n to from line fault le (count_syntax never) = count_syntax (λ f. never (form_moves b a n from (side_place heading + 1) _ le f))
 
-has_moves : (wanted : Wanted) (a b : List ℕ) (n : ℕ) (head : Head) → Tells a b n → 4 ≤ n → HasHead wanted a head → HasHead wanted b head
-has_moves wanted a b n head to le h = record {
-  first = form_moves a b n to 1 (λ l. l ≡ first_line head.format) (omega arith) h.first;
-  numbers = form_moves a b n to 2 (λ l. SpellsGame l head.game) (omega arith) h.numbers;
-  of_game = h.of_game;
-  side = form_moves a b n to 3 (λ l. l ≡ side_line head.side) (omega arith) h.side;
-  wanted_side = h.wanted_side;
-  nodes = form_moves a b n to 4 (λ l. SpellsCount l head.count) le h.nodes;
-  whole_game = h.whole_game;
-  start = h.start;
-}
+sizes_move : (heading : Heading) (a b : List ℕ) (n : ℕ) (game : GameNumbers) (sizes : List ℕ) → Tells a b n → 3 ≤ n → HasSizes heading a game sizes → HasSizes heading b game sizes
+sizes_move (headings.Strategy wanted) a b n game sizes to le h = h
+sizes_move headings.Listed a b n game sizes to le h = (form_moves a b n to 3 (λ l. SpellsSizes l sizes) le h.0, h.1)
+
+has_moves : (heading : Heading) (a b : List ℕ) (n : ℕ) (head : Head) → Tells a b n → side_place heading + 1 ≤ n → HasHead heading a head → HasHead heading b head
+has_moves heading a b n head to le h =
+    let low = side_after heading in
+    record {
+      of_format = h.of_format;
+      first = form_moves a b n to 1 (λ l. l ≡ first_of heading head.format) (omega (arith, le, low)) h.first;
+      numbers = form_moves a b n to 2 (λ l. SpellsGame l head.game) (omega (arith, le, low)) h.numbers;
+      of_game = h.of_game;
+      sizes = sizes_move heading a b n head.game head.sizes to (omega (arith, le, low)) h.sizes;
+      side = form_moves a b n to (side_place heading) (λ l. l ≡ side_line head.side) (omega (arith, le)) h.side;
+      wanted_side = h.wanted_side;
+      nodes = form_moves a b n to (side_place heading + 1) (λ l. SpellsCount l head.count) le h.nodes;
+      start = h.start;
+    }
 
 positions_move : (a b : List ℕ) (n : ℕ) (head : Head) (earlier : List Position) → Tells a b n → head.start + length earlier ≤ n
     → HasPositions a head earlier → HasPositions b head earlier
@@ -161,14 +177,14 @@ body_moves a b n head to from line fault le (node_rule earlier rule few told for
 body_moves a b n head to from line fault le (end_syntax never) = end_syntax (λ f. never (form_moves b a n from (head.start + head.count) _ le f))
 body_moves a b n head to from line fault le (past_syntax past) = past_syntax (to.past (head.start + head.count) le past)
 
-moves : (wanted : Wanted) (a b : List ℕ) (n : ℕ) → Tells a b n → Tells b a n → (line : ℕ) (fault : Why) → line ≤ n → LineFault wanted a line fault → LineFault wanted b line fault
-moves wanted a b n to from line fault le (in_head f) = in_head (head_moves wanted a b n to from line fault le f)
-moves wanted a b n to from line fault le (in_body head has f) =
-    let high : 5 ≤ line = body_high a head line fault has.start f in
-    in_body head (has_moves wanted a b n head to (omega arith) has) (body_moves a b n head to from line fault le f)
+moves : (heading : Heading) (a b : List ℕ) (n : ℕ) → Tells a b n → Tells b a n → (line : ℕ) (fault : Why) → line ≤ n → LineFault heading a line fault → LineFault heading b line fault
+moves heading a b n to from line fault le (in_head f) = in_head (head_moves heading a b n to from line fault le f)
+moves heading a b n to from line fault le (in_body head has f) =
+    let high : head.start ≤ line = body_high a head line fault f in
+    in_body head (has_moves heading a b n head to (omega (arith, high, le, has.start)) has) (body_moves a b n head to from line fault le f)
 
 pub depends_on_lines_before : FaultDependsOnLinesBefore
-depends_on_lines_before wanted bytes more n line rest fault w le = (
-  moves wanted bytes (bytes ++ more) n (tells_more bytes more n) (tells_less bytes more rest n w) line fault le,
-  moves wanted (bytes ++ more) bytes n (tells_less bytes more rest n w) (tells_more bytes more n) line fault le,
+depends_on_lines_before heading bytes more n line rest fault w le = (
+  moves heading bytes (bytes ++ more) n (tells_more bytes more n) (tells_less bytes more rest n w) line fault le,
+  moves heading (bytes ++ more) bytes n (tells_less bytes more rest n w) (tells_more bytes more n) line fault le,
 )

@@ -1,6 +1,6 @@
 -- What was read grows by a line, and what was refused after it.
 use Rattle.std.proofs.Common.{◌≡◌, ◌∙◌, ℕ, ◌++◌, ◌∷◌, [], List, Option, Some, None, sym, ap, subst, refl, append_assoc, IfSome, IfNone, IsTrue, Bool, true, false}
-use Rattle.std.specs.Prelude.{Result, Ok, Err, IfErr, IsErrAnd}
+use Rattle.std.specs.Prelude.{Result, Ok, Err, IfErr, IsErrAnd, MatchOption}
 use Rattle.std.specs.Io.KnownBytes.{prepend_known}
 use Rattle.std.proofs.lemmas.List.{append-nil}
 use Rattle.std.proofs.lemmas.List.Elements.{All-append, All-nil, All-cons, All-head}
@@ -142,7 +142,7 @@ refuses_ending number other text old new left new_left differs reads shown answe
 }
 
 -- a read failed
-pub refuses_read : (number : ℕ) (Form : List ℕ → Type 0) (Breaking : Rule → List ℕ → Type 0) (old new : ReaderState) (left new_left : Option (List ℕ))
+pub refuses_read : (number : ℕ) (Form : List ℕ → Type 0) (Breaking : Why → List ℕ → Type 0) (old new : ReaderState) (left new_left : Option (List ℕ))
     → ReadsOn old.held new.held left new_left → HasNoLf new.held → RefusesNext number Form Breaking Read old left new_left
 refuses_read number Form Breaking old new left new_left reads none = record {
   read = reads.0;
@@ -156,15 +156,16 @@ refuses_read number Form Breaking old new left new_left reads none = record {
 -- ---- a whole line stood next
 
 -- what was wrong next is so for a stricter form, and for rules that the line does not come to
-pub refuses_form_of : (number : ℕ) (Form : List ℕ → Type 0) (Breaking : Rule → List ℕ → Type 0) (fault : CheckFault) (bytes : List ℕ)
+pub refuses_form_of : (number : ℕ) (Form : List ℕ → Type 0) (Breaking : Why → List ℕ → Type 0) (fault : CheckFault) (bytes : List ℕ)
     → IsWrongAfter [] (IsWrongNext number AnyLine NoRule) fault bytes → IsWrongAfter [] (IsWrongNext number Form Breaking) fault bytes
 refuses_form_of number Form Breaking (Rejected line why.Syntax) bytes h =
     (h.0, h.1, (h.2.0, λ next. h.2.1 (record { line = next.line; rest = next.rest; whole = next.whole; split = next.split; form = tt })))
 refuses_form_of number Form Breaking (Rejected line (why.Rule rule)) bytes h = absurd h.2.1.form
+refuses_form_of number Form Breaking (Rejected line why.Sizes) bytes h = absurd h.2.1.form
 refuses_form_of number Form Breaking Read bytes h = (h.0, h.1, tt)
 refuses_form_of number Form Breaking Memory bytes h = (h.0, h.1, tt)
 
-pub refuses_next : (number : ℕ) (Form : List ℕ → Type 0) (Breaking : Rule → List ℕ → Type 0) (fault : CheckFault) (old : ReaderState) (left new_left : Option (List ℕ))
+pub refuses_next : (number : ℕ) (Form : List ℕ → Type 0) (Breaking : Why → List ℕ → Type 0) (fault : CheckFault) (old : ReaderState) (left new_left : Option (List ℕ))
     → RefusesNext number AnyLine NoRule fault old left new_left → RefusesNext number Form Breaking fault old left new_left
 refuses_next number Form Breaking fault old left new_left r = record {
   read = r.read;
@@ -191,18 +192,24 @@ refuses_given Wrong line fault lines old new left new_left r wrong = record {
 }
 
 -- a whole line stood next that is not of the form
-pub refuses_form : (number : ℕ) (Form : List ℕ → Type 0) (Breaking : Rule → List ℕ → Type 0) (text : List ℕ) (old new : ReaderState) (left new_left : Option (List ℕ))
+pub refuses_form : (number : ℕ) (Form : List ℕ → Type 0) (Breaking : Why → List ℕ → Type 0) (text : List ℕ) (old new : ReaderState) (left new_left : Option (List ℕ))
     → ReadsLines (text ∷ []) old new left new_left → (Form text → ⊥) → RefusesNext number Form Breaking (Rejected number why.Syntax) old left new_left
 refuses_form number Form Breaking text old new left new_left r never =
     refuses_given (IsWrongNext number Form Breaking) number why.Syntax (text ∷ []) old new left new_left r
     (λ bytes rest s. (refl, λ next. never (next_is text bytes rest Form s next)))
 
 -- a whole line stood next that breaks a rule
-pub refuses_rule : (number : ℕ) (Form : List ℕ → Type 0) (Breaking : Rule → List ℕ → Type 0) (rule : Rule) (text : List ℕ) (old new : ReaderState) (left new_left : Option (List ℕ))
-    → ReadsLines (text ∷ []) old new left new_left → Breaking rule text → RefusesNext number Form Breaking (Rejected number (why.Rule rule)) old left new_left
+pub refuses_rule : (number : ℕ) (Form : List ℕ → Type 0) (Breaking : Why → List ℕ → Type 0) (rule : Rule) (text : List ℕ) (old new : ReaderState) (left new_left : Option (List ℕ))
+    → ReadsLines (text ∷ []) old new left new_left → Breaking (why.Rule rule) text → RefusesNext number Form Breaking (Rejected number (why.Rule rule)) old left new_left
 refuses_rule number Form Breaking rule text old new left new_left r breaks =
     refuses_given (IsWrongNext number Form Breaking) number (why.Rule rule) (text ∷ []) old new left new_left r
-    (λ bytes rest s. (refl, HasNext-from text bytes rest (Breaking rule) s breaks))
+    (λ bytes rest s. (refl, HasNext-from text bytes rest (Breaking (why.Rule rule)) s breaks))
+
+pub refuses_sizes : (number : ℕ) (Form : List ℕ → Type 0) (Breaking : Why → List ℕ → Type 0) (text : List ℕ) (old new : ReaderState) (left new_left : Option (List ℕ))
+    → ReadsLines (text ∷ []) old new left new_left → Breaking why.Sizes text → RefusesNext number Form Breaking (Rejected number why.Sizes) old left new_left
+refuses_sizes number Form Breaking text old new left new_left r breaks =
+    refuses_given (IsWrongNext number Form Breaking) number why.Sizes (text ∷ []) old new left new_left r
+    (λ bytes rest s. (refl, HasNext-from text bytes rest (Breaking why.Sizes) s breaks))
 
 -- lines were read, and memory was refused
 pub refuses_memory : (Wrong : CheckFault → List ℕ → Type 0) (lines : List (List ℕ)) (old new : ReaderState) (left new_left : Option (List ℕ))
@@ -217,7 +224,7 @@ refuses_memory Wrong lines old new left new_left r wrong = record {
 }
 
 -- a line that stood next was refused
-pub refuses_line : (number : ℕ) (Form : List ℕ → Type 0) (Breaking : Rule → List ℕ → Type 0) (fault : CheckFault) (text : List ℕ) (old new : ReaderState)
+pub refuses_line : (number : ℕ) (Form : List ℕ → Type 0) (Breaking : Why → List ℕ → Type 0) (fault : CheckFault) (text : List ℕ) (old new : ReaderState)
     (left new_left : Option (List ℕ)) → ReadsLines (text ∷ []) old new left new_left → IsRefusedLine number Form Breaking fault text
     → RefusesNext number Form Breaking fault old left new_left
 refuses_line number Form Breaking (Rejected line why.Syntax) text old new left new_left r h =
@@ -225,6 +232,8 @@ refuses_line number Form Breaking (Rejected line why.Syntax) text old new left n
 refuses_line number Form Breaking (Rejected line (why.Rule rule)) text old new left new_left r h =
     subst (λ (l : ℕ). RefusesNext number Form Breaking (Rejected l (why.Rule rule)) old left new_left) (sym h.0)
     (refuses_rule number Form Breaking rule text old new left new_left r h.1)
+refuses_line number Form Breaking (Rejected line why.Sizes) text old new left new_left r h =
+    subst (λ (l : ℕ). RefusesNext number Form Breaking (Rejected l why.Sizes) old left new_left) (sym h.0) (refuses_sizes number Form Breaking text old new left new_left r h.1)
 refuses_line number Form Breaking Read text old new left new_left r h = absurd h
 refuses_line number Form Breaking Memory text old new left new_left r h = refuses_memory (IsWrongNext number Form Breaking) (text ∷ []) old new left new_left r (λ bytes. tt)
 
@@ -251,6 +260,13 @@ RefusesAfter-then first given Wrong fault old mid left mid_left new_left a b =
 pub none_met : {P : Type 0} {A : Type 0} (met : Option A) → met ≡ None → IfNone met P → P
 none_met None e h = h
 none_met (Some x) e h = absurd cc
+
+pub none_matched : {A : Type 0} (found : Option A) (P : Type 0) (Q : A → Type 0) → found ≡ None → MatchOption found P Q → P
+none_matched None P Q e h = h
+none_matched (Some x) P Q e h = absurd cc
+
+pub some_matched : {A : Type 0} (found : Option A) (x : A) (P : Type 0) (Q : A → Type 0) → found ≡ Some x → MatchOption found P Q → Q x
+some_matched {A = A} found x P Q e h = subst (λ (o : Option A). MatchOption o P Q) e h
 
 pub not_true : IsTrue false → ⊥
 not_true e = absurd cc

@@ -11,6 +11,7 @@ use Rattle.strategy_text.specs.declared.node.Entry.{Entry}
 use Rattle.strategy_text.specs.declared.node.Placement.{Placement}
 use Rattle.strategy_text.specs.declared.node.Step.{Step}
 use Rattle.strategy_text.specs.declared.node.Step.TheVariants.{Send, Burst}
+use Rattle.checker.specs.Listed.{sizes_line}
 use Rattle.strategy_text.specs.declared.node.Then.{Then}
 use Rattle.strategy_text.specs.declared.node.Then.TheVariants.{Over, To}
 
@@ -41,6 +42,11 @@ decimals_cost (x ∷ xs) h = omega (arith, short_number x h.0, decimals_cost xs 
 list_cost : (xs : List ℕ) → AllByRecursion (λ x. x < 1000) xs → cost (list_words xs) ≤ 4 * length xs + 2
 list_cost [] h = omega arith
 list_cost (x ∷ xs) h = omega (arith, decimals_cost (x ∷ xs) h)
+
+-- the line of at most 120 small sizes
+pub sizes_line_short : (xs : List ℕ) → AllByRecursion (λ x. x < 1000) xs → length xs ≤ 120 → length (sizes_line xs) ≤ 16384
+unfolding sizes_line
+sizes_line_short xs h few = omega (arith, length-joined (codes "sizes" ∷ list_words xs), list_cost xs h, few)
 
 pack_cost : (bins : List (List ℕ)) → AllByRecursion (AllByRecursion (λ x. x < 1000)) bins → cost (pack_words bins) ≤ 4 * length (concat bins) + 4 * length bins
 pack_cost [] h = omega arith

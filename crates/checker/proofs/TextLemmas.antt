@@ -30,7 +30,8 @@ use Rattle.adversary_graph.specs.Legal as adversary_legal
 use Rattle.adversary_graph.specs.Nodes as adversary_nodes
 use Rattle.algorithm_graph.specs.Legal as algorithm_legal
 use Rattle.algorithm_graph.specs.Nodes as algorithm_nodes
-use Rattle.checker.specs.Accepted.{Spells, IsLoaded, Accepts, IsFaultOf, IsTextFaultOf}
+use Rattle.checker.specs.Accepted.{Spells, IsLoaded, Accepts, AcceptsListed, IsFaultUnder, IsTextFaultUnder}
+use Rattle.checker.specs.Listed.{IsLegalOver, listed_head_lines}
 use Rattle.checker.specs.FirstFault.{IsWanted}
 use Rattle.strategies.specs.AnyNode.{position_of, side_of_node, AreLegalNodes, EachMeetsRules}
 use Rattle.checker.specs.Head.{Head, MeetsUnder, EachMeetsUnder}
@@ -39,6 +40,9 @@ use Rattle.checker.specs.declared.fault.Accepted.{Accepted}
 use Rattle.checker.specs.declared.head.Head as declared
 use Rattle.checker.specs.declared.fault.CheckFault.{CheckFault}
 use Rattle.checker.specs.declared.fault.CheckFault.TheVariants.{Rejected, Read, Memory}
+use Rattle.checker.specs.declared.fault.AcceptedListed.{AcceptedListed}
+use Rattle.checker.specs.declared.fault.Heading.{Heading}
+use Rattle.checker.specs.declared.fault.Heading.TheVariants as headings
 use Rattle.checker.specs.declared.fault.Wanted.{Wanted}
 use Rattle.checker.proofs.FaultLemmas.{exit_past, lines_of_text}
 use Rattle.checker.proofs.ProgressLemmas.{RefusesNext-after}
@@ -85,31 +89,35 @@ act_formed One (Big b) h = let two : One ≡ Two = h.second in absurd cc
 act_formed One (Reply entries) h = tt
 act_formed Two act h = tt
 
--- nodes that were judged under a head are legal
-pub legal_from : (wanted : Wanted) (head : Head) (kept : Nodes) → IsHead wanted head → length (nodes_of kept) ≡ head.count → AreJudged head (nodes_of kept)
-    → AreLegalNodes head.format head.game (sizes_of head.game) kept
-legal_from wanted head (nodes.Adversary list) is number judged =
+-- nodes that were judged under a head are legal over its sizes
+pub legal_from : (heading : Heading) (head : Head) (kept : Nodes) → IsHead heading head → length (nodes_of kept) ≡ head.count → AreJudged head (nodes_of kept)
+    → AreLegalNodes head.format head.game head.sizes kept
+legal_from heading head (nodes.Adversary list) is number judged =
     let count : length list ≡ head.count = sym (length-map list of_adversary) ∙ number in
     record {
-      of_game = is.of_game;
+      of_game = is.front.of_game;
       low = omega (arith, count, is.low);
       high = omega (arith, count, is.high);
       formed = λ k d within. step_formed head.format (get_or list k d).step
           (judged.spelled k (of_adversary (get_or list k d)) (map_get of_adversary list k (get_or list k d) (slice_get-get_or list k d within))).spells.spellable.step;
-      each = subst (λ (n : ℕ). adversary_legal.EachMeetsRules head.format head.game (sizes_of head.game) n list) (sym count)
-          (subst (λ (sizes : List ℕ). adversary_legal.EachMeetsRules head.format head.game sizes head.count list) is.whole_game (adversary_each head list judged.each));
+      each = subst (λ (n : ℕ). adversary_legal.EachMeetsRules head.format head.game head.sizes n list) (sym count) (adversary_each head list judged.each);
     }
-legal_from wanted head (nodes.Algorithm list) is number judged =
+legal_from heading head (nodes.Algorithm list) is number judged =
     let count : length list ≡ head.count = sym (length-map list of_algorithm) ∙ number in
     record {
-      of_game = is.of_game;
+      of_game = is.front.of_game;
       low = omega (arith, count, is.low);
       high = omega (arith, count, is.high);
       formed = λ k d within. act_formed head.format (get_or list k d).act
           (judged.spelled k (of_algorithm (get_or list k d)) (map_get of_algorithm list k (get_or list k d) (slice_get-get_or list k d within))).spells.spellable.act;
-      each = subst (λ (n : ℕ). algorithm_legal.EachMeetsRules head.format head.game (sizes_of head.game) n list) (sym count)
-          (subst (λ (sizes : List ℕ). algorithm_legal.EachMeetsRules head.format head.game sizes head.count list) is.whole_game (algorithm_each head list judged.each));
+      each = subst (λ (n : ℕ). algorithm_legal.EachMeetsRules head.format head.game head.sizes n list) (sym count) (algorithm_each head list judged.each);
     }
+
+-- over all sizes of the game, where the head lines are those of a strategy
+pub legal_strategy_from : (wanted : Wanted) (head : Head) (kept : Nodes) → IsHead (headings.Strategy wanted) head → length (nodes_of kept) ≡ head.count
+    → AreJudged head (nodes_of kept) → AreLegalNodes head.format head.game (sizes_of head.game) kept
+legal_strategy_from wanted head kept is number judged =
+    subst (λ (sizes : List ℕ). AreLegalNodes head.format head.game sizes kept) is.front.of_sizes (legal_from (headings.Strategy wanted) head kept is number judged)
 
 -- the nodes of a side, as a strategy keeps them
 adversary_kept : (list : List AnyNode) → ((k : ℕ) (node : AnyNode) → slice_get list k ≡ Some node → side_of_node node ≡ Adversary)
@@ -132,9 +140,9 @@ nodes_kept Algorithm list h = let r = algorithm_kept list h in (nodes.Algorithm 
 -- ---- a text that was read
 
 pub Spells-from : (wanted : Wanted) (head : Head) (kept : Nodes) (old new : ReaderState) (left new_left : Option (List ℕ)) → side_of kept ≡ head.side
-    → ReadsText wanted head (nodes_of kept) old new left new_left → Spells wanted (record { format = head.format; game = head.game; nodes = kept }) old.held new.held left new_left
+    → ReadsText (headings.Strategy wanted) head (nodes_of kept) old new left new_left → Spells wanted (record { format = head.format; game = head.game; nodes = kept }) old.held new.held left new_left
 Spells-from wanted head kept old new left new_left side r = record {
-  legal = legal_from wanted head kept r.is_head r.number r.judged;
+  legal = legal_strategy_from wanted head kept r.is_head r.number r.judged;
   wanted_side = subst (IsWanted wanted) (sym side) r.is_head.wanted_side;
   read = r.reads.read;
   gone = r.reads.gone;
@@ -145,10 +153,10 @@ Spells-from wanted head kept old new left new_left side r = record {
 }
 
 -- a text that was read, and then the end of the input
-pub ReadsWhole-from : (wanted : Wanted) (head : Head) (list : List AnyNode) (old mid : ReaderState) (left mid_left new_left : Option (List ℕ)) → old.held ≡ []
-    → ReadsText wanted head list old mid left mid_left → ReadsEnd mid mid_left new_left → ReadsWhole wanted head list left new_left
-ReadsWhole-from wanted head list old mid left mid_left new_left fresh r end =
-    let text : List ℕ = text_of_lines (lines_of_text head list) in
+pub ReadsWhole-from : (heading : Heading) (head : Head) (list : List AnyNode) (old mid : ReaderState) (left mid_left new_left : Option (List ℕ)) → old.held ≡ []
+    → ReadsText heading head list old mid left mid_left → ReadsEnd mid mid_left new_left → ReadsWhole heading head list left new_left
+ReadsWhole-from heading head list old mid left mid_left new_left fresh r end =
+    let text : List ℕ = text_of_lines (lines_of_text heading head list) in
     record {
       is_head = r.is_head;
       number = r.number;
@@ -161,9 +169,9 @@ ReadsWhole-from wanted head list old mid left mid_left new_left fresh r end =
     }
 
 pub IsLoaded-from : (wanted : Wanted) (head : Head) (kept : Nodes) (left new_left : Option (List ℕ)) → side_of kept ≡ head.side
-    → ReadsWhole wanted head (nodes_of kept) left new_left → IsLoaded wanted (record { format = head.format; game = head.game; nodes = kept }) left new_left
+    → ReadsWhole (headings.Strategy wanted) head (nodes_of kept) left new_left → IsLoaded wanted (record { format = head.format; game = head.game; nodes = kept }) left new_left
 IsLoaded-from wanted head kept left new_left side r = record {
-  legal = legal_from wanted head kept r.is_head r.number r.judged;
+  legal = legal_strategy_from wanted head kept r.is_head r.number r.judged;
   wanted_side = subst (IsWanted wanted) (sym side) r.is_head.wanted_side;
   read = r.read;
   gone = r.gone;
@@ -173,10 +181,10 @@ IsLoaded-from wanted head kept left new_left side r = record {
 }
 
 pub Accepts-from : (wanted : Wanted) (head : Head) (list : List AnyNode) (accepted : Accepted) (left new_left : Option (List ℕ))
-    → ReadsWhole wanted head list left new_left → accepted.game ≡ head.game → accepted.side ≡ head.side → accepted.nodes ≡ head.count → Accepts wanted accepted left new_left
+    → ReadsWhole (headings.Strategy wanted) head list left new_left → accepted.game ≡ head.game → accepted.side ≡ head.side → accepted.nodes ≡ head.count → Accepts wanted accepted left new_left
 Accepts-from wanted head list accepted left new_left r game side number =
     let kept = nodes_kept head.side list (λ k node e. (r.judged.spelled k node e).side) in
-    let text : ReadsWhole wanted head (nodes_of kept.0) left new_left = subst (λ (ns : List AnyNode). ReadsWhole wanted head ns left new_left) (sym kept.1) r in
+    let text : ReadsWhole (headings.Strategy wanted) head (nodes_of kept.0) left new_left = subst (λ (ns : List AnyNode). ReadsWhole (headings.Strategy wanted) head ns left new_left) (sym kept.1) r in
     record {
       strategy = record { format = head.format; game = head.game; nodes = kept.0 };
       loaded = IsLoaded-from wanted head kept.0 left new_left kept.2 text;
@@ -185,28 +193,54 @@ Accepts-from wanted head list accepted left new_left r game side number =
       number = number ∙ sym r.number ∙ ap length (sym kept.1);
     }
 
+pub AcceptsListed-from : (head : Head) (list : List AnyNode) (accepted : AcceptedListed) (left new_left : Option (List ℕ))
+    → ReadsWhole headings.Listed head list left new_left → accepted.game ≡ head.game → accepted.sizes ≡ head.sizes → accepted.side ≡ head.side → accepted.nodes ≡ head.count
+    → AcceptsListed accepted left new_left
+AcceptsListed-from head list accepted left new_left r game sizes side number =
+    let kept = nodes_kept head.side list (λ k node e. (r.judged.spelled k node e).side) in
+    let text : ReadsWhole headings.Listed head (nodes_of kept.0) left new_left = subst (λ (ns : List AnyNode). ReadsWhole headings.Listed head ns left new_left) (sym kept.1) r in
+    let tail : List (List ℕ) = node_lines 0 (nodes_of kept.0) ++ end_line ∷ [] in
+    let legal : IsLegalOver head.sizes (record { format = head.format; game = head.game; nodes = kept.0 }) = record {
+      of_format = r.is_head.front.of_format;
+      are_sizes = r.is_head.front.of_sizes;
+      nodes = legal_from headings.Listed head kept.0 text.is_head text.number text.judged;
+    } in
+    record {
+      strategy = record { format = head.format; game = head.game; nodes = kept.0 };
+      legal = subst (λ (z : List ℕ). IsLegalOver z (record { format = head.format; game = head.game; nodes = kept.0 })) (sym sizes) legal;
+      read = text.read;
+      gone = text.gone;
+      spelled = text.spelled ∙ ap (λ (z : List ℕ). text_of_lines (listed_head_lines head.game z head.side head.count ++ tail)) (sym sizes)
+          ∙ ap (λ (s : Side). text_of_lines (listed_head_lines head.game accepted.sizes s head.count ++ tail)) (sym kept.2)
+          ∙ ap (λ (n : ℕ). text_of_lines (listed_head_lines head.game accepted.sizes (side_of kept.0) n ++ tail)) (sym text.number);
+      whole = text.whole;
+      game = game;
+      side = side ∙ sym kept.2;
+      number = number ∙ sym text.number;
+    }
+
 -- bytes past the end of a text were refused
-pub past_fault_of : (wanted : Wanted) (head : Head) (list : List AnyNode) (number : ℕ) (fault : CheckFault) (old mid : ReaderState) (left mid_left new_left : Option (List ℕ))
-    → old.held ≡ [] → number ≡ head.start + head.count + 1 → ReadsText wanted head list old mid left mid_left → RefusesAfter [] (IsPastEnd number) fault mid mid_left new_left
-    → IsFaultOf wanted [] fault left new_left
-past_fault_of wanted head list number fault old mid left mid_left new_left fresh at r refused =
-    subst (λ (held : List ℕ). IsFaultOf wanted held fault left new_left) fresh
-    (exit_past wanted head list fault old left new_left r.is_head r.judged r.number
-    (RefusesNext-after (lines_of_text head list) (IsPastEnd (head.start + head.count + 1)) fault old mid left mid_left new_left r.reads
+pub past_fault_of : (heading : Heading) (head : Head) (list : List AnyNode) (number : ℕ) (fault : CheckFault) (old mid : ReaderState) (left mid_left new_left : Option (List ℕ))
+    → old.held ≡ [] → number ≡ head.start + head.count + 1 → ReadsText heading head list old mid left mid_left → RefusesAfter [] (IsPastEnd number) fault mid mid_left new_left
+    → IsFaultUnder heading [] fault left new_left
+past_fault_of heading head list number fault old mid left mid_left new_left fresh at r refused =
+    subst (λ (held : List ℕ). IsFaultUnder heading held fault left new_left) fresh
+    (exit_past heading head list fault old left new_left r.is_head r.judged r.number
+    (RefusesNext-after (lines_of_text heading head list) (IsPastEnd (head.start + head.count + 1)) fault old mid left mid_left new_left r.reads
     (subst (λ (n : ℕ). RefusesAfter [] (IsPastEnd n) fault mid mid_left new_left) at refused)))
 
-pub no_memory : (wanted : Wanted) (left : Option (List ℕ)) → IsFaultOf wanted [] Memory left left
-no_memory wanted left = ([], sym (prepend_known-nil left))
+pub no_memory : (heading : Heading) (left : Option (List ℕ)) → IsFaultUnder heading [] Memory left left
+no_memory heading left = ([], sym (prepend_known-nil left))
 
 -- ---- the strategy of what was read
 
 -- some nodes were read, and are the nodes kept
 abbrev pub ReadsSome : Wanted → declared.Head → Nodes → ReaderState → ReaderState → Option (List ℕ) → Option (List ℕ) → Type 0
 ReadsSome wanted head kept old new left new_left =
-    (nodes : List AnyNode) × ReadsText wanted (told_by head) nodes old new left new_left × AreKept kept head.side nodes
+    (nodes : List AnyNode) × ReadsText (headings.Strategy wanted) (told_by head) nodes old new left new_left × AreKept kept head.side nodes
 
 abbrev pub ReadsSomeWhole : Wanted → declared.Head → Nodes → Option (List ℕ) → Option (List ℕ) → Type 0
-ReadsSomeWhole wanted head kept left new_left = (nodes : List AnyNode) × ReadsWhole wanted (told_by head) nodes left new_left × AreKept kept head.side nodes
+ReadsSomeWhole wanted head kept left new_left = (nodes : List AnyNode) × ReadsWhole (headings.Strategy wanted) (told_by head) nodes left new_left × AreKept kept head.side nodes
 
 pub spelled_from : (wanted : Wanted) (read : Result declared.Head CheckFault) (result : Result Strategy CheckFault) (kept : Nodes) (old new : ReaderState)
     (left new_left : Option (List ℕ)) → result ≡ strategy_or read kept → IfOk read (λ head. ReadsSome wanted head kept old new left new_left)
@@ -214,7 +248,7 @@ pub spelled_from : (wanted : Wanted) (read : Result declared.Head CheckFault) (r
 spelled_from wanted (Ok head) result kept old new left new_left e r =
     subst (λ (x : Result Strategy CheckFault). IfOk x (λ strategy. Spells wanted strategy old.held new.held left new_left)) (sym e)
     (Spells-from wanted (told_by head) kept old new left new_left r.2.1
-    (subst (λ (ns : List AnyNode). ReadsText wanted (told_by head) ns old new left new_left) (sym r.2.0) r.1))
+    (subst (λ (ns : List AnyNode). ReadsText (headings.Strategy wanted) (told_by head) ns old new left new_left) (sym r.2.0) r.1))
 spelled_from wanted (Err fault) result kept old new left new_left e r =
     subst (λ (x : Result Strategy CheckFault). IfOk x (λ strategy. Spells wanted strategy old.held new.held left new_left)) (sym e) tt
 
@@ -232,7 +266,7 @@ pub loaded_from : (wanted : Wanted) (read : Result declared.Head CheckFault) (re
 loaded_from wanted (Ok head) result kept left new_left e r =
     subst (λ (x : Result Strategy CheckFault). IfOk x (λ strategy. IsLoaded wanted strategy left new_left)) (sym e)
     (IsLoaded-from wanted (told_by head) kept left new_left r.2.1
-    (subst (λ (ns : List AnyNode). ReadsWhole wanted (told_by head) ns left new_left) (sym r.2.0) r.1))
+    (subst (λ (ns : List AnyNode). ReadsWhole (headings.Strategy wanted) (told_by head) ns left new_left) (sym r.2.0) r.1))
 loaded_from wanted (Err fault) result kept left new_left e r =
     subst (λ (x : Result Strategy CheckFault). IfOk x (λ strategy. IsLoaded wanted strategy left new_left)) (sym e) tt
 
@@ -251,8 +285,8 @@ failed_from (Ok head) result kept P e h failed = let other : Ok (strategy_of_par
 failed_from (Err fault) result kept P e h failed = h (ap Err (err_is result fault Read e failed))
 
 -- a fault in a line of the text is one of the input
-pub fault_of_text : (wanted : Wanted) (held : List ℕ) (fault : CheckFault) (left new_left : Option (List ℕ)) → IsTextFaultOf wanted held fault left new_left
-    → IsFaultOf wanted held fault left new_left
-fault_of_text wanted held (Rejected line cause) left new_left f = f.rejects
-fault_of_text wanted held Read left new_left f = f
-fault_of_text wanted held Memory left new_left f = f
+pub fault_of_text : (heading : Heading) (held : List ℕ) (fault : CheckFault) (left new_left : Option (List ℕ)) → IsTextFaultUnder heading held fault left new_left
+    → IsFaultUnder heading held fault left new_left
+fault_of_text heading held (Rejected line cause) left new_left f = f.rejects
+fault_of_text heading held Read left new_left f = f
+fault_of_text heading held Memory left new_left f = f

@@ -1,17 +1,21 @@
 use Rattle.std.specs.Prelude.{◌≡◌, ◌≢◌, ℕ, ◌+◌, ◌<◌, ◌≤◌, ◌↔◌, List, [], ◌++◌, length, All, Some, slice_get}
 use Rattle.port_io.specs.Lines.{HasNoLf, IsLine, with_lf}
 use Rattle.items.specs.Game.{GameNumbers, IsGame}
-use Rattle.items.specs.Multiset.{sizes_of}
+use Rattle.items.specs.Multiset.{AreSizes, sizes_of}
 use Rattle.loads.specs.declared.position.Position.{Position}
 use Rattle.strategy_text.specs.Spelling.{SpellsGame, SpellsCount}
 use Rattle.strategy_text.specs.Text.{first_line, side_line, end_line, side_of, text_of, text_of_lines}
 use Rattle.strategy_text.specs.declared.node.Format.{Format}
+use Rattle.strategy_text.specs.declared.node.Format.TheVariants.{One}
 use Rattle.strategy_text.specs.declared.node.Side.{Side}
 use Rattle.strategy_text.specs.declared.node.Strategy.{Strategy}
 use Rattle.strategy_text.specs.declared.rule.Rule.{Rule}
 use Rattle.strategy_text.specs.declared.rule.Rule.TheVariants as rules
 use Rattle.strategies.specs.AnyNode.{IsLegal}
 use Rattle.checker.specs.Head.{Head, IsNodeLine, IsNodeLineAt, IsBrokenNodeLine}
+use Rattle.checker.specs.Listed.{SpellsSizes, listed_line}
+use Rattle.checker.specs.declared.fault.Heading.{Heading}
+use Rattle.checker.specs.declared.fault.Heading.TheVariants as headings
 use Rattle.checker.specs.declared.fault.Wanted.{Wanted}
 use Rattle.checker.specs.declared.fault.Wanted.TheVariants.{Either, Only}
 use Rattle.checker.specs.declared.fault.Why.{Why}
@@ -51,13 +55,36 @@ abbrev pub IsWanted : Wanted → Side → Type 0
 IsWanted Either side = Unit {0}
 IsWanted (Only wanted) side = wanted ≡ side
 
--- a line that names some format; that spells the numbers of some game, be they in its ranges or not; that names some
--- side; that spells some number of nodes
-abbrev pub IsFirstLine : List ℕ → Type 0
-IsFirstLine line = (format : Format) × (line ≡ first_line format)
+-- the side that is wanted of a text
+abbrev pub wanted_of : Heading → Wanted
+wanted_of (headings.Strategy wanted) = wanted
+wanted_of headings.Listed = Either
+
+-- the first line of a text; one with listed sizes has format 1
+abbrev pub first_of : Heading → Format → List ℕ
+first_of (headings.Strategy wanted) format = first_line format
+first_of headings.Listed format = listed_line
+
+abbrev pub IsFormatOf : Heading → Format → Type 0
+IsFormatOf (headings.Strategy wanted) format = Unit {0}
+IsFormatOf headings.Listed format = format ≡ One
+
+-- the line of the side, which comes after that of the sizes where there is one; that of the number of nodes is the
+-- next one, and then come the nodes
+abbrev pub side_place : Heading → ℕ
+side_place (headings.Strategy wanted) = 3
+side_place headings.Listed = 4
+
+-- a line that names some format as the first of a text; that spells the numbers of some game, be they in its ranges or
+-- not; that spells some list of sizes; that names some side; that spells some number of nodes
+abbrev pub IsFirstLine : Heading → List ℕ → Type 0
+IsFirstLine heading line = (format : Format) × IsFormatOf heading format × (line ≡ first_of heading format)
 
 abbrev pub IsGameLine : List ℕ → Type 0
 IsGameLine line = (game : GameNumbers) × SpellsGame line game
+
+abbrev pub IsSizesLine : List ℕ → Type 0
+IsSizesLine line = (sizes : List ℕ) × SpellsSizes line sizes
 
 abbrev pub IsSideLine : List ℕ → Type 0
 IsSideLine line = (side : Side) × (line ≡ side_line side)
@@ -65,28 +92,40 @@ IsSideLine line = (side : Side) × (line ≡ side_line side)
 abbrev pub IsCountLine : List ℕ → Type 0
 IsCountLine line = (count : ℕ) × SpellsCount line count
 
--- lines 1 to 4 have no fault, and tell this
-pub record HasHead (wanted : Wanted) (bytes : List ℕ) (head : Head) : Type 0 where
-  pub first : HasForm bytes 1 (λ line. line ≡ first_line head.format)
+-- the sizes that items may have: all sizes of the game, or the sizes of line 3, which are sizes of the game
+abbrev pub HasSizes : Heading → List ℕ → GameNumbers → List ℕ → Type 0
+HasSizes (headings.Strategy wanted) bytes game sizes = sizes ≡ sizes_of game
+HasSizes headings.Listed bytes game sizes = HasForm bytes 3 (λ line. SpellsSizes line sizes) × AreSizes game.capacity sizes
+
+-- the head lines have no fault, and tell this
+pub record HasHead (heading : Heading) (bytes : List ℕ) (head : Head) : Type 0 where
+  pub of_format : IsFormatOf heading head.format
+  pub first : HasForm bytes 1 (λ line. line ≡ first_of heading head.format)
   pub numbers : HasForm bytes 2 (λ line. SpellsGame line head.game)
   pub of_game : IsGame head.game
-  pub side : HasForm bytes 3 (λ line. line ≡ side_line head.side)
-  pub wanted_side : IsWanted wanted head.side
-  pub nodes : HasForm bytes 4 (λ line. SpellsCount line head.count)
-  pub whole_game : head.sizes ≡ sizes_of head.game
-  pub start : head.start ≡ 5
+  pub sizes : HasSizes heading bytes head.game head.sizes
+  pub side : HasForm bytes (side_place heading) (λ line. line ≡ side_line head.side)
+  pub wanted_side : IsWanted (wanted_of heading) head.side
+  pub nodes : HasForm bytes (side_place heading + 1) (λ line. SpellsCount line head.count)
+  pub start : head.start ≡ side_place heading + 2
 
 -- What is wrong with a head line. It has a syntax fault where it is missing, unfinished, too long, or not of the form
--- of its place; a line of its form may break a rule.
-pub data HeadFault (wanted : Wanted) (bytes : List ℕ) : ℕ → Why → Type 0 where
-  first_syntax : ¬ (HasForm bytes 1 IsFirstLine) → HeadFault wanted bytes 1 why.Syntax
-  game_syntax : ¬ (HasForm bytes 2 IsGameLine) → HeadFault wanted bytes 2 why.Syntax
+-- of its place; a line of its form may break a rule. The rule of the sizes is judged where line 2 has no fault.
+pub data HeadFault (heading : Heading) (bytes : List ℕ) : ℕ → Why → Type 0 where
+  first_syntax : ¬ (HasForm bytes 1 (IsFirstLine heading)) → HeadFault heading bytes 1 why.Syntax
+  game_syntax : ¬ (HasForm bytes 2 IsGameLine) → HeadFault heading bytes 2 why.Syntax
   game_rule : (game : GameNumbers) → HasForm bytes 2 (λ line. SpellsGame line game) → ¬ (IsGame game)
-      → HeadFault wanted bytes 2 (why.Rule rules.Game)
-  side_syntax : ¬ (HasForm bytes 3 IsSideLine) → HeadFault wanted bytes 3 why.Syntax
-  side_rule : (side : Side) → HasForm bytes 3 (λ line. line ≡ side_line side) → ¬ (IsWanted wanted side)
-      → HeadFault wanted bytes 3 (why.Rule rules.Side)
-  count_syntax : ¬ (HasForm bytes 4 IsCountLine) → HeadFault wanted bytes 4 why.Syntax
+      → HeadFault heading bytes 2 (why.Rule rules.Game)
+  sizes_syntax : heading ≡ headings.Listed → ¬ (HasForm bytes 3 IsSizesLine) → HeadFault heading bytes 3 why.Syntax
+  sizes_rule : heading ≡ headings.Listed → (game : GameNumbers) (sizes : List ℕ)
+      → HasForm bytes 2 (λ line. SpellsGame line game) → IsGame game → HasForm bytes 3 (λ line. SpellsSizes line sizes)
+      → ¬ (AreSizes game.capacity sizes) → HeadFault heading bytes 3 why.Sizes
+  side_syntax : ¬ (HasForm bytes (side_place heading) IsSideLine)
+      → HeadFault heading bytes (side_place heading) why.Syntax
+  side_rule : (side : Side) → HasForm bytes (side_place heading) (λ line. line ≡ side_line side)
+      → ¬ (IsWanted (wanted_of heading) side) → HeadFault heading bytes (side_place heading) (why.Rule rules.Side)
+  count_syntax : ¬ (HasForm bytes (side_place heading + 1) IsCountLine)
+      → HeadFault heading bytes (side_place heading + 1) why.Syntax
 
 -- ---- the lines after the head
 
@@ -111,26 +150,26 @@ pub data BodyFault (bytes : List ℕ) (head : Head) : ℕ → Why → Type 0 whe
 
 -- ---- faults
 
--- what is wrong with a line, where a side is wanted; lines after the head are judged only where the head lines have no
+-- what is wrong with a line, in a text with these head lines; lines after the head are judged only where the head lines have no
 -- fault
-pub data LineFault (wanted : Wanted) (bytes : List ℕ) (line : ℕ) (fault : Why) : Type 0 where
-  in_head : HeadFault wanted bytes line fault → LineFault wanted bytes line fault
-  in_body : (head : Head) → HasHead wanted bytes head → BodyFault bytes head line fault
-      → LineFault wanted bytes line fault
+pub data LineFault (heading : Heading) (bytes : List ℕ) (line : ℕ) (fault : Why) : Type 0 where
+  in_head : HeadFault heading bytes line fault → LineFault heading bytes line fault
+  in_body : (head : Head) → HasHead heading bytes head → BodyFault bytes head line fault
+      → LineFault heading bytes line fault
 
 -- the first fault: a line has it, and no line before that one has any
-pub record FirstFault (wanted : Wanted) (bytes : List ℕ) (line : ℕ) (fault : Why) : Type 0 where
-  pub has : LineFault wanted bytes line fault
-  pub first : (earlier : ℕ) (other : Why) → earlier < line → LineFault wanted bytes earlier other → ⊥
+pub record FirstFault (heading : Heading) (bytes : List ℕ) (line : ℕ) (fault : Why) : Type 0 where
+  pub has : LineFault heading bytes line fault
+  pub first : (earlier : ℕ) (other : Why) → earlier < line → LineFault heading bytes earlier other → ⊥
 
 -- no line has a fault
-abbrev pub HasNoFault : Wanted → List ℕ → Type 0
-HasNoFault wanted bytes = (line : ℕ) (fault : Why) → LineFault wanted bytes line fault → ⊥
+abbrev pub HasNoFault : Heading → List ℕ → Type 0
+HasNoFault heading bytes = (line : ℕ) (fault : Why) → LineFault heading bytes line fault → ⊥
 
 -- no whole line has a fault
-abbrev pub HasNoWholeFault : Wanted → List ℕ → Type 0
-HasNoWholeFault wanted bytes =
-    (line : ℕ) (rest : List ℕ) (fault : Why) → HasWhole bytes line rest → LineFault wanted bytes line fault → ⊥
+abbrev pub HasNoWholeFault : Heading → List ℕ → Type 0
+HasNoWholeFault heading bytes =
+    (line : ℕ) (rest : List ℕ) (fault : Why) → HasWhole bytes line rest → LineFault heading bytes line fault → ⊥
 
 -- the bytes are the text of a legal strategy of a wanted side
 pub record IsLegalText (wanted : Wanted) (bytes : List ℕ) : Type 0 where
@@ -144,15 +183,15 @@ pub record IsLegalText (wanted : Wanted) (bytes : List ℕ) : Type 0 where
 -- a text has at most one first fault
 abbrev pub OneFirstFault : Type 0
 OneFirstFault =
-    (wanted : Wanted) (bytes : List ℕ) (line other : ℕ) (fault another : Why) → FirstFault wanted bytes line fault
-    → FirstFault wanted bytes other another → (line ≡ other) × (fault ≡ another)
+    (heading : Heading) (bytes : List ℕ) (line other : ℕ) (fault another : Why) → FirstFault heading bytes line fault
+    → FirstFault heading bytes other another → (line ≡ other) × (fault ≡ another)
 
 -- the text of a legal strategy of a wanted side has no fault
 abbrev pub LegalTextHasNoFault : Type 0
-LegalTextHasNoFault = (wanted : Wanted) (bytes : List ℕ) → IsLegalText wanted bytes → HasNoFault wanted bytes
+LegalTextHasNoFault = (wanted : Wanted) (bytes : List ℕ) → IsLegalText wanted bytes → HasNoFault (headings.Strategy wanted) bytes
 
 -- the fault of a line depends on the bytes up to its line feed alone
 abbrev pub FaultDependsOnLinesBefore : Type 0
 FaultDependsOnLinesBefore =
-    (wanted : Wanted) (bytes more : List ℕ) (n line : ℕ) (rest : List ℕ) (fault : Why) → HasWhole bytes n rest
-    → line ≤ n → LineFault wanted bytes line fault ↔ LineFault wanted (bytes ++ more) line fault
+    (heading : Heading) (bytes more : List ℕ) (n line : ℕ) (rest : List ℕ) (fault : Why) → HasWhole bytes n rest
+    → line ≤ n → LineFault heading bytes line fault ↔ LineFault heading (bytes ++ more) line fault

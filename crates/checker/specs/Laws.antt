@@ -6,6 +6,9 @@ use Rattle.strategy_text.specs.Text.{strategy_lines, text_of}
 use Rattle.strategy_text.specs.declared.node.Strategy.{Strategy}
 use Rattle.checker.specs.FirstFault.{FirstFault, HasNoFault, IsLegalText}
 use Rattle.strategies.specs.AnyNode.{IsLegal}
+use Rattle.checker.specs.Listed.{IsLegalListedText}
+use Rattle.checker.specs.declared.fault.Heading.{Heading}
+use Rattle.checker.specs.declared.fault.Heading.TheVariants as headings
 use Rattle.checker.specs.declared.fault.Wanted.{Wanted}
 use Rattle.checker.specs.declared.fault.Why.{Why}
 
@@ -29,15 +32,19 @@ NoLegalTextBeginsAnother =
     → text_of one ++ more ≡ text_of other → more ≡ []
 
 -- a text has a first fault
-abbrev pub HasFirstFault : Wanted → List ℕ → Type 0
-HasFirstFault wanted bytes = (line : ℕ) × (fault : Why) × FirstFault wanted bytes line fault
+abbrev pub HasFirstFault : Heading → List ℕ → Type 0
+HasFirstFault heading bytes = (line : ℕ) × (fault : Why) × FirstFault heading bytes line fault
 
 -- each text has a first fault, or no line of it has a fault
 abbrev pub EveryTextHasAFirstFaultOrNone : Type 0
 EveryTextHasAFirstFaultOrNone =
-    (wanted : Wanted) (bytes : List ℕ) → HasFirstFault wanted bytes ⊎ HasNoFault wanted bytes
+    (heading : Heading) (bytes : List ℕ) → HasFirstFault heading bytes ⊎ HasNoFault heading bytes
 
 -- the texts without a fault are exactly those of legal strategies of a wanted side
 abbrev pub OnlyLegalTextsHaveNoFault : Type 0
 OnlyLegalTextsHaveNoFault =
-    (wanted : Wanted) (bytes : List ℕ) → HasNoFault wanted bytes ↔ IsLegalText wanted bytes
+    (wanted : Wanted) (bytes : List ℕ) → HasNoFault (headings.Strategy wanted) bytes ↔ IsLegalText wanted bytes
+
+-- the texts with listed sizes that have no fault are exactly those of legal strategies with listed sizes
+abbrev pub OnlyLegalListedTextsHaveNoFault : Type 0
+OnlyLegalListedTextsHaveNoFault = (bytes : List ℕ) → HasNoFault headings.Listed bytes ↔ IsLegalListedText bytes

@@ -1,4 +1,5 @@
 pub mod Head
+pub mod Listed
 pub mod FirstFault
 pub mod Accepted
 pub mod Progress

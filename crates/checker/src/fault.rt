@@ -3,7 +3,7 @@
 ghost use Rattle.std.specs.Prelude.{◌≡◌};
 ghost use Rattle.checker.specs.declared.fault.CheckFault.TheVariants.{Memory};
 
-use items::Game;
+use items::{Game, Sizes};
 use std::alloc::{AllocError, AllocFailed};
 use strategy_text::{Rule, Side};
 use thiserror::Error;
@@ -15,6 +15,9 @@ pub enum Why {
     Syntax,
     /// The line breaks this rule, the first in their order.
     Rule(Rule),
+    /// The line breaks the rule `sizes`: its list is empty, does not strictly ascend, or has a number that is no size
+    /// of the game. Only a text with listed sizes has this rule.
+    Sizes,
 }
 
 /// Which side of a strategy is wanted.
@@ -24,6 +27,15 @@ pub enum Wanted {
     Either,
     /// This side alone.
     Only(Side),
+}
+
+/// Which head lines a text is to have.
+#[derive(Clone, Copy, Debug, PartialEq, Eq)]
+pub enum Heading {
+    /// The four of a strategy, of a wanted side.
+    Strategy(Wanted),
+    /// The five of a strategy with listed sizes, of either side.
+    Listed,
 }
 
 /// Why a text was not accepted.
@@ -66,6 +78,19 @@ impl<T: Drop> From<AllocFailed<T>> for CheckFault {
 pub struct Accepted {
     /// The game.
     pub game: Game,
+    /// Whose strategy it is.
+    pub side: Side,
+    /// How many nodes it has.
+    pub nodes: u32,
+}
+
+/// A legal strategy with listed sizes that was read: its game, the sizes, its side, and how many nodes it has.
+#[derive(Drop)]
+pub struct AcceptedListed {
+    /// The game.
+    pub game: Game,
+    /// The sizes that items may have.
+    pub sizes: Sizes,
     /// Whose strategy it is.
     pub side: Side,
     /// How many nodes it has.

@@ -1,24 +1,30 @@
 //! Reading the head lines.
 
 ghost use Rattle.std.specs.Prelude.{◌≡◌, ◌↔◌, ◌∷◌, [], ◌+◌, ◌≤◌, IsTrue, None, Err, IfOk, IfErr, OnOk};
+ghost use Rattle.items.specs.Multiset.{AreSizes};
 ghost use Rattle.port_io.specs.Faults.{Rose};
 ghost use Rattle.port_io.specs.Lines.{IsLine, HasNoLf};
 ghost use Rattle.port_io.specs.declared.lines.Line.TheVariants.{Text};
 ghost use Rattle.items.specs.Game.{IsGame};
 ghost use Rattle.strategy_text.specs.Spelling.{most_nodes};
 ghost use Rattle.strategy_text.specs.Text.{first_line, game_line, side_line, count_line};
-ghost use Rattle.checker.specs.Accepted.{IsTextFaultOf};
-ghost use Rattle.checker.specs.FirstFault.{IsWanted, IsFirstLine, IsGameLine, IsSideLine, IsCountLine};
-ghost use Rattle.checker.specs.Progress.{ReadsLines, RefusesNext, AnyLine, NoRule, BreaksGame};
+ghost use Rattle.checker.specs.Accepted.{IsTextFaultUnder};
+ghost use Rattle.checker.specs.FirstFault.{IsWanted, IsFirstLine, IsGameLine, IsSizesLine, IsSideLine, IsCountLine};
+ghost use Rattle.checker.specs.Listed.{listed_line, sizes_line};
+ghost use Rattle.checker.specs.Progress.{ReadsLines, RefusesNext, AnyLine, NoRule, BreaksGame, BreaksSizes};
 ghost use Rattle.checker.specs.Progress.{BreaksSide, IsHead, lines_of_head, told_by};
+ghost use Rattle.checker.specs.declared.fault.Heading.TheVariants.{Strategy, Listed};
 ghost use Rattle.checker.specs.declared.fault.CheckFault.TheVariants.{Rejected, Read};
+ghost use Rattle.checker.specs.declared.fault.Wanted.TheVariants.{Either};
 ghost use Rattle.checker.specs.declared.fault.Why.TheVariants.{Syntax};
 ghost use Rattle.checker.specs.declared.fault.Why.TheVariants as why;
 
-use crate::fault::{CheckFault, Wanted, Why};
-use items::Game;
+use crate::fault::{CheckFault, Heading, Wanted, Why};
+use crate::sizes::parse_sizes;
+use items::{Game, Sizes};
 use node_pool::Terms;
 use port_io::{Line, LineReader, Source};
+use std::alloc::Global;
 use strategy_text::{Format, Rule, Side, parse_first, parse_game, parse_nodes, parse_side};
 
 // What the head lines tell: what a node is judged by, the side, how many nodes there are, and the number of the line
@@ -98,8 +104,8 @@ fn read_first<S: Source>(lines: &mut LineReader, source: &mut S) -> Result<Forma
         (S.left source.new)) }
     ensures read { result ≡ Err Read → Rose (S.faults source.old) (S.faults source.new) }
     ensures no_lf { result ≡ Err Read → HasNoLf lines.new.held }
-    ensures refused { IfErr result (λ fault. RefusesNext 1 IsFirstLine NoRule fault lines.old (S.left source.old)
-        (S.left source.new)) }
+    ensures refused { IfErr result (λ fault. RefusesNext 1 (IsFirstLine (Strategy Either)) NoRule fault lines.old
+        (S.left source.old) (S.left source.new)) }
 {
     next_text(lines, source, 1)?;
     let Some(format) = parse_first(lines.text()) else {
@@ -142,6 +148,7 @@ fn is_wanted(wanted: Wanted, side: Side) -> bool
 fn read_side<S: Source>(
     lines: &mut LineReader,
     source: &mut S,
+    line: u64,
     wanted: Wanted,
 ) -> Result<Side, CheckFault>
     requires { lines.old.ending ≡ None }
@@ -151,20 +158,24 @@ fn read_side<S: Source>(
     ensures wanted { IfOk result (IsWanted wanted) }
     ensures read { result ≡ Err Read → Rose (S.faults source.old) (S.faults source.new) }
     ensures no_lf { result ≡ Err Read → HasNoLf lines.new.held }
-    ensures refused { IfErr result (λ fault. RefusesNext 3 IsSideLine (BreaksSide wanted) fault lines.old
+    ensures refused { IfErr result (λ fault. RefusesNext line IsSideLine (BreaksSide wanted) fault lines.old
         (S.left source.old) (S.left source.new)) }
 {
-    next_text(lines, source, 3)?;
+    next_text(lines, source, line)?;
     let Some(side) = parse_side(lines.text()) else {
-        return Err(syntax(3));
+        return Err(syntax(line));
     };
     if !is_wanted(wanted, side) {
-        return Err(broken(3, Rule::Side));
+        return Err(broken(line, Rule::Side));
     }
     Ok(side)
 }
 
-fn read_count<S: Source>(lines: &mut LineReader, source: &mut S) -> Result<u32, CheckFault>
+fn read_count<S: Source>(
+    lines: &mut LineReader,
+    source: &mut S,
+    line: u64,
+) -> Result<u32, CheckFault>
     requires { lines.old.ending ≡ None }
     ensures count { S.faults source.old ≤ S.faults source.new }
     ensures ok { IfOk result (λ nodes. ReadsLines (count_line nodes ∷ []) lines.old lines.new (S.left source.old)
@@ -172,40 +183,154 @@ fn read_count<S: Source>(lines: &mut LineReader, source: &mut S) -> Result<u32, 
     ensures range { IfOk result (λ nodes. (1 ≤ nodes) × (nodes ≤ most_nodes)) }
     ensures read { result ≡ Err Read → Rose (S.faults source.old) (S.faults source.new) }
     ensures no_lf { result ≡ Err Read → HasNoLf lines.new.held }
-    ensures refused { IfErr result (λ fault. RefusesNext 4 IsCountLine NoRule fault lines.old (S.left source.old)
+    ensures refused { IfErr result (λ fault. RefusesNext line IsCountLine NoRule fault lines.old (S.left source.old)
         (S.left source.new)) }
 {
-    next_text(lines, source, 4)?;
+    next_text(lines, source, line)?;
     let Some(nodes) = parse_nodes(lines.text()) else {
-        return Err(syntax(4));
+        return Err(syntax(line));
     };
     Ok(nodes)
 }
 
-// Reads the head lines.
-pub(crate) fn read_head<S: Source>(
+// Reads the first line of a text with listed sizes.
+fn read_listed<S: Source>(lines: &mut LineReader, source: &mut S) -> Result<(), CheckFault>
+    requires { lines.old.ending ≡ None }
+    ensures count { S.faults source.old ≤ S.faults source.new }
+    ensures ok { OnOk result (ReadsLines (listed_line ∷ []) lines.old lines.new (S.left source.old)
+        (S.left source.new)) }
+    ensures read { result ≡ Err Read → Rose (S.faults source.old) (S.faults source.new) }
+    ensures no_lf { result ≡ Err Read → HasNoLf lines.new.held }
+    ensures refused { IfErr result (λ fault. RefusesNext 1 (IsFirstLine Listed) NoRule fault lines.old
+        (S.left source.old) (S.left source.new)) }
+{
+    next_text(lines, source, 1)?;
+    if !is_listed(lines.text()) {
+        return Err(syntax(1));
+    }
+    Ok(())
+}
+
+// Whether a line is the first of a text with listed sizes.
+fn is_listed(line: &[u8]) -> bool
+    ensures exact { IsTrue result ↔ (line.now ≡ listed_line) }
+{
+    line == b"listed 1".as_slice()
+}
+
+// Reads the line of the sizes, of a game that was read.
+fn read_sizes<S: Source>(
+    alloc: Global,
+    lines: &mut LineReader,
+    source: &mut S,
+    game: &Game,
+) -> Result<Sizes, CheckFault>
+    requires { lines.old.ending ≡ None }
+    ensures count { S.faults source.old ≤ S.faults source.new }
+    ensures ok { IfOk result (λ sizes. ReadsLines (sizes_line sizes ∷ []) lines.old lines.new (S.left source.old)
+        (S.left source.new)) }
+    ensures legal { IfOk result (AreSizes game.now.capacity) }
+    ensures read { result ≡ Err Read → Rose (S.faults source.old) (S.faults source.new) }
+    ensures no_lf { result ≡ Err Read → HasNoLf lines.new.held }
+    ensures refused { IfErr result (λ fault. RefusesNext 3 IsSizesLine (BreaksSizes game.now) fault lines.old
+        (S.left source.old) (S.left source.new)) }
+{
+    next_text(lines, source, 3)?;
+    let found = parse_sizes(alloc, lines.text())?;
+    let Some(list) = found else {
+        return Err(syntax(3));
+    };
+    let Some(sizes) = Sizes::from_slice(game, list.as_slice()) else {
+        return Err(no_sizes());
+    };
+    Ok(sizes)
+}
+
+fn no_sizes() -> CheckFault
+    ensures { result ≡ Rejected 3 why.Sizes }
+{
+    CheckFault::Rejected {
+        line: 3,
+        why: Why::Sizes,
+    }
+}
+
+// Reads the head lines of a strategy.
+fn read_strategy_head<S: Source>(
     lines: &mut LineReader,
     source: &mut S,
     wanted: Wanted,
 ) -> Result<Head, CheckFault>
     requires { lines.old.ending ≡ None }
     ensures count { S.faults source.old ≤ S.faults source.new }
-    ensures ok { IfOk result (λ head. ReadsLines (lines_of_head (told_by head)) lines.old lines.new (S.left source.old)
-        (S.left source.new)) }
-    ensures legal { IfOk result (λ head. IsHead wanted (told_by head)) }
+    ensures ok { IfOk result (λ head. ReadsLines (lines_of_head (Strategy wanted) (told_by head)) lines.old lines.new
+        (S.left source.old) (S.left source.new)) }
+    ensures legal { IfOk result (λ head. IsHead (Strategy wanted) (told_by head)) }
     ensures read { result ≡ Err Read → Rose (S.faults source.old) (S.faults source.new) }
     ensures no_lf { result ≡ Err Read → HasNoLf lines.new.held }
-    ensures refused { IfErr result (λ fault. IsTextFaultOf wanted lines.old.held fault (S.left source.old)
-        (S.left source.new)) }
+    ensures refused { IfErr result (λ fault. IsTextFaultUnder (Strategy wanted) lines.old.held fault
+        (S.left source.old) (S.left source.new)) }
 {
     let format = read_first(lines, source)?;
     let game = read_game(lines, source)?;
-    let side = read_side(lines, source, wanted)?;
-    let count = read_count(lines, source)?;
+    let side = read_side(lines, source, 3, wanted)?;
+    let count = read_count(lines, source, 4)?;
     Ok(Head {
         terms: Terms::of_game(format, &game),
         side,
         count,
         start: 5,
     })
+}
+
+// Reads the head lines of a strategy with listed sizes.
+fn read_listed_head<S: Source>(
+    alloc: Global,
+    lines: &mut LineReader,
+    source: &mut S,
+) -> Result<Head, CheckFault>
+    requires { lines.old.ending ≡ None }
+    ensures count { S.faults source.old ≤ S.faults source.new }
+    ensures ok { IfOk result (λ head. ReadsLines (lines_of_head Listed (told_by head)) lines.old lines.new
+        (S.left source.old) (S.left source.new)) }
+    ensures legal { IfOk result (λ head. IsHead Listed (told_by head)) }
+    ensures read { result ≡ Err Read → Rose (S.faults source.old) (S.faults source.new) }
+    ensures no_lf { result ≡ Err Read → HasNoLf lines.new.held }
+    ensures refused { IfErr result (λ fault. IsTextFaultUnder Listed lines.old.held fault (S.left source.old)
+        (S.left source.new)) }
+{
+    read_listed(lines, source)?;
+    let game = read_game(lines, source)?;
+    let sizes = read_sizes(alloc, lines, source, &game)?;
+    let side = read_side(lines, source, 4, Wanted::Either)?;
+    let count = read_count(lines, source, 5)?;
+    Ok(Head {
+        terms: Terms::of_sizes(Format::One, &game, &sizes),
+        side,
+        count,
+        start: 6,
+    })
+}
+
+// Reads the head lines of a text.
+pub(crate) fn read_head<S: Source>(
+    alloc: Global,
+    lines: &mut LineReader,
+    source: &mut S,
+    heading: Heading,
+) -> Result<Head, CheckFault>
+    requires { lines.old.ending ≡ None }
+    ensures count { S.faults source.old ≤ S.faults source.new }
+    ensures ok { IfOk result (λ head. ReadsLines (lines_of_head heading (told_by head)) lines.old lines.new
+        (S.left source.old) (S.left source.new)) }
+    ensures legal { IfOk result (λ head. IsHead heading (told_by head)) }
+    ensures read { result ≡ Err Read → Rose (S.faults source.old) (S.faults source.new) }
+    ensures no_lf { result ≡ Err Read → HasNoLf lines.new.held }
+    ensures refused { IfErr result (λ fault. IsTextFaultUnder heading lines.old.held fault (S.left source.old)
+        (S.left source.new)) }
+{
+    match heading {
+        Heading::Strategy(wanted) => read_strategy_head(lines, source, wanted),
+        Heading::Listed => read_listed_head(alloc, lines, source),
+    }
 }

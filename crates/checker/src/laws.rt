@@ -4,6 +4,7 @@ ghost use Rattle.checker.specs.FirstFault.{OneFirstFault, LegalTextHasNoFault, F
 ghost use Rattle.checker.specs.Laws.{LegalIsSpellable, LegalLinesAreLines};
 ghost use Rattle.checker.specs.Laws.{LegalTextTellsStrategy, NoLegalTextBeginsAnother};
 ghost use Rattle.checker.specs.Laws.{EveryTextHasAFirstFaultOrNone, OnlyLegalTextsHaveNoFault};
+ghost use Rattle.checker.specs.Laws.{OnlyLegalListedTextsHaveNoFault};
 
 /// A text has at most one first fault: one line, and one thing that is wrong with it.
 pub fn a_text_has_one_first_fault()
@@ -35,8 +36,9 @@ pub fn faults_depend_on_the_lines_before()
 {}
 
 /// Every text has a first fault, or no line of it has a fault; and the texts without a fault are exactly
-/// those of the legal strategies of a wanted side.
+/// those of the legal strategies of a wanted side, or with listed sizes.
 pub fn every_text_has_a_first_fault_or_none()
     ensures decided { EveryTextHasAFirstFaultOrNone }
     ensures legal { OnlyLegalTextsHaveNoFault }
+    ensures listed { OnlyLegalListedTextsHaveNoFault }
 {}

@@ -7,9 +7,10 @@ mod keeper;
 pub mod laws;
 mod node;
 mod reading;
+mod sizes;
 
-pub use fault::{Accepted, CheckFault, Wanted, Why};
-pub use reading::{check, load, load_from};
+pub use fault::{Accepted, AcceptedListed, CheckFault, Heading, Wanted, Why};
+pub use reading::{check, check_listed, load, load_from};
 
 #[cfg(test)]
 mod tests;

@@ -9,8 +9,8 @@ ghost use Rattle.strategy_text.specs.Spelling.{IsSpellableNode, most_nodes};
 ghost use Rattle.strategy_text.specs.Text.{AnyNode, end_line, items_of, loads_of};
 ghost use Rattle.strategies.specs.AnyNode.{position_of, side_of_node};
 ghost use Rattle.checker.specs.Head.{SpellsUnder, MeetsUnder, BreaksUnder};
-ghost use Rattle.checker.specs.Head.{IsNodeLine, IsBrokenNodeLine};
-ghost use Rattle.checker.specs.Progress.{ReadsNode, TakesNode, IsRefusedLine, IsBrokenBy};
+ghost use Rattle.checker.specs.Head.{IsNodeLine};
+ghost use Rattle.checker.specs.Progress.{BreaksNode, ReadsNode, TakesNode, IsRefusedLine, IsBrokenBy};
 ghost use Rattle.checker.specs.Progress.{RefusesNext, NoRule, told_by, any_node};
 ghost use Rattle.checker.specs.declared.fault.CheckFault.TheVariants.{Read};
 
@@ -146,7 +146,7 @@ fn take_node(
     requires most { head.now.count ≤ most_nodes }
     ensures ok { OnOk result (TakesNode (told_by head.now) earlier.old earlier.new (any_node node.new) text.now) }
     ensures err { IfErr result (λ fault. IsRefusedLine (head.now.start + length earlier.old)
-        (IsNodeLine (told_by head.now) (length earlier.old)) (IsBrokenNodeLine (told_by head.now) earlier.old) fault
+        (IsNodeLine (told_by head.now) (length earlier.old)) (BreaksNode (told_by head.now) earlier.old) fault
         text.now) }
 {
     let number = earlier.len() as u32;
@@ -177,7 +177,7 @@ pub(crate) fn read_node<S: Source>(
     ensures read { result ≡ Err Read → Rose (S.faults source.old) (S.faults source.new) }
     ensures no_lf { result ≡ Err Read → HasNoLf lines.new.held }
     ensures refused { IfErr result (λ fault. RefusesNext (head.now.start + length earlier.old)
-        (IsNodeLine (told_by head.now) (length earlier.old)) (IsBrokenNodeLine (told_by head.now) earlier.old) fault
+        (IsNodeLine (told_by head.now) (length earlier.old)) (BreaksNode (told_by head.now) earlier.old) fault
         lines.old (S.left source.old) (S.left source.new)) }
 {
     next_text(lines, source, head.line_of(earlier.len() as u32))?;

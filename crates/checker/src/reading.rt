@@ -9,14 +9,16 @@ ghost use Rattle.online_play.specs.Algorithm.{ForcesEvery};
 ghost use Rattle.strategy_text.specs.declared.node.Side.TheVariants.{Adversary};
 ghost use Rattle.strategy_text.specs.Spelling.{most_nodes};
 ghost use Rattle.strategy_text.specs.Text.{AnyNode, end_line, side_of};
-ghost use Rattle.checker.specs.Accepted.{Accepts, IsLoaded, Spells, IsFaultOf, IsTextFaultOf, BeginsWithLegalText};
+ghost use Rattle.checker.specs.Accepted.{Accepts, AcceptsListed, IsLoaded, Spells, BeginsWithLegalText};
+ghost use Rattle.checker.specs.Accepted.{IsFaultOf, IsFaultUnder, IsTextFaultOf, IsTextFaultUnder};
 ghost use Rattle.checker.specs.Progress.{ReadsLines, ReadsNodes, ReadsText, ReadsWhole, ReadsEnd};
 ghost use Rattle.checker.specs.Progress.{RefusesNext, RefusesAfter, RefusesNode, IsPastEnd};
 ghost use Rattle.checker.specs.Progress.{NoRule, told_by, strategy_or};
 ghost use Rattle.checker.specs.declared.fault.CheckFault.TheVariants.{Read, Memory};
+ghost use Rattle.checker.specs.declared.fault.Heading.TheVariants.{Listed};
 ghost use Rattle.checker.specs.declared.fault.Wanted.TheVariants.{Either};
 
-use crate::fault::{Accepted, CheckFault, Wanted};
+use crate::fault::{Accepted, AcceptedListed, CheckFault, Heading, Wanted};
 use crate::head::{Head, next_text, read_head, syntax};
 use crate::keeper::{Keeper, Nothing};
 use crate::node::{Node, read_node};
@@ -101,19 +103,19 @@ fn read_text<S: Source, K: Keeper>(
     alloc: Global,
     lines: &mut LineReader,
     source: &mut S,
-    wanted: Wanted,
+    heading: Heading,
     kept: &mut K,
 ) -> Result<Head, CheckFault>
     requires { lines.old.ending ≡ None }
     ensures count { S.faults source.old ≤ S.faults source.new }
-    ensures ok { IfOk result (λ head. (nodes : List AnyNode) × ReadsText wanted (told_by head) nodes lines.old lines.new
+    ensures ok { IfOk result (λ head. (nodes : List AnyNode) × ReadsText heading (told_by head) nodes lines.old lines.new
         (S.left source.old) (S.left source.new) × K.holds kept.new head.side nodes) }
     ensures read { result ≡ Err Read → Rose (S.faults source.old) (S.faults source.new) }
     ensures no_lf { result ≡ Err Read → HasNoLf lines.new.held }
-    ensures refused { IfErr result (λ fault. IsTextFaultOf wanted lines.old.held fault (S.left source.old)
+    ensures refused { IfErr result (λ fault. IsTextFaultUnder heading lines.old.held fault (S.left source.old)
         (S.left source.new)) }
 {
-    let head = read_head(lines, source, wanted)?;
+    let head = read_head(alloc, lines, source, heading)?;
     read_nodes(alloc, lines, source, &head, kept)?;
     read_end(lines, source, head.line_of(head.count))?;
     Ok(head)
@@ -123,17 +125,17 @@ fn read_text<S: Source, K: Keeper>(
 fn read_whole<S: Source, K: Keeper>(
     alloc: Global,
     source: &mut S,
-    wanted: Wanted,
+    heading: Heading,
     kept: &mut K,
 ) -> Result<Head, CheckFault>
     ensures count { S.faults source.old ≤ S.faults source.new }
-    ensures ok { IfOk result (λ head. (nodes : List AnyNode) × ReadsWhole wanted (told_by head) nodes
+    ensures ok { IfOk result (λ head. (nodes : List AnyNode) × ReadsWhole heading (told_by head) nodes
         (S.left source.old) (S.left source.new) × K.holds kept.new head.side nodes) }
     ensures read { result ≡ Err Read → Rose (S.faults source.old) (S.faults source.new) }
-    ensures fault { IfErr result (λ fault. IsFaultOf wanted [] fault (S.left source.old) (S.left source.new)) }
+    ensures fault { IfErr result (λ fault. IsFaultUnder heading [] fault (S.left source.old) (S.left source.new)) }
 {
     let mut lines = LineReader::new(alloc)?;
-    let head = read_text(alloc, &mut lines, source, wanted, kept)?;
+    let head = read_text(alloc, &mut lines, source, heading, kept)?;
     read_past(&mut lines, source, head.line_of(head.count) + 1)?;
     Ok(head)
 }
@@ -182,7 +184,7 @@ pub fn load_from<S: Source>(
         → (IsOk result ↔ BeginsWithLegalText wanted (lines.old.held ++ left))) }
 {
     let mut nodes = Nodes::Adversary(AdvNodes::new(alloc));
-    let read = read_text(alloc, lines, source, wanted, &mut nodes);
+    let read = read_text(alloc, lines, source, Heading::Strategy(wanted), &mut nodes);
     strategy_of(read, nodes)
 }
 
@@ -205,7 +207,7 @@ pub fn load<S: Source>(
     ensures fault { IfErr result (λ fault. IsFaultOf wanted [] fault (S.left source.old) (S.left source.new)) }
 {
     let mut nodes = Nodes::Adversary(AdvNodes::new(alloc));
-    let read = read_whole(alloc, source, wanted, &mut nodes);
+    let read = read_whole(alloc, source, Heading::Strategy(wanted), &mut nodes);
     strategy_of(read, nodes)
 }
 
@@ -223,9 +225,36 @@ pub fn check<S: Source>(alloc: Global, source: &mut S) -> Result<Accepted, Check
     ensures read { result ≡ Err Read → Rose (S.faults source.old) (S.faults source.new) }
     ensures fault { IfErr result (λ fault. IsFaultOf Either [] fault (S.left source.old) (S.left source.new)) }
 {
-    let head = read_whole(alloc, source, Wanted::Either, &mut Nothing {})?;
+    let head = read_whole(
+        alloc,
+        source,
+        Heading::Strategy(Wanted::Either),
+        &mut Nothing {},
+    )?;
     Ok(Accepted {
         game: head.terms.game(),
+        side: head.side,
+        nodes: head.count,
+    })
+}
+
+/// Reads the text of a strategy with listed sizes, of either side, to its end, and judges each node as soon as its line
+/// is whole. The reading, the judging and the cost are those of [`check`]; a node is judged by the listed sizes.
+///
+/// # Errors
+///
+/// The first fault of the bytes read, at the least line that has one; a failed read; or memory that was refused.
+pub fn check_listed<S: Source>(alloc: Global, source: &mut S) -> Result<AcceptedListed, CheckFault>
+    ensures count { S.faults source.old ≤ S.faults source.new }
+    ensures accepted { IfOk result (λ accepted. AcceptsListed accepted (S.left source.old) (S.left source.new)) }
+    ensures read { result ≡ Err Read → Rose (S.faults source.old) (S.faults source.new) }
+    ensures fault { IfErr result (λ fault. IsFaultUnder Listed [] fault (S.left source.old) (S.left source.new)) }
+{
+    let head = read_whole(alloc, source, Heading::Listed, &mut Nothing {})?;
+    let sizes = head.terms.sizes().copy();
+    Ok(AcceptedListed {
+        game: head.terms.game(),
+        sizes,
         side: head.side,
         nodes: head.count,
     })

@@ -10,14 +10,14 @@ returns-in_err-next_text-clause-refused g c =
     let old = c.args.lines.now in
     let left = g.S.Source.left c.args.source.now in
     let new_left = g.S.Source.left c.next_text.new.source in
-    passed_on (λ (fault : CheckFault). RefusesNext 4 IsCountLine NoRule fault old left new_left) c.in_err-next_text.field-0.0 c.from_residual.result c.from_residual.ensures.1
-    (refuses_next 4 IsCountLine NoRule c.in_err-next_text.field-0.0 old left new_left c.in_err-next_text.ensures.refused)
+    passed_on (λ (fault : CheckFault). RefusesNext c.args.line IsCountLine NoRule fault old left new_left) c.in_err-next_text.field-0.0 c.from_residual.result c.from_residual.ensures.1
+    (refuses_next c.args.line IsCountLine NoRule c.in_err-next_text.field-0.0 old left new_left c.in_err-next_text.ensures.refused)
 
 pub returns-in_default-clause-refused : goal.returns-in_default-clause-refused
 returns-in_default-clause-refused g c =
     let old = c.args.lines.now in
     let left = g.S.Source.left c.args.source.now in
     let new_left = g.S.Source.left c.next_text.new.source in
-    subst (λ (fault : CheckFault). RefusesNext 4 IsCountLine NoRule fault old left new_left) (sym c.syntax.ensures)
-    (refuses_form 4 IsCountLine NoRule c.next_text.new.lines.text old c.next_text.new.lines left new_left c.in_ok-next_text.ensures.ok
+    subst (λ (fault : CheckFault). RefusesNext c.args.line IsCountLine NoRule fault old left new_left) (sym c.syntax.ensures)
+    (refuses_form c.args.line IsCountLine NoRule c.next_text.new.lines.text old c.next_text.new.lines left new_left c.in_ok-next_text.ensures.ok
     (λ form. c.in_default.ensures.exact form.0 (rw c.text.ensures form.1)))

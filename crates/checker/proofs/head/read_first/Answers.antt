@@ -2,6 +2,8 @@ use Rattle.std.proofs.Common.{sym, subst}
 use Rattle.checker.specs.FirstFault.{IsFirstLine}
 use Rattle.checker.specs.Progress.{NoRule, RefusesNext}
 use Rattle.checker.specs.declared.fault.CheckFault.{CheckFault}
+use Rattle.checker.specs.declared.fault.Heading.TheVariants.{Strategy}
+use Rattle.checker.specs.declared.fault.Wanted.TheVariants.{Either}
 use Rattle.checker.proofs.ProgressLemmas.{passed_on, refuses_next, refuses_form}
 use Rattle.checker.proofs.head.read_first.Goals as goal
 
@@ -10,14 +12,14 @@ returns-in_err-next_text-clause-refused g c =
     let old = c.args.lines.now in
     let left = g.S.Source.left c.args.source.now in
     let new_left = g.S.Source.left c.next_text.new.source in
-    passed_on (λ (fault : CheckFault). RefusesNext 1 IsFirstLine NoRule fault old left new_left) c.in_err-next_text.field-0.0 c.from_residual.result c.from_residual.ensures.1
-    (refuses_next 1 IsFirstLine NoRule c.in_err-next_text.field-0.0 old left new_left c.in_err-next_text.ensures.refused)
+    passed_on (λ (fault : CheckFault). RefusesNext 1 (IsFirstLine (Strategy Either)) NoRule fault old left new_left) c.in_err-next_text.field-0.0 c.from_residual.result c.from_residual.ensures.1
+    (refuses_next 1 (IsFirstLine (Strategy Either)) NoRule c.in_err-next_text.field-0.0 old left new_left c.in_err-next_text.ensures.refused)
 
 pub returns-in_default-clause-refused : goal.returns-in_default-clause-refused
 returns-in_default-clause-refused g c =
     let old = c.args.lines.now in
     let left = g.S.Source.left c.args.source.now in
     let new_left = g.S.Source.left c.next_text.new.source in
-    subst (λ (fault : CheckFault). RefusesNext 1 IsFirstLine NoRule fault old left new_left) (sym c.syntax.ensures)
-    (refuses_form 1 IsFirstLine NoRule c.next_text.new.lines.text old c.next_text.new.lines left new_left c.in_ok-next_text.ensures.ok
-    (λ form. c.in_default.ensures.exact form.0 (rw c.text.ensures form.1)))
+    subst (λ (fault : CheckFault). RefusesNext 1 (IsFirstLine (Strategy Either)) NoRule fault old left new_left) (sym c.syntax.ensures)
+    (refuses_form 1 (IsFirstLine (Strategy Either)) NoRule c.next_text.new.lines.text old c.next_text.new.lines left new_left c.in_ok-next_text.ensures.ok
+    (λ form. c.in_default.ensures.exact form.0 (rw c.text.ensures form.2)))

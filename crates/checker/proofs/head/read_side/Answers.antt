@@ -11,17 +11,17 @@ returns-in_err-next_text-clause-refused g c =
     let old = c.args.lines.now in
     let left = g.S.Source.left c.args.source.now in
     let new_left = g.S.Source.left c.next_text.new.source in
-    passed_on (λ (fault : CheckFault). RefusesNext 3 IsSideLine (BreaksSide c.args.wanted) fault old left new_left) c.in_err-next_text.field-0.0 c.from_residual.result
+    passed_on (λ (fault : CheckFault). RefusesNext c.args.line IsSideLine (BreaksSide c.args.wanted) fault old left new_left) c.in_err-next_text.field-0.0 c.from_residual.result
     c.from_residual.ensures.1
-    (refuses_next 3 IsSideLine (BreaksSide c.args.wanted) c.in_err-next_text.field-0.0 old left new_left c.in_err-next_text.ensures.refused)
+    (refuses_next c.args.line IsSideLine (BreaksSide c.args.wanted) c.in_err-next_text.field-0.0 old left new_left c.in_err-next_text.ensures.refused)
 
 pub returns-in_default-clause-refused : goal.returns-in_default-clause-refused
 returns-in_default-clause-refused g c =
     let old = c.args.lines.now in
     let left = g.S.Source.left c.args.source.now in
     let new_left = g.S.Source.left c.next_text.new.source in
-    subst (λ (fault : CheckFault). RefusesNext 3 IsSideLine (BreaksSide c.args.wanted) fault old left new_left) (sym c.syntax.ensures)
-    (refuses_form 3 IsSideLine (BreaksSide c.args.wanted) c.next_text.new.lines.text old c.next_text.new.lines left new_left c.in_ok-next_text.ensures.ok
+    subst (λ (fault : CheckFault). RefusesNext c.args.line IsSideLine (BreaksSide c.args.wanted) fault old left new_left) (sym c.syntax.ensures)
+    (refuses_form c.args.line IsSideLine (BreaksSide c.args.wanted) c.next_text.new.lines.text old c.next_text.new.lines left new_left c.in_ok-next_text.ensures.ok
     (λ form. c.in_default.ensures.exact form.0 (rw c.text.ensures form.1)))
 
 pub returns-then-not-is_wanted-clause-refused : goal.returns-then-not-is_wanted-clause-refused
@@ -29,6 +29,6 @@ returns-then-not-is_wanted-clause-refused g c =
     let old = c.args.lines.now in
     let left = g.S.Source.left c.args.source.now in
     let new_left = g.S.Source.left c.next_text.new.source in
-    subst (λ (fault : CheckFault). RefusesNext 3 IsSideLine (BreaksSide c.args.wanted) fault old left new_left) (sym c.broken.ensures)
-    (refuses_rule 3 IsSideLine (BreaksSide c.args.wanted) rules.Side c.next_text.new.lines.text old c.next_text.new.lines left new_left c.in_ok-next_text.ensures.ok
+    subst (λ (fault : CheckFault). RefusesNext c.args.line IsSideLine (BreaksSide c.args.wanted) fault old left new_left) (sym c.broken.ensures)
+    (refuses_rule c.args.line IsSideLine (BreaksSide c.args.wanted) rules.Side c.next_text.new.lines.text old c.next_text.new.lines left new_left c.in_ok-next_text.ensures.ok
     (refl, (c.in-Some.side, sym c.text.ensures ∙ c.in-Some.ensures.exact, λ is. both_ways c.is_wanted.result c.if-not-is_wanted.true (c.is_wanted.ensures.exact.1 is))))
