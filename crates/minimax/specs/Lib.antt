@@ -1,6 +1,7 @@
 pub mod Settled
 pub mod Answers
 pub mod State
+pub mod Expanded
 pub mod Budgets
 pub mod Fresh
 pub mod Serving

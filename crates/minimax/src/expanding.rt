@@ -13,6 +13,7 @@ ghost use Rattle.minimax.specs.Serving.{HasSpare, IsServedAt, IsServedBy, IsServ
 ghost use Rattle.minimax.specs.Serving.{KeepsServing, KeepsServingTold};
 ghost use Rattle.minimax.specs.Serving.{taken_by};
 ghost use Rattle.minimax.specs.State.{IsSound, HasReached, HasTried, HasWeighed, FindsVerdict};
+ghost use Rattle.minimax.specs.Expanded.{IsWhole};
 ghost use Rattle.minimax.specs.State.{IsBound, IsOpenAt, IsOpenFrom, IsTold, MayCome, MayVisit, StandsAtPath};
 ghost use Rattle.minimax.specs.State.{Stops, WentOn};
 ghost use Rattle.minimax.specs.State.{kept_of, reached_by, with_move};
@@ -46,6 +47,18 @@ pub(crate) struct Search {
     pub(crate) path: Path,
     // A bound on the room of the position that the path leads to: the room of the one before it.
     pub(crate) most: u16,
+}
+
+/// A position that is expanded: what is searched and in which pass, what the table told of the position, the position,
+/// its key and its different loads, from the greatest on.
+#[derive(Clone, Copy)]
+pub(crate) struct Expansion<'a> {
+    pub(crate) space: &'a Space,
+    pub(crate) pass: u16,
+    pub(crate) told: Told,
+    pub(crate) position: &'a Position,
+    pub(crate) key: &'a Key,
+    pub(crate) loads: &'a [u16],
 }
 
 // What an item comes to at a load: the adversary wins, with what follows, or this is the verdict.
@@ -134,7 +147,16 @@ fn look_up<M: Memo>(
     }
     search.meter.visit(pass, &search.path)?;
     let position = position_of(loads, &key);
-    let verdict = decide(space, pass, told, search, memo, &position, &key)?;
+    let found = distinct_loads(&position.loads);
+    let here = Expansion {
+        space,
+        pass,
+        told,
+        position: &position,
+        key: &key,
+        loads: &found[..position.loads.distinct_count()],
+    };
+    let verdict = decide(search, memo, &here)?;
     remember(memo, key, verdict)?;
     Ok(verdict)
 }
@@ -181,38 +203,34 @@ fn position_of(loads: Loads, key: &Key) -> Position
 // The verdict of a position that was visited and does not finish.
 #[cycle(expanding)]
 fn decide<M: Memo>(
-    space: &Space,
-    pass: u16,
-    told: Told,
     search: &mut Search,
     memo: &mut M,
-    position: &Position,
-    key: &Key,
+    here: &Expansion,
 ) -> Result<Verdict, VisitFault>
-    requires of_key { key.now ≡ position.now }
-    requires sound { IsSound space.now pass search.old (M.entries memo.old) }
-    requires stands { StandsAtPath space.now pass search.old.path position.now }
-    requires unfinished { Finishes space.now.game position.now.loads → ⊥ }
-    requires visited { search.old.meter.last ≡ Some (visit pass search.old.path) }
-    requires told { IsTold pass (verdict_of (M.entries memo.old) position.now) told }
-    requires behind { HasSpare space.now 1 search.old (M.entries memo.old) }
-    requires bound { IsBound space.now.game position.now.items search.old.most }
-    requires rooms { search.old.rooms ≡ space.now.game }
+    requires whole { IsWhole here.now }
+    requires sound { IsSound here.now.space.now here.now.pass search.old (M.entries memo.old) }
+    requires stands { StandsAtPath here.now.space.now here.now.pass search.old.path here.now.position.now }
+    requires unfinished { Finishes here.now.space.now.game here.now.position.now.loads → ⊥ }
+    requires visited { search.old.meter.last ≡ Some (visit here.now.pass search.old.path) }
+    requires told { IsTold here.now.pass (verdict_of (M.entries memo.old) here.now.position.now) here.now.told }
+    requires behind { HasSpare here.now.space.now 1 search.old (M.entries memo.old) }
+    requires bound { IsBound here.now.space.now.game here.now.position.now.items search.old.most }
+    requires rooms { search.old.rooms ≡ here.now.space.now.game }
     ensures found { MatchResult result
-        (FindsVerdict space.now pass position.now search.old search.new (M.entries memo.new))
-        (Stops space.now pass search.old.meter.budget search.new) }
-    ensures counts { KeepsCount space.now pass (sum position.now.items + 1)
+        (FindsVerdict here.now.space.now here.now.pass here.now.position.now search.old search.new (M.entries memo.new))
+        (Stops here.now.space.now here.now.pass search.old.meter.budget search.new) }
+    ensures counts { KeepsCount here.now.space.now here.now.pass (sum here.now.position.now.items + 1)
         (progress search.old.meter (M.entries memo.old) (M.room memo.old))
         (progress search.new.meter (M.entries memo.new) (M.room memo.new)) result }
-    ensures serves { IfOk result (λ verdict. KeepsServing space.now 1 search.old (M.entries memo.old)
-        search.new (M.entries memo.new) (λ later. IsServedBy space.now later position.now verdict)) }
+    ensures serves { IfOk result (λ verdict. KeepsServing here.now.space.now 1 search.old (M.entries memo.old)
+        search.new (M.entries memo.new) (λ later. IsServedBy here.now.space.now later here.now.position.now verdict)) }
 {
     let most = search.most;
     let room = search
         .rooms
-        .room_up_to(search.alloc, &position.items, key, most)?;
+        .room_up_to(search.alloc, &here.position.items, here.key, most)?;
     search.most = room;
-    let verdict = weigh_all(space, pass, told, search, memo, position, key, room)?;
+    let verdict = weigh_all(search, memo, here, room)?;
     search.most = most;
     Ok(verdict)
 }
@@ -220,48 +238,31 @@ fn decide<M: Memo>(
 // The verdict of a position by the sizes up to the room, from the largest on.
 #[cycle(expanding)]
 fn weigh_all<M: Memo>(
-    space: &Space,
-    pass: u16,
-    told: Told,
     search: &mut Search,
     memo: &mut M,
-    position: &Position,
-    key: &Key,
+    here: &Expansion,
     room: u16,
 ) -> Result<Verdict, VisitFault>
-    requires of_key { key.now ≡ position.now }
-    requires sound { IsSound space.now pass search.old (M.entries memo.old) }
-    requires from_room { IsOpenFrom space.now pass room search.old position.now }
-    requires is_room { IsRoom space.now.game position.now.items room }
-    requires told { IsTold pass (verdict_of (M.entries memo.old) position.now) told }
-    requires behind { HasSpare space.now 1 search.old (M.entries memo.old) }
+    requires whole { IsWhole here.now }
+    requires sound { IsSound here.now.space.now here.now.pass search.old (M.entries memo.old) }
+    requires from_room { IsOpenFrom here.now.space.now here.now.pass room search.old here.now.position.now }
+    requires is_room { IsRoom here.now.space.now.game here.now.position.now.items room }
+    requires told { IsTold here.now.pass (verdict_of (M.entries memo.old) here.now.position.now) here.now.told }
+    requires behind { HasSpare here.now.space.now 1 search.old (M.entries memo.old) }
     ensures found { MatchResult result
-        (FindsVerdict space.now pass position.now search.old search.new (M.entries memo.new))
-        (Stops space.now pass search.old.meter.budget search.new) }
-    ensures counts { KeepsCount space.now pass (sum position.now.items + 1)
+        (FindsVerdict here.now.space.now here.now.pass here.now.position.now search.old search.new (M.entries memo.new))
+        (Stops here.now.space.now here.now.pass search.old.meter.budget search.new) }
+    ensures counts { KeepsCount here.now.space.now here.now.pass (sum here.now.position.now.items + 1)
         (progress search.old.meter (M.entries memo.old) (M.room memo.old))
         (progress search.new.meter (M.entries memo.new) (M.room memo.new)) result }
-    ensures serves { IfOk result (λ verdict. KeepsServing space.now 1 search.old (M.entries memo.old)
-        search.new (M.entries memo.new) (λ later. IsServedBy space.now later position.now verdict)) }
+    ensures serves { IfOk result (λ verdict. KeepsServing here.now.space.now 1 search.old (M.entries memo.old)
+        search.new (M.entries memo.new) (λ later. IsServedBy here.now.space.now later here.now.position.now verdict)) }
 {
     let mut entries = Vec::new(search.alloc);
     let mut answered = true;
-    let collects = allows_all(space, pass, position);
-    let found = distinct_loads(&position.loads);
-    let count = position.loads.distinct_count();
-    let loads = &found[..count];
+    let collects = allows_all(here);
     for tried in 0..room {
-        match weigh(
-            space,
-            pass,
-            told,
-            search,
-            memo,
-            position,
-            key,
-            loads,
-            room - tried,
-        )? {
+        match weigh(search, memo, here, room - tried)? {
             Weighed::Won(number) => return Ok(Verdict::Adversary(number)),
             Weighed::Replied(entry) => {
                 if collects {
@@ -275,64 +276,64 @@ fn weigh_all<M: Memo>(
         }
     }
     if !answered {
-        return Ok(Verdict::Held(pass));
+        return Ok(Verdict::Held(here.pass));
     }
-    let number = keep(search.alloc, &mut search.replies, position, entries)?;
+    let number = keep(search.alloc, &mut search.replies, here.position, entries)?;
     Ok(Verdict::Algorithm(number))
 }
 
 // Whether the pass allows all sizes after the items of the position. Where it does not, there are no replies to all
 // sizes, and none need to be kept.
-fn allows_all(space: &Space, pass: u16, position: &Position) -> bool
-    requires of_game { pass < space.now.game.capacity }
-    ensures { IsTrue result ↔ (largest_of position.now.items ≤ 1 + pass) }
+fn allows_all(here: &Expansion) -> bool
+    requires of_game { here.now.pass < here.now.space.now.game.capacity }
+    ensures { IsTrue result ↔ (largest_of here.now.position.now.items ≤ 1 + here.now.pass) }
 {
-    game_is_legal(&space.game);
-    allows(pass, &position.items, 1)
+    game_is_legal(&here.space.game);
+    allows(here.pass, &here.position.items, 1)
 }
 
 // What a size comes to; where it wins, that is kept.
 #[cycle(expanding)]
 fn weigh<M: Memo>(
-    space: &Space,
-    pass: u16,
-    told: Told,
     search: &mut Search,
     memo: &mut M,
-    position: &Position,
-    key: &Key,
-    loads: &[u16],
+    here: &Expansion,
     size: u16,
 ) -> Result<Weighed, VisitFault>
-    requires of_key { key.now ≡ position.now }
-    requires of_loads { loads.now ≡ distinct position.now.loads }
-    requires sound { IsSound space.now pass search.old (M.entries memo.old) }
-    requires from_size { IsOpenFrom space.now pass size search.old position.now }
-    requires may_come { Packable space.now.game (position.now.items ++ size ∷ []) }
-    requires behind { HasSpare space.now 1 search.old (M.entries memo.old) }
+    requires whole { IsWhole here.now }
+    requires sound { IsSound here.now.space.now here.now.pass search.old (M.entries memo.old) }
+    requires from_size { IsOpenFrom here.now.space.now here.now.pass size search.old here.now.position.now }
+    requires may_come { Packable here.now.space.now.game (here.now.position.now.items ++ size ∷ []) }
+    requires behind { HasSpare here.now.space.now 1 search.old (M.entries memo.old) }
     ensures found { MatchResult result
-        (HasWeighed space.now pass size position.now search.old search.new (M.entries memo.new))
-        (Stops space.now pass search.old.meter.budget search.new) }
-    ensures counts { KeepsCount space.now pass (sum position.now.items + 1)
+        (HasWeighed here.now.space.now here.now.pass size here.now.position.now search.old search.new (M.entries memo.new))
+        (Stops here.now.space.now here.now.pass search.old.meter.budget search.new) }
+    ensures counts { KeepsCount here.now.space.now here.now.pass (sum here.now.position.now.items + 1)
         (progress search.old.meter (M.entries memo.old) (M.room memo.old))
         (progress search.new.meter (M.entries memo.new) (M.room memo.new)) result }
-    ensures serves { IfOk result (λ weighed. KeepsServingTold space.now told position.now (taken_by weighed) search.old
-        (M.entries memo.old) search.new (M.entries memo.new)
-        (λ later. IsServedFor space.now pass later position.now size weighed)) }
+    ensures serves { IfOk result (λ weighed. KeepsServingTold here.now.space.now here.now.told here.now.position.now
+        (taken_by weighed) search.old (M.entries memo.old) search.new (M.entries memo.new)
+        (λ later. IsServedFor here.now.space.now here.now.pass later here.now.position.now size weighed)) }
 {
-    game_is_legal(&space.game);
-    if !space.sizes.contains(size) {
+    game_is_legal(&here.space.game);
+    if !here.space.sizes.contains(size) {
         return Ok(Weighed::Unlisted);
     }
-    if !allows(pass, &position.items, size) {
+    if !allows(here.pass, &here.position.items, size) {
         return Ok(Weighed::NoReply);
     }
-    if let Some(load) = skipped(space, told, position, size) {
+    if let Some(load) = skipped(here.space, here.told, here.position, size) {
         return Ok(kept(size, load, Verdict::Algorithm(FINISHES)));
     }
-    match try_size(space, pass, search, memo, position, key, loads, size)? {
+    match try_size(search, memo, here, size)? {
         Tried::Wins(placements) => {
-            let number = keep_win(search.alloc, &mut search.wins, position, size, placements)?;
+            let number = keep_win(
+                search.alloc,
+                &mut search.wins,
+                here.position,
+                size,
+                placements,
+            )?;
             Ok(Weighed::Won(number))
         }
         Tried::Answered { load, verdict } => Ok(kept(size, load, verdict)),
@@ -352,41 +353,36 @@ fn kept(size: u16, load: u16, verdict: Verdict) -> Weighed
 // What each load comes to with a size, from the greatest on, up to the first that is no win of the adversary.
 #[cycle(expanding)]
 fn try_size<M: Memo>(
-    space: &Space,
-    pass: u16,
     search: &mut Search,
     memo: &mut M,
-    position: &Position,
-    key: &Key,
-    loads: &[u16],
+    here: &Expansion,
     size: u16,
 ) -> Result<Tried, VisitFault>
-    requires of_key { key.now ≡ position.now }
-    requires of_loads { loads.now ≡ distinct position.now.loads }
-    requires sound { IsSound space.now pass search.old (M.entries memo.old) }
-    requires from_size { IsOpenFrom space.now pass size search.old position.now }
-    requires may_come { MayCome space.now pass position.now size }
-    requires behind { HasSpare space.now 0 search.old (M.entries memo.old) }
+    requires whole { IsWhole here.now }
+    requires sound { IsSound here.now.space.now here.now.pass search.old (M.entries memo.old) }
+    requires from_size { IsOpenFrom here.now.space.now here.now.pass size search.old here.now.position.now }
+    requires may_come { MayCome here.now.space.now here.now.pass here.now.position.now size }
+    requires behind { HasSpare here.now.space.now 0 search.old (M.entries memo.old) }
     ensures found { MatchResult result
-        (λ tried. WentOn space.now pass (with_move search.old (size - 1) space.now.game.target) search.old search.new
-        (M.entries memo.new) × HasTried space.now pass search.new position.now size tried)
-        (Stops space.now pass search.old.meter.budget search.new) }
-    ensures counts { KeepsCount space.now pass (sum position.now.items + 1)
+        (λ tried. WentOn here.now.space.now here.now.pass (with_move search.old (size - 1) here.now.space.now.game.target) search.old search.new
+        (M.entries memo.new) × HasTried here.now.space.now here.now.pass search.new here.now.position.now size tried)
+        (Stops here.now.space.now here.now.pass search.old.meter.budget search.new) }
+    ensures counts { KeepsCount here.now.space.now here.now.pass (sum here.now.position.now.items + 1)
         (progress search.old.meter (M.entries memo.old) (M.room memo.old))
         (progress search.new.meter (M.entries memo.new) (M.room memo.new)) result }
-    ensures serves { IfOk result (λ tried. KeepsServing space.now 0 search.old (M.entries memo.old)
-        search.new (M.entries memo.new) (λ later. IsServedWith space.now later position.now size tried)) }
+    ensures serves { IfOk result (λ tried. KeepsServing here.now.space.now 0 search.old (M.entries memo.old)
+        search.new (M.entries memo.new) (λ later. IsServedWith here.now.space.now later here.now.position.now size tried)) }
 {
-    game_is_legal(&space.game);
+    game_is_legal(&here.space.game);
     // They become a list where the size wins; else they take no memory.
     let mut placements = [Placement {
         load: 0,
         next: Then::Over,
     }; MOST_BINS as usize];
-    let count = count_of(position, loads);
+    let count = count_of(here.position, here.loads);
     for i in 0..count {
-        let load = load_at(position, loads, i);
-        match try_load(space, pass, search, memo, position, key, size, load)? {
+        let load = load_at(here.position, here.loads, i);
+        match try_load(search, memo, here, size, load)? {
             Reached::ByNext(next) => placements[i] = Placement { load, next },
             Reached::Answers(verdict) => return Ok(Tried::Answered { load, verdict }),
         }
@@ -398,38 +394,35 @@ fn try_size<M: Memo>(
 // What an item of this size comes to at this load.
 #[cycle(expanding)]
 fn try_load<M: Memo>(
-    space: &Space,
-    pass: u16,
     search: &mut Search,
     memo: &mut M,
-    position: &Position,
-    key: &Key,
+    here: &Expansion,
     size: u16,
     load: u16,
 ) -> Result<Reached, VisitFault>
-    requires of_key { key.now ≡ position.now }
-    requires sound { IsSound space.now pass search.old (M.entries memo.old) }
-    requires at_load { IsOpenAt space.now pass size load search.old position.now }
-    requires may_come { MayCome space.now pass position.now size }
-    requires behind { HasSpare space.now 0 search.old (M.entries memo.old) }
+    requires whole { IsWhole here.now }
+    requires sound { IsSound here.now.space.now here.now.pass search.old (M.entries memo.old) }
+    requires at_load { IsOpenAt here.now.space.now here.now.pass size load search.old here.now.position.now }
+    requires may_come { MayCome here.now.space.now here.now.pass here.now.position.now size }
+    requires behind { HasSpare here.now.space.now 0 search.old (M.entries memo.old) }
     ensures found { MatchResult result
-        (λ reached. WentOn space.now pass (with_move search.old size load) search.old search.new
-        (M.entries memo.new) × HasReached space.now pass search.new position.now size load reached)
-        (Stops space.now pass search.old.meter.budget search.new) }
-    ensures counts { KeepsCount space.now pass (sum position.now.items + 1)
+        (λ reached. WentOn here.now.space.now here.now.pass (with_move search.old size load) search.old search.new
+        (M.entries memo.new) × HasReached here.now.space.now here.now.pass search.new here.now.position.now size load reached)
+        (Stops here.now.space.now here.now.pass search.old.meter.budget search.new) }
+    ensures counts { KeepsCount here.now.space.now here.now.pass (sum here.now.position.now.items + 1)
         (progress search.old.meter (M.entries memo.old) (M.room memo.old))
         (progress search.new.meter (M.entries memo.new) (M.room memo.new)) result }
-    ensures serves { IfOk result (λ reached. KeepsServing space.now 0 search.old (M.entries memo.old)
-        search.new (M.entries memo.new) (λ later. IsServedAt space.now later position.now size load reached)) }
+    ensures serves { IfOk result (λ reached. KeepsServing here.now.space.now 0 search.old (M.entries memo.old)
+        search.new (M.entries memo.new) (λ later. IsServedAt here.now.space.now later here.now.position.now size load reached)) }
 {
-    let target = space.game.t();
+    let target = here.space.game.t();
     if load + size >= target {
         return Ok(Reached::ByNext(Then::Over));
     }
-    let loads = loads_after(space, position, size, load);
-    let next = key_after(search.alloc, space, key, &loads, size)?;
+    let loads = loads_after(here.space, here.position, size, load);
+    let next = key_after(search.alloc, here.space, here.key, &loads, size)?;
     search.path.push(PathMove { item: size, load })?;
-    let verdict = expand(space, pass, search, memo, loads, next)?;
+    let verdict = expand(here.space, here.pass, search, memo, loads, next)?;
     search.path.pop();
     Ok(reach_of(verdict))
 }

@@ -7,11 +7,14 @@ use Rattle.minimax.proofs.rooms.Rooms.room_up_to.Goals as goal
 pub invariant_of-self : goal.invariant_of-self
 invariant_of-self c = AreRooms-same c.self.inside.game c.self.inside.table.entries c.get.new.self.entries c.get.ensures.same c.self.invariant
 
+pub room_bounds-least-requires : goal.room_bounds-least-requires
+room_bounds-least-requires c = rw (c.self.view_is) (record { bound = c.requires.bound })
+
 pub returns-in-Some-clause-exact : goal.returns-in-Some-clause-exact
 returns-in-Some-clause-exact c =
     let kept = c.self.invariant c.in_ok-key.key c.in-Some.room (sym c.get.ensures.value ∙ c.in-Some.is) in
     let items : c.in_ok-key.key.items ≡ c.args.items.now = ap (λ (p : Position). p.items) c.in_ok-key.ensures.ok ∙ c.requires.of_key in
-    subst (λ xs. IsRoom c.self.inside.game xs c.in-Some.room) items kept
+    rw (← c.self.view_is) (subst (λ xs. IsRoom c.self.inside.game xs c.in-Some.room) items kept)
 
 pub invariant_of-self-in_err-room : goal.invariant_of-self-in_err-room
 invariant_of-self-in_err-room c = AreRooms-same c.self.inside.game c.self.inside.table.entries c.get.new.self.entries c.get.ensures.same c.self.invariant
