@@ -39,6 +39,9 @@ accepted_text accepted side bins capacity target e1 e2 e3 e4 = rw (e1, e2, e3, e
 pub syntax_text : (line : ℕ) (fault : Why) → fault ≡ why.Syntax → codes "rejected line " ++ (decimal line ++ codes " syntax\n") ≡ rejected_line line fault
 syntax_text line fault e = let P : Why → Type 0 = λ f. codes "rejected line " ++ (decimal line ++ codes " syntax\n") ≡ rejected_line line f in subst P (sym e) refl
 
+pub sizes_text : (line : ℕ) (fault : Why) → fault ≡ why.Sizes → codes "rejected line " ++ (decimal line ++ codes " rule sizes\n") ≡ rejected_line line fault
+sizes_text line fault e = let P : Why → Type 0 = λ f. codes "rejected line " ++ (decimal line ++ codes " rule sizes\n") ≡ rejected_line line f in subst P (sym e) refl
+
 pub rule_text : (line : ℕ) (fault : Why) (rule : Rule) (name : List ℕ) → fault ≡ why.Rule rule → name ≡ rule_word rule
     → codes "rejected line " ++ (decimal line ++ (codes " rule " ++ (name ++ codes "\n"))) ≡ rejected_line line fault
 rule_text line fault rule name e same =

@@ -18,6 +18,7 @@ usage_line = written_line (codes "usage" ∷ [])
 abbrev pub why_words : Why → List (List ℕ)
 why_words why.Syntax = codes "syntax" ∷ []
 why_words (why.Rule rule) = codes "rule" ∷ rule_word rule ∷ []
+why_words why.Sizes = codes "rule" ∷ codes "sizes" ∷ []
 
 -- the input has a fault in this line, counted from 1
 abbrev pub rejected_line : ℕ → Why → List ℕ

@@ -27,6 +27,7 @@ fn rejected_words(alloc: Global, line: u64, why: Why) -> Result<String, AllocErr
 {
     match why {
         Why::Syntax => format!(in alloc; "rejected line {line} syntax\n"),
+        Why::Sizes => format!(in alloc; "rejected line {line} rule sizes\n"),
         Why::Rule(rule) => {
             let name = rule.word();
             format!(in alloc; "rejected line {line} rule {name}\n")

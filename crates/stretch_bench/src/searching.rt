@@ -1,8 +1,14 @@
 //! The command `search`.
 
-ghost use Rattle.std.specs.Prelude.{◌≡◌, ◌++◌, ◌∷◌, [], ℕ, IfOk, MatchOption, OnOk};
+ghost use Rattle.std.specs.Prelude.{◌≡◌, ◌≤◌, ◌+◌, ◌*◌, ◌++◌, ◌∷◌, [], ℕ, IfOk, MatchOption, OnOk};
 ghost use Rattle.items.specs.Game.{GameNumbers};
-ghost use Rattle.minimax.specs.Answers.{IsFor};
+ghost use Rattle.items.specs.Multiset.{sizes_of};
+ghost use Rattle.loads.specs.Wins.{IsWon, empty_position};
+ghost use Rattle.minimax.specs.Answers.{IsAnswer, IsDecided, IsFor};
+ghost use Rattle.minimax.specs.Budgets.{AreNumbersOfReachable, HasRoom, IsOfAdversary, reachable_before};
+ghost use Rattle.monotone.specs.Passes.{allowed_in, whole_game};
+ghost use Rattle.monotone.specs.Positions.{CountsAllReachable};
+ghost use Rattle.monotone.specs.Visits.{most_visits};
 ghost use Rattle.strategies.specs.AnyNode.{IsLegal};
 ghost use Rattle.strategy_text.specs.Writing.{spaced};
 ghost use Rattle.stretch_bench.specs.Call.{Players};
@@ -61,8 +67,8 @@ pub(crate) fn searched(
     ensures found { IfOk result (IsEither Done (IsFound game.now budget)
         Undecided (IsUndecided game.now budget table)) }
 {
-    let mut memo = ClockMemo::new(alloc, table as usize)?;
-    match solve(alloc, game, budget, &mut memo)? {
+    let answer = answer_of(alloc, game, budget, table)?;
+    match answer {
         Answer::Adversary(strategy) => found(alloc, game, budget, &strategy),
         Answer::Algorithm(strategy) => found(alloc, game, budget, &strategy),
         Answer::Undecided { visits, pass, path } => {
@@ -70,6 +76,29 @@ pub(crate) fn searched(
             Ok(Due::of_lines(Status::Undecided, line))
         }
     }
+}
+
+// What the search of a game answers. Its table is not needed for the canonical form of a strategy, so it goes before that
+// is made.
+fn answer_of(
+    alloc: Global,
+    game: &Game,
+    budget: u32,
+    table: u32,
+) -> Result<Answer, AllocError>
+    requires search { IsSearch game.now budget table }
+    ensures answer { IfOk result (IsAnswer game.now budget) }
+    ensures many_visits { most_visits (whole_game game.now) ≤ budget → IfOk result IsDecided }
+    ensures all_positions { (all : ℕ) → CountsAllReachable game.now all → all ≤ table
+        → game.now.capacity * all ≤ budget → IfOk result IsDecided }
+    ensures each_pass { (numbers : ℕ → ℕ) → AreNumbersOfReachable game.now numbers → HasRoom game.now table
+        → reachable_before numbers game.now.capacity ≤ budget → IfOk result IsDecided }
+    ensures won_pass { (numbers : ℕ → ℕ) (pass : ℕ) → AreNumbersOfReachable game.now numbers → HasRoom game.now table
+        → IsWon game.now (allowed_in (sizes_of game.now) pass) (empty_position game.now)
+        → reachable_before numbers (pass + 1) ≤ budget → IfOk result IsOfAdversary }
+{
+    let mut memo = ClockMemo::new(alloc, table as usize)?;
+    solve(alloc, game, budget, &mut memo)
 }
 
 // The canonical form of a legal strategy that was found.
