@@ -80,12 +80,7 @@ pub(crate) fn searched(
 
 // What the search of a game answers. Its table is not needed for the canonical form of a strategy, so it goes before that
 // is made.
-fn answer_of(
-    alloc: Global,
-    game: &Game,
-    budget: u32,
-    table: u32,
-) -> Result<Answer, AllocError>
+fn answer_of(alloc: Global, game: &Game, budget: u32, table: u32) -> Result<Answer, AllocError>
     requires search { IsSearch game.now budget table }
     ensures answer { IfOk result (IsAnswer game.now budget) }
     ensures many_visits { most_visits (whole_game game.now) ≤ budget → IfOk result IsDecided }
