@@ -67,8 +67,7 @@ pub(crate) fn searched(
     ensures found { IfOk result (IsEither Done (IsFound game.now budget)
         Undecided (IsUndecided game.now budget table)) }
 {
-    let answer = answer_of(alloc, game, budget, table)?;
-    match answer {
+    match answer_of(alloc, game, budget, table)? {
         Answer::Adversary(strategy) => found(alloc, game, budget, &strategy),
         Answer::Algorithm(strategy) => found(alloc, game, budget, &strategy),
         Answer::Undecided { visits, pass, path } => {

@@ -5,7 +5,7 @@ use Rattle.stretch_bench.proofs.searching.searched.Goals as goal
 pub returns : goal.returns
 returns c = record {
   found = inr (undecided_due c.args.game.now c.args.budget c.args.table c.args.table c.in-Undecided.visits c.in-Undecided.pass
-      c.in-Undecided.path c.in_ok-answer.field-0 c.in_ok-line-in-Undecided.line c.of_lines.result c.in-Undecided.is
-      refl c.in_ok-answer.ensures.answer c.in_ok-answer.ensures.many_visits c.in_ok-answer.ensures.all_positions
-      c.in_ok-answer.ensures.each_pass c.in_ok-answer.ensures.won_pass c.in_ok-line-in-Undecided.ensures c.of_lines.ensures);
+      c.in-Undecided.path c.in_ok-strategy.field-0 c.in_ok-line-in-Undecided.line c.of_lines.result c.in-Undecided.is
+      refl c.in_ok-strategy.ensures.answer c.in_ok-strategy.ensures.many_visits c.in_ok-strategy.ensures.all_positions
+      c.in_ok-strategy.ensures.each_pass c.in_ok-strategy.ensures.won_pass c.in_ok-line-in-Undecided.ensures c.of_lines.ensures);
 }
