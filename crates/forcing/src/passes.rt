@@ -11,7 +11,9 @@ use crate::planes::Planes;
 use crate::search::{Search, Stand, Visited};
 use crate::table::Table;
 use crate::writing::{Writing, write};
+use good_situations::finishes;
 use items::Game;
+use loads::Loads;
 use pass_game::{PackedLoads, PassTable};
 use std::alloc::{AllocError, Global};
 use strategy_text::Strategy;
@@ -21,7 +23,8 @@ use strategy_text::Strategy;
 /// In pass k no size is sent that is smaller than the greatest item so far by more than k. The passes go from the first
 /// one that is given to that in which all sizes are sent. Positions from which the algorithm wins a game on loads alone
 /// are left out, and so are those that a table of so many entries tells; none of it is more than a hint. That nothing was
-/// found in the visits that were made, at most the budget, claims nothing about the game.
+/// found in the visits that were made, at most the budget, claims nothing about the game. No visit is made where the empty
+/// bins finish.
 ///
 /// The table takes 8 bytes an entry, rounded up to whole lines of eight. The game on loads takes a byte for each list of
 /// loads, each number of large items and each size, where that is at most 2^30 bytes; else the search goes without it.
@@ -35,6 +38,9 @@ pub fn force(
 ) -> Result<Forced, AllocError>
     ensures forced { IfOk result (IsForced game.now budget) }
 {
+    if finishes(game, &Loads::zero(alloc, game)) {
+        return Ok(Forced::NotFound { visits: 0 });
+    }
     if game.m() == 3 {
         let offline = Planes::new(alloc, game)?;
         search_passes(alloc, game, offline, first_pass, budget, entries)
