@@ -194,7 +194,10 @@ fn numbers_of(game: &Game, placer: &mut Placer, held: &Held, least: u16) -> Numb
         if let Some(free) = &placed {
             number = number.max(count_in(free, size));
         }
-        let most = (spare / size).min(most_large(game, held, size)).min(255);
+        let most = (spare / size)
+            .min(most_large(game, held, size))
+            .min(most_by_size(game, held, size))
+            .min(255);
         for more in number..most {
             if !fits_more(game, placer, held, size, more + 1) {
                 break;
@@ -292,6 +295,19 @@ fn most_large(game: &Game, held: &Held, size: u16) -> u16 {
         large = large.saturating_add(held.counts[usize::from(other)]);
     }
     game.m().saturating_sub(large)
+}
+
+// A number that those of a size are not above: a bin takes as many as its capacity holds, of which each item that is not
+// smaller takes the places of those that it holds.
+fn most_by_size(game: &Game, held: &Held, size: u16) -> u16
+    requires { 1 ≤ size }
+{
+    let mut taken = 0u16;
+    for other in size..game.g() + 1 {
+        let count = held.counts[usize::from(other)];
+        taken = taken.saturating_add(count.saturating_mul(other / size));
+    }
+    (game.m() * (game.g() / size)).saturating_sub(taken)
 }
 
 // What the bins leave where best fit places the items, from the largest on, with so many more of a size; None where it

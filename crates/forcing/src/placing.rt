@@ -7,6 +7,9 @@ use std::alloc::{AllocError, Global};
 // How many loads that failed are kept, of which one in the same place goes.
 const KEPT: usize = 65_536;
 
+// How often an item is tried on loads for a list, at most: after so many tries the items are taken not to fit.
+const MOST_TRIES: u32 = 100_000;
+
 // How many items must be left for loads to be kept. To try on from fewer costs less.
 const FEW: usize = 2;
 
@@ -24,6 +27,8 @@ pub(crate) struct Placer {
     failed: Vec<(u64, u64)>,
     // The number of the list.
     list: u64,
+    // How many tries are left for the list.
+    tries: u32,
 }
 
 impl Placer {
@@ -36,6 +41,7 @@ impl Placer {
             capacity,
             failed: vec![in alloc; (0u64, 0u64); KEPT]?,
             list: 0,
+            tries: 0,
         })
     }
 
@@ -43,6 +49,7 @@ impl Placer {
     pub(crate) fn clear(&mut self) {
         self.count = 0;
         self.list = self.list.wrapping_add(1);
+        self.tries = MOST_TRIES;
     }
 
     /// Puts so many items of a size at the end of the list, not larger than those before.
@@ -55,7 +62,7 @@ impl Placer {
         }
     }
 
-    /// Whether the items fit into bins that leave so much in all.
+    /// Whether the items fit into bins that leave so much in all; false too where that is not found in so many tries.
     pub(crate) fn fits(&mut self, spare: u16) -> bool {
         self.place_rest(self.count, PackedLoads::zero(), spare)
     }
@@ -65,6 +72,10 @@ impl Placer {
         if left == 0 {
             return true;
         }
+        if self.tries == 0 {
+            return false;
+        }
+        self.tries -= 1;
         if self.is_wasteful(loads, spare) || left > FEW && self.has_failed(loads) {
             return false;
         }

@@ -5,7 +5,7 @@ use std::alloc::{AllocError, Global};
 // Bins, capacity and target of a game, the first pass, the budget, and whether a strategy is found.
 type Row = (u16, u16, u16, u16, u32, bool);
 
-const GAMES: [Row; 11] = [
+const GAMES: [Row; 12] = [
     (2, 3, 4, 0, 1000, true),
     (3, 3, 4, 0, 1000, true),
     (2, 6, 8, 0, 1000, true),
@@ -17,6 +17,7 @@ const GAMES: [Row; 11] = [
     (2, 2, 4, 0, 1000, false),
     (3, 3, 5, 0, 1000, false),
     (3, 14, 20, 13, 100_000, false),
+    (8, 120, 240, 119, 1, false),
 ];
 
 // Whether a row is as it is due.
