@@ -23,7 +23,7 @@ use Rattle.loads.specs.Wins.{Wins, IsWon, empty_position}
 use Rattle.loads.specs.declared.position.Position.{Position}
 use Rattle.online_play.specs.Algorithm.{ForcesEvery, IsForcedOn, run}
 use Rattle.online_play.specs.Laws.{ComesTo}
-use Rattle.online_play.proofs.WonLemmas.{ComesTo-after, ComesTo-empty, empty_is, hit_is_load, load_hit, push_not_empty}
+use Rattle.online_play.proofs.WonLemmas.{ComesTo-after, ComesTo-empty, empty_is, hit_is_load, load_hit}
 use Rattle.strategy_text.specs.declared.node.AdvNode.{AdvNode}
 use Rattle.strategy_text.specs.declared.node.Format.{Format}
 use Rattle.strategy_text.specs.declared.node.Step.TheVariants.{Burst}
@@ -51,6 +51,10 @@ grown_is_there loads load size =
 reached_from : (target x : ℕ) (loads : List ℕ) → Contains loads x → target ≤ x → Any (λ load. target ≤ load) loads
 reached_from target x loads c h = (c.0, x, c.1, c.2, h)
 
+not_empty : (items : List ℕ) (item : ℕ) → items ++ item ∷ [] ≡ [] → ⊥
+not_empty [] item e = cc
+not_empty (x ∷ items) item e = cc
+
 won_listed_forces : (game : GameNumbers) (sizes : List ℕ) (answer : List ℕ → ℕ) → IsListedAlgorithm game sizes answer → (n : ℕ) (history : List ℕ) (position : Position)
     → ComesTo game answer history position → All (Contains sizes) history → Wins game (is_one_of sizes) n position → ListedForced game sizes answer
 unfolding Wins
@@ -61,7 +65,7 @@ won_listed_forces game sizes answer algorithm (suc n) history position at listed
     let one : Contains sizes size = Contains-from_any exact_unsigned_eq size sizes wins.1.allows in
     let listed' : All (Contains sizes) items = All-push (Contains sizes) history size listed one in
     let packable : Packable game items = Packable-Same game (position.items ++ size ∷ []) items (λ x. sym (Same-push history position.items size at.items x)) wins.1.may_come in
-    let within : answer items < game.bins = algorithm items (push_not_empty history size) packable listed' in
+    let within : answer items < game.bins = algorithm items (not_empty history size) packable listed' in
     let hit = load_hit game answer history position size at in
     let next = ComesTo-after game answer history position size at packable within in
     ⊎_elim
