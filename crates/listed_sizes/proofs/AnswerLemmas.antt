@@ -1,5 +1,5 @@
 -- What is made of the answer of a search, and of a check.
-use Rattle.std.proofs.Common.{◌≡◌, ◌⊎◌, inl, inr, ℕ, ◌+◌, ◌-◌, ◌<◌, ◌≤◌, List, ap, sym, subst, ◌∙◌, refl, arith, Option}
+use Rattle.std.proofs.Common.{◌≡◌, ◌⊎◌, inl, inr, All, ℕ, ◌+◌, ◌-◌, ◌<◌, ◌≤◌, List, ap, sym, subst, ◌∙◌, refl, arith, Option}
 use Rattle.checker.specs.Listed.{IsLegalOver}
 use Rattle.items.specs.Game.{GameNumbers}
 use Rattle.minimax.specs.Answers.{IsAnswerOver, IsDecided, IsFor, IsLegalOfAdversaryOver, IsLegalOfAlgorithmOver}
@@ -16,7 +16,14 @@ use Rattle.strategy_text.specs.declared.node.Nodes.{Nodes}
 use Rattle.strategy_text.specs.declared.node.Nodes.TheVariants as nodes
 use Rattle.strategy_text.specs.declared.node.Strategy.{Strategy}
 use Rattle.strategies.specs.AnyNode.{AreLegalNodes}
-use Rattle.items.specs.Multiset.{AreSizes}
+use Rattle.checker.specs.Accepted.{AcceptsListed}
+use Rattle.checker.specs.declared.fault.AcceptedListed.{AcceptedListed}
+use Rattle.items.specs.Multiset.{AreSizes, IsSize}
+use Rattle.online_play.specs.Algorithm.{ForcesEvery}
+use Rattle.strategy_text.specs.Text.{side_of}
+use Rattle.strategy_text.specs.declared.node.Side.TheVariants.{Adversary}
+use Rattle.listed_sizes.specs.Laws.{ListedForcesEvery}
+use Rattle.listed_sizes.proofs.ForcedLemmas.{legal_listed_forces, listed_forces_every}
 use Rattle.listed_sizes.specs.Games.{IsListedGame, ListedNumbers, listed}
 
 -- the visit that is due in a search of listed sizes is of the last pass
@@ -76,3 +83,18 @@ unfolding DecidesWith
 room_decides numbers game sizes room budget visits pass path answer g z e h =
     subst (DecidesWith room budget numbers.game numbers.sizes) e
     (subst (λ (xs : List ℕ). DecidesWith room budget numbers.game xs answer) z (subst (λ (x : GameNumbers). DecidesWith room budget x sizes answer) g h))
+
+-- ---- a strategy that was accepted
+
+nodes_force : (format : Format) (game : GameNumbers) (sizes : List ℕ) (kept : Nodes) → All (IsSize game.capacity) sizes → AreLegalNodes format game sizes kept
+    → side_of kept ≡ Adversary → ListedForcesEvery game sizes × ForcesEvery game
+nodes_force format game sizes (nodes.Adversary list) z legal e = (legal_listed_forces format game sizes list z legal, listed_forces_every format game sizes list z legal)
+nodes_force format game sizes (nodes.Algorithm list) z legal e = absurd cc
+
+pub accepted_forces : (accepted : AcceptedListed) (sizes : List ℕ) (left new_left : Option (List ℕ)) → sizes ≡ accepted.sizes → AcceptsListed accepted left new_left
+    → accepted.side ≡ Adversary → ListedForcesEvery accepted.game sizes × ForcesEvery accepted.game
+accepted_forces accepted sizes left new_left e stands is =
+    let strategy = stands.strategy in
+    let forced = nodes_force strategy.format strategy.game accepted.sizes strategy.nodes stands.legal.are_sizes.sizes stands.legal.nodes (sym stands.side ∙ is) in
+    subst (λ (game : GameNumbers). ListedForcesEvery game sizes × ForcesEvery game) (sym stands.game)
+    (subst (λ (xs : List ℕ). ListedForcesEvery strategy.game xs × ForcesEvery strategy.game) (sym e) forced)

@@ -69,11 +69,15 @@ won_listed_forces game sizes answer algorithm (suc n) history position at listed
     let hit = load_hit game answer history position size at in
     let next = ComesTo-after game answer history position size at packable within in
     ⊎_elim
-    (λ reached. (items, record {
-      packable = packable;
-      reached = reached_from game.target (hit + size) (run game answer items) (Contains-Same (hit + size) (loads_after position.loads hit size) (run game answer items)
-          (λ x. sym (next.loads x)) (grown_is_there position.loads hit size)) reached;
-    }, listed'))
+    (λ reached. (
+      items,
+      record {
+        packable = packable;
+        reached = reached_from game.target (hit + size) (run game answer items) (Contains-Same (hit + size) (loads_after position.loads hit size) (run game answer items)
+            (λ x. sym (next.loads x)) (grown_is_there position.loads hit size)) reached;
+      },
+      listed',
+    ))
     (λ won. won_listed_forces game sizes answer algorithm n items (after position hit size) next listed' won)
     (wins.1.each_load hit (hit_is_load game answer history position size at within))
 

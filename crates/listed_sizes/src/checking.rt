@@ -36,10 +36,7 @@ pub struct ListedAccepted {
 /// # Errors
 ///
 /// The first fault of the bytes read, at the least line that has one; a failed read; or memory that was refused.
-pub fn check_listed<S: Source>(
-    alloc: Global,
-    source: &mut S,
-) -> Result<ListedAccepted, CheckFault>
+pub fn check_listed<S: Source>(alloc: Global, source: &mut S) -> Result<ListedAccepted, CheckFault>
     ensures count { S.faults source.old ≤ S.faults source.new }
     ensures accepted { IfOk result (λ accepted. AcceptsListed accepted (S.left source.old) (S.left source.new)) }
     ensures forced { IfOk result (λ accepted. accepted.side ≡ Adversary

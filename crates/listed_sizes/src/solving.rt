@@ -64,11 +64,7 @@ pub fn solve_listed<M: Memo>(
 }
 
 // The answer of a strategy that was found.
-fn found(
-    alloc: Global,
-    listed: &ListedGame,
-    strategy: Strategy,
-) -> Result<ListedAnswer, AllocError>
+fn found(alloc: Global, listed: &ListedGame, strategy: Strategy) -> Result<ListedAnswer, AllocError>
     ensures legal { (budget : ℕ) → IsLegalOver listed.now.sizes strategy → IsFor listed.now.game budget strategy
         → IfOk result (IsListedAnswer listed.now budget) }
     ensures some { IfOk result IsFoundSome }
