@@ -1,5 +1,5 @@
 -- What strategies of both sides, one target apart, say of the value.
-use Rattle.std.proofs.Common.{◌≡◌, ℕ, ◌+◌, ◌-◌, ◌*◌, ◌<◌, ◌≤◌, List, [], ◌∷◌, replicate, take, max, Option, Some, None, refl, ap, ◌∙◌, subst, ⊎_elim, arith}
+use Rattle.std.proofs.Common.{◌≡◌, ℕ, ◌+◌, ◌-◌, ◌*◌, ◌<◌, ◌≤◌, List, [], ◌∷◌, replicate, take, max, Option, Some, None, refl, ap, ◌∙◌, subst, ⊎_elim, lt_of_not-le, arith}
 use Rattle.std.specs.Prelude.{sum_by}
 use Rattle.std.proofs.Common.{◌^◌}
 use Rattle.std.proofs.Math.Nat.{mul-le-mul_left}
@@ -263,9 +263,6 @@ none_past_twice bins capacity budget target (Some strategy) has_bins has_capacit
 
 -- ---- budgets
 
-above_if_not : (number budget : ℕ) → (number ≤ budget → ⊥) → budget < number
-above_if_not number budget not_within = ⊎_elim (λ below. below) (λ not_below. absurd (not_within (omega (arith, not_below)))) (cases_lt budget number)
-
 module _ (game : GameNumbers) (budget room : ℕ) where
   -- what decides a game, and what then doesn't
   short_answer : (answer : Answer) → (most_visits (whole_game game) ≤ budget → answers.IsDecided answer)
@@ -277,10 +274,10 @@ module _ (game : GameNumbers) (budget room : ℕ) where
   short_answer (Adversary strategy) many all each won = tt
   short_answer (Algorithm strategy) many all each won = tt
   short_answer (Undecided visits pass path) many all each won = record {
-    all_visits = above_if_not (most_visits (whole_game game)) budget many;
-    all_positions = λ number counts within. above_if_not (game.capacity * number) budget (all number counts within);
-    each_pass = λ numbers are has_room. above_if_not (reachable_before numbers game.capacity) budget (each numbers are has_room);
-    won_pass = λ numbers passed are has_room wins. above_if_not (reachable_before numbers (passed + 1)) budget (won numbers passed are has_room wins);
+    all_visits = lt_of_not-le many;
+    all_positions = λ number counts within. lt_of_not-le (all number counts within);
+    each_pass = λ numbers are has_room. lt_of_not-le (each numbers are has_room);
+    won_pass = λ numbers passed are has_room wins. lt_of_not-le (won numbers passed are has_room wins);
   }
 
   pub short_result : (result : Result Answer AllocError) → (most_visits (whole_game game) ≤ budget → IfOk result answers.IsDecided)

@@ -45,6 +45,14 @@ impl Actual {
         &self.loads[..self.bins]
     }
 
+    /// The loads by bin number, for writing. Clauses say no more of them after it: they are for one call that has
+    /// the slice to itself.
+    pub fn as_mut_slice(&mut self) -> &mut [u16]
+        ensures value { result.now ≡ self.old }
+    {
+        &mut self.loads[..self.bins]
+    }
+
     /// Adds an item of this size to a bin.
     pub fn put(&mut self, bin: u8, size: u16)
         requires in_range { bin < length self.old }

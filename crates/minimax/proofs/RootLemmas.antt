@@ -108,9 +108,9 @@ AreSound-new space pass budget meter wins replies entries m w r e few =
 module _ (space : Space) (pass : ℕ) where
   -- the root may be visited
   pub may_visit_root : (s : Search) (root : Position) → space.first_pass ≤ pass → pass < space.game.capacity → IsLoads space.game (replicate space.game.bins 0) → root ≡ empty_position space.game → s.path ≡ []
-      → s.most ≡ space.game.capacity
+      → s.most ≡ space.game.capacity → s.rooms ≡ space.game
       → ((path : List PathMove) → IsLater s.meter (visit pass path)) → MayVisit space pass s root
-  may_visit_root s root from_first of_game loads is path most later =
+  may_visit_root s root from_first of_game loads is path most rooms later =
       subst (MayVisit space pass s) (sym is) (record {
         stands = subst (λ p. StandsAtPath space pass p (empty_position space.game)) (sym path) (record {
           from_first = from_first;
@@ -121,6 +121,7 @@ module _ (space : Space) (pass : ℕ) where
           settled = tt;
         });
         bound = λ size p. omega (arith, most, (size_of_last space.game [] size p).high);
+        rooms = rooms;
         later = later s.path;
       })
 

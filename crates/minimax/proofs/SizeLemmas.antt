@@ -112,6 +112,7 @@ module _ (space : Space) (pass : ℕ) where
       record {
         stands = stands_still space pass s0.path s1.path position g.goes.path o.stands;
         bound = subst (IsBound space.game position.items) (sym g.goes.most) o.bound;
+        rooms = g.goes.rooms ∙ o.rooms;
         unfinished = o.unfinished;
         larger_sizes = o.larger_sizes;
         larger_loads = λ other c greater below.
@@ -292,6 +293,7 @@ module _ (space : Space) (pass : ℕ) where
   opens_size s0 s1 position room size entries o g none = record {
     stands = stands_still space pass s0.path s1.path position g.goes.path o.stands;
     bound = subst (IsBound space.game position.items) (sym g.goes.most) o.bound;
+    rooms = g.goes.rooms ∙ o.rooms;
     unfinished = o.unfinished;
     larger_sizes = none;
     passed = subst (λ p. HasPassed s1.meter pass (p ++ moved size space.game.target ∷ [])) (sym g.goes.path) g.passed;

@@ -60,6 +60,7 @@ Goes-refl s = record {
   replies = GoesOn-refl s.replies;
   path = refl;
   most = refl;
+  rooms = refl;
   budget = refl;
 }
 
@@ -69,6 +70,7 @@ Goes-trans s0 s1 s2 g h = record {
   replies = GoesOn-trans s0.replies s1.replies s2.replies g.replies h.replies;
   path = h.path ∙ g.path;
   most = h.most ∙ g.most;
+  rooms = h.rooms ∙ g.rooms;
   budget = h.budget ∙ g.budget;
 }
 
@@ -128,6 +130,7 @@ module _ (space : Space) (pass : ℕ) where
             replies = g.replies;
             path = g.path;
             most = g.most;
+            rooms = g.rooms;
             budget = g.budget ∙ ap (λ m. m.budget) e;
           };
           sound = AreSound-put space pass s2.meter s2.wins s2.replies entries more position verdict f.went.sound puts f.tells.says;
@@ -162,6 +165,7 @@ module _ (space : Space) (pass : ℕ) where
         replies = GoesOn-trans s0.replies s1.replies replies g.goes.replies (p.reply ∷ [], p.list);
         path = g.goes.path;
         most = g.goes.most;
+        rooms = g.goes.rooms;
         budget = g.goes.budget;
       };
       sound = AreSound-reply space pass s1.meter s1.wins s1.replies entries replies position made number g.sound p never ready;
@@ -188,6 +192,7 @@ module _ (space : Space) (pass : ℕ) where
         replies = g.goes.replies;
         path = g.goes.path;
         most = g.goes.most;
+        rooms = g.goes.rooms;
         budget = g.goes.budget;
       };
       sound = AreSound-win space pass s1.meter s1.wins s1.replies entries wins position size placements number g.sound p won ready;
@@ -207,6 +212,7 @@ module _ (space : Space) (pass : ℕ) where
         replies = g.goes.replies;
         path = g.goes.path;
         most = g.goes.most;
+        rooms = g.goes.rooms;
         budget = g.goes.budget;
       };
       sound = g.sound;
@@ -217,13 +223,13 @@ module _ (space : Space) (pass : ℕ) where
 
   -- the bound on the room is put back
   pub finds_decided : (s0 s1 : Search) (rooms : GameNumbers) (room : ℕ) (position : Position) (entries : List (Position × Verdict)) (verdict : Verdict)
-      → FindsVerdict space pass position (record s0 { rooms = rooms; most = room }) s1 entries verdict
+      → rooms ≡ s0.rooms → FindsVerdict space pass position (record s0 { rooms = rooms; most = room }) s1 entries verdict
       → FindsVerdict space pass position s0 (record s1 { most = s0.most }) entries verdict
-  finds_decided s0 s1 rooms room position entries verdict f =
+  finds_decided s0 s1 rooms room position entries verdict same f =
       let g = f.went.goes in
       record {
         went = record {
-          goes = record { wins = g.wins; replies = g.replies; path = g.path; most = refl; budget = g.budget };
+          goes = record { wins = g.wins; replies = g.replies; path = g.path; most = refl; rooms = g.rooms ∙ same; budget = g.budget };
           sound = f.went.sound;
           passed = f.went.passed;
         };
@@ -233,10 +239,11 @@ module _ (space : Space) (pass : ℕ) where
   -- after a visit the sizes from the room on are to be weighed
   pub opens : (s : Search) (rooms : GameNumbers) (position : Position) (room : ℕ) → StandsAtPath space pass s.path position → s.meter.last ≡ Some (visit pass s.path)
       → (Finishes space.game position.loads → ⊥) → IsRoom space.game position.items room
-      → IsOpenFrom space pass room (record s { rooms = rooms; most = room }) position
-  opens s rooms position room stands last unfinished is_room = record {
+      → rooms ≡ space.game → IsOpenFrom space pass room (record s { rooms = rooms; most = room }) position
+  opens s rooms position room stands last unfinished is_room same = record {
     stands = stands;
     bound = λ size p. le_room space.game position.items room size is_room p;
+    rooms = same;
     unfinished = unfinished;
     larger_sizes = λ other l w. omega (arith, l, le_room space.game position.items room other is_room w.may_come);
     passed = HasPassed-visited s.meter pass s.path (moved room space.game.target) last;
@@ -284,6 +291,7 @@ module _ (space : Space) (pass : ℕ) where
       record {
         stands = subst (λ p. StandsAtPath space pass p child) (sym e) (subst (StandsAtPath space pass (s.path ++ step ∷ [])) (sym f) stands);
         bound = subst (λ (p : Position). IsBound space.game p.items s.most) (sym f) (IsBound-after position.items size s.most o.bound);
+        rooms = o.rooms;
         later = subst (λ p. IsLater s.meter (visit pass p)) (sym e) o.later;
       }
 
@@ -323,7 +331,7 @@ module _ (space : Space) (pass : ℕ) where
       let g = finds.went.goes in
       let base : back ≡ s0.path = popped s2.path back s0.path (moved size load) o (g.path ∙ e) h in (
         record {
-          goes = record { wins = g.wins; replies = g.replies; path = base; most = g.most; budget = g.budget };
+          goes = record { wins = g.wins; replies = g.replies; path = base; most = g.most; rooms = g.rooms; budget = g.budget };
           sound = finds.went.sound;
           passed = subst (HasPassed s2.meter pass) e finds.went.passed;
         },

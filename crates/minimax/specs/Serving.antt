@@ -150,6 +150,7 @@ taken_by Unlisted = 0
 pub record IsSkipped (space : Space) (told : Told) (position : Position) (size load : ℕ) : Type 0 where
   pub pass : ℕ
   pub earlier : told ≡ Earlier pass
+  pub of_game : pass ≤ space.game.capacity
   pub allowed : IsTrue (allowed_by space pass position.items size)
   pub first : IsFirst space.game position size load
   pub finishes : Finishes space.game (after position load size).loads

@@ -234,6 +234,7 @@ pub record StandsAtPath (space : Space) (pass : ℕ) (path : List PathMove) (pos
 pub record IsOpenFrom (space : Space) (pass size : ℕ) (search : Search) (position : Position) : Type 0 where
   pub stands : StandsAtPath space pass search.path position
   pub bound : IsBound space.game position.items search.most
+  pub rooms : search.rooms ≡ space.game
   pub unfinished : Finishes space.game position.loads → ⊥
   pub larger_sizes : (other : ℕ) → size < other → WinsBy space pass position other → ⊥
   pub passed : HasPassed search.meter pass (with_move search size space.game.target)
@@ -242,6 +243,7 @@ pub record IsOpenFrom (space : Space) (pass size : ℕ) (search : Search) (posit
 pub record IsOpenAt (space : Space) (pass size load : ℕ) (search : Search) (position : Position) : Type 0 where
   pub stands : StandsAtPath space pass search.path position
   pub bound : IsBound space.game position.items search.most
+  pub rooms : search.rooms ≡ space.game
   pub unfinished : Finishes space.game position.loads → ⊥
   pub larger_sizes : (other : ℕ) → size < other → WinsBy space pass position other → ⊥
   pub larger_loads : (other : ℕ) → Contains position.loads other → load < other → other + size < space.game.target
@@ -258,6 +260,7 @@ pub record MayCome (space : Space) (pass : ℕ) (position : Position) (size : �
 pub record MayVisit (space : Space) (pass : ℕ) (search : Search) (position : Position) : Type 0 where
   pub stands : StandsAtPath space pass search.path position
   pub bound : IsBound space.game position.items search.most
+  pub rooms : search.rooms ≡ space.game
   pub later : IsLater search.meter (visit pass search.path)
 
 -- the budget has ended where the path was due
@@ -277,12 +280,13 @@ Stops space pass budget search Memory = Unit {0}
 abbrev pub GoesOn : {X : Type 0} → List X → List X → Type 0
 GoesOn {X} before after = (more : List X) × (after ≡ before ++ more)
 
--- the lists went on, and path and budget are as before
+-- the lists went on, and path, rooms and budget are as before
 pub record Goes (before after : Search) : Type 0 where
   pub wins : GoesOn before.wins after.wins
   pub replies : GoesOn before.replies after.replies
   pub path : after.path ≡ before.path
   pub most : after.most ≡ before.most
+  pub rooms : after.rooms ≡ before.rooms
   pub budget : after.meter.budget ≡ before.meter.budget
 
 -- the search went on to a state that is sound, and to all visits past this path

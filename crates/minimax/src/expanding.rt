@@ -197,6 +197,7 @@ fn decide<M: Memo>(
     requires told { IsTold pass (verdict_of (M.entries memo.old) position.now) told }
     requires behind { HasSpare space.now 1 search.old (M.entries memo.old) }
     requires bound { IsBound space.now.game position.now.items search.old.most }
+    requires rooms { search.old.rooms ≡ space.now.game }
     ensures found { MatchResult result
         (FindsVerdict space.now pass position.now search.old search.new (M.entries memo.new))
         (Stops space.now pass search.old.meter.budget search.new) }
@@ -209,7 +210,7 @@ fn decide<M: Memo>(
     let most = search.most;
     let room = search
         .rooms
-        .room_up_to(search.alloc, &space.game, &position.items, key, most)?;
+        .room_up_to(search.alloc, &position.items, key, most)?;
     search.most = room;
     let verdict = weigh_all(space, pass, told, search, memo, position, key, room)?;
     search.most = most;

@@ -1,7 +1,6 @@
 //! Sizes that need no look-up, since an earlier pass tried them.
 
-ghost use Rattle.std.specs.Prelude.{◌≡◌, ◌+◌, ◌<◌, ◌∷◌, [], ◌++◌, Contains, IfSome, IsTrue};
-ghost use Rattle.std.specs.Bool.{OnTrue};
+ghost use Rattle.std.specs.Prelude.{◌≡◌, ◌↔◌, ℕ, ◌+◌, ◌<◌, ◌≤◌, ◌∷◌, [], ◌++◌, Contains, IsTrue, MatchOption};
 ghost use Rattle.items.specs.Packable.{Packable};
 ghost use Rattle.good_situations.specs.Finish.{Finishes};
 ghost use Rattle.loads.specs.After.{after};
@@ -15,34 +14,41 @@ use items::laws::game_is_legal;
 use loads::Position;
 use monotone::allows;
 
-/// The load of the reply to an item of this size, where an earlier pass allowed it and the first load that stays below
-/// the target leads to a position that finishes: that pass visited this position.
+/// The load of the reply to an item of this size, exactly where an earlier pass of the game allowed it and the first load
+/// that stays below the target leads to a position that finishes: that pass visited this position.
 pub(crate) fn skipped(space: &Space, told: Told, position: &Position, size: u16) -> Option<u16>
     requires playable { IsPlayable space.now position.now }
     requires may_come { Packable space.now.game (position.now.items ++ size ∷ []) }
     requires listed { Contains space.now.sizes size }
-    ensures { IfSome result (IsSkipped space.now told position.now size) }
+    ensures { MatchOption result ((load : ℕ) → IsSkipped space.now told position.now size load → ⊥)
+        (IsSkipped space.now told position.now size) }
 {
     game_is_legal(&space.game);
     let Told::Earlier(pass) = told else {
         return None;
     };
-    if pass > space.game.g() || !allows(pass, &position.items, size) {
+    if pass > space.game.g() {
         return None;
     }
-    let load = first_below(space, position, size)?;
-    if leads_to_finish(space, position, size, load) {
-        Some(load)
-    } else {
-        None
+    if !allows(pass, &position.items, size) {
+        return None;
     }
+    let Some(load) = first_below(space, position, size) else {
+        return None;
+    };
+    if leads_to_finish(space, position, size, load) {
+        return Some(load);
+    }
+    None
 }
 
-// The greatest load that stays below the target with an item of this size.
+// The greatest load that stays below the target with an item of this size; None exactly where there is none.
 fn first_below(space: &Space, position: &Position, size: u16) -> Option<u16>
     requires playable { IsPlayable space.now position.now }
     requires may_come { Packable space.now.game (position.now.items ++ size ∷ []) }
-    ensures { IfSome result (IsFirst space.now.game position.now size) }
+    ensures { MatchOption result
+        ((load : ℕ) → Contains position.now.loads load → space.now.game.target ≤ load + size)
+        (IsFirst space.now.game position.now size) }
 {
     let target = space.game.t();
     for load in position.loads.as_slice() {
@@ -58,7 +64,7 @@ fn leads_to_finish(space: &Space, position: &Position, size: u16, load: u16) -> 
     requires playable { IsPlayable space.now position.now }
     requires has_load { Contains position.now.loads load }
     requires below_target { load + size < space.now.game.target }
-    ensures { OnTrue result (Finishes space.now.game (after position.now load size).loads) }
+    ensures { IsTrue result ↔ Finishes space.now.game (after position.now load size).loads }
 {
     finishes_after(&space.game, &position.loads, load, size)
 }

@@ -10,3 +10,6 @@ pub use judged::JudgedNodes;
 pub use pool::Pool;
 pub use side::NodeRules;
 pub use terms::Terms;
+
+#[cfg(test)]
+mod tests;

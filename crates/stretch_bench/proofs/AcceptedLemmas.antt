@@ -39,7 +39,7 @@ use Rattle.referee_session.specs.declared.refereeing.Ending.{Ending}
 use Rattle.stretch_bench.specs.Call.{Call, Players}
 use Rattle.stretch_bench.specs.Check.{accepted_line, accepted_of, adversary_accepted, algorithm_accepted}
 use Rattle.stretch_bench.specs.Commands.{Spells, SpellsNone, form_of, reads_by}
-use Rattle.stretch_bench.specs.Due.{IsDue, IsFrontRejected, IsOutcome, IsRejected, bad_answer, commanded, done, input_ended, rejected, rejected_front}
+use Rattle.stretch_bench.specs.Due.{IsDue, IsFrontRejected, IsOutcome, IsRejected, bad_answer, commanded, done, input_ended, not_found, rejected, rejected_front}
 use Rattle.stretch_bench.specs.Due.{undecided, unpackable, unscaled, unvalued, unweakened, usage}
 use Rattle.stretch_bench.specs.Form.{IsDone, IsReadFirst, Reads, Work, in_turns, of_strategy, of_words, reads_front, reads_nothing, reads_of, reads_whole}
 use Rattle.stretch_bench.specs.Replying.{Replying}
@@ -49,7 +49,7 @@ use Rattle.stretch_bench.specs.Value.{IsValued}
 use Rattle.stretch_bench.specs.Written.{WritesFirst}
 use Rattle.stretch_bench.specs.declared.command.Command.{Command}
 use Rattle.stretch_bench.specs.declared.command.Command.TheVariants.{Check, Play, Answer, Minimise, Upgrade, Report, Drill, Search, Session}
-use Rattle.stretch_bench.specs.declared.command.Command.TheVariants.{Scale, Value, Weaken}
+use Rattle.stretch_bench.specs.declared.command.Command.TheVariants.{Force, Scale, Value, Weaken}
 use Rattle.stretch_bench.specs.declared.status.Status.{Status}
 use Rattle.stretch_bench.specs.declared.status.Status.TheVariants.{Done, Rejected, Usage, WriteFault, OutOfMemory}
 use Rattle.stretch_bench.proofs.Fronts.{HasSmallNumbers, same_line}
@@ -152,6 +152,8 @@ done_stands players left new_left (Scale factor) text accepted more due e = absu
 done_stands players left new_left (Weaken target) text accepted more due e = absurd (not_spelled _ accepted more (sym due.is.spelled ∙ e))
 done_stands players left new_left (Value bins capacity budget table) text accepted more due e =
     absurd (not_valued bins capacity budget text accepted more due.1 e)
+done_stands players left new_left (Force game pass budget table) text accepted more due e =
+    absurd (not_spelled due.1.strategy accepted more (sym due.1.spelled ∙ e))
 
 outcome_stands : (players : Players) (left new_left : Option (List ℕ)) (command : Command) (status : Status) (text : List ℕ) (accepted : Accepted) (more : List ℕ)
     → IsOutcome players left new_left command status text → text ≡ accepted_line accepted ++ more → Accepts Either accepted left new_left
@@ -174,6 +176,8 @@ outcome_stands players left new_left command status text accepted more (unweaken
     absurd (let other : 110 ≡ 97 = ap (λ (l : List ℕ). get_or l 0 0) (sym is.is.line ∙ e) in omega arith)
 outcome_stands players left new_left command status text accepted more (unvalued bins capacity budget table s c l is) e =
     absurd (let other : 117 ≡ 97 = ap (λ (l : List ℕ). get_or l 0 0) (sym is.line ∙ e) in omega arith)
+outcome_stands players left new_left command status text accepted more (not_found game pass budget table s c l is) e =
+    absurd (let other : 110 ≡ 97 = ap (λ (l : List ℕ). get_or l 0 0) (sym is.line ∙ e) in omega arith)
 
 stands_after : (call : Call) (status : Status) (text : List ℕ) (accepted : Accepted) (more : List ℕ) → IsDue call status text
     → text ≡ accepted_line accepted ++ more → Accepts Either accepted call.left call.new_left
@@ -336,6 +340,8 @@ outcome_exact players bytes new_left command status text (unweakened target s c 
     subst (λ (x : Command). IsExact (reads_by players x) (Some bytes) status) (sym c)
     (λ on. (λ served. legal_bytes Either is.strategy bytes new_left is.loaded, λ legal. inr (inr (inl s))))
 outcome_exact players bytes new_left command status text (unvalued bins capacity budget table s c l is) =
+    subst (λ (x : Command). IsExact (reads_by players x) (Some bytes) status) (sym c) tt
+outcome_exact players bytes new_left command status text (not_found game pass budget table s c l is) =
     subst (λ (x : Command). IsExact (reads_by players x) (Some bytes) status) (sym c) tt
 
 -- nothing is claimed of a source that tells nothing

@@ -6,7 +6,7 @@ use Rattle.stretch_bench.specs.Call.{Players}
 use Rattle.stretch_bench.specs.Commands.{Spells, SpellsNone}
 use Rattle.stretch_bench.specs.declared.command.Command.{Command}
 use Rattle.stretch_bench.specs.declared.command.Command.TheVariants.{Check, Play, Answer, Minimise, Upgrade, Report, Drill, Search, Session}
-use Rattle.stretch_bench.specs.declared.command.Command.TheVariants.{Scale, Value, Weaken}
+use Rattle.stretch_bench.specs.declared.command.Command.TheVariants.{Force, Scale, Value, Weaken}
 
 -- what was read is spelled
 pub items_spelled : (players : Players) (words : List (List ℕ)) (r : Option (List ℕ)) (items : List ℕ)
@@ -37,6 +37,7 @@ pub record FindsNone (players : Players) (words : List (List ℕ)) : Type 0 wher
   pub scales : (factor : ℕ) → Spells players words (Scale factor) → ⊥
   pub weakens : (target : ℕ) → Spells players words (Weaken target) → ⊥
   pub values : (bins capacity budget table : ℕ) → Spells players words (Value bins capacity budget table) → ⊥
+  pub forces : (game : GameNumbers) (pass budget table : ℕ) → Spells players words (Force game pass budget table) → ⊥
   pub answer : (items : List ℕ) → Spells players words (Answer items) → ⊥
 
 -- words that spell none of the commands
@@ -52,6 +53,7 @@ none_spelled players words none (Search game budget table) spells = none.searche
 none_spelled players words none (Scale factor) spells = none.scales factor spells
 none_spelled players words none (Weaken target) spells = none.weakens target spells
 none_spelled players words none (Value bins capacity budget table) spells = none.values bins capacity budget table spells
+none_spelled players words none (Force game pass budget table) spells = none.forces game pass budget table spells
 none_spelled players words none (Answer items) spells = none.answer items spells
 
 -- the command that was read is spelled

@@ -27,10 +27,10 @@ use Rattle.checker.specs.declared.fault.Wanted.TheVariants.{Either}
 use Rattle.checker.specs.declared.fault.Why.{Why}
 use Rattle.checker.proofs.LegalText.{legal_is_spellable, legal_text_has_no_fault}
 use Rattle.minimise.specs.Strategies.{canonical_form}
-use Rattle.minimise.specs.Upgrade.{IsCanonicalUpgrade, UpgradesNodes}
+use Rattle.minimise.specs.Upgrade.{IsCanonicalUpgrade}
 use Rattle.minimise.proofs.StrategyLemmas.{canonical-side, canonical_forms_are_legal, canonical_forms_are_reached}
 use Rattle.minimise.proofs.StrategyLemmas.{canonical_forms_have_distinct_positions, canonical_forms_stay}
-use Rattle.minimise.proofs.UpgradeLemmas.{upgrades_are_legal}
+use Rattle.minimise.proofs.UpgradeLemmas.{upgrade_side, upgrades_are_legal}
 use Rattle.stretch_bench.specs.Canonical.{IsAlike, IsCanonical}
 
 -- a legal strategy has a text
@@ -113,13 +113,6 @@ canonical_is strategy legal = record {
 pub canonical_alike : (strategy : Strategy) → IsAlike strategy (canonical_form strategy)
 canonical_alike strategy = record { game = refl; side = canonical-side strategy.nodes }
 
--- an upgrade is of the same side
-same_side : (game : GameNumbers) (nodes news : Nodes) → UpgradesNodes game nodes news → side_of news ≡ side_of nodes
-same_side game (nodes_of_side.Adversary nodes) (nodes_of_side.Adversary news) zip = refl
-same_side game (nodes_of_side.Adversary nodes) (nodes_of_side.Algorithm news) zip = absurd zip
-same_side game (nodes_of_side.Algorithm nodes) (nodes_of_side.Adversary news) zip = absurd zip
-same_side game (nodes_of_side.Algorithm nodes) (nodes_of_side.Algorithm news) zip = refl
-
 -- the canonical form of an upgrade of a legal strategy
 pub upgrade_is : (strategy made : Strategy) → IsLegal strategy → IsCanonicalUpgrade strategy made → IsCanonical made
 upgrade_is strategy made legal upgrade =
@@ -132,6 +125,6 @@ upgrade_alike strategy made upgrade =
     let is = upgrade.1 in
     let alike : IsAlike strategy (canonical_form raised) = record {
       game = is.game;
-      side = canonical-side raised.nodes ∙ same_side strategy.game strategy.nodes raised.nodes is.nodes;
+      side = canonical-side raised.nodes ∙ upgrade_side strategy.game strategy.nodes raised.nodes is.nodes;
     } in
     subst (IsAlike strategy) (sym upgrade.2) alike

@@ -7,6 +7,7 @@ mod PlayLemmas
 mod AnswerLemmas
 mod OutcomeLemmas
 mod ValueLemmas
+mod ForceLemmas
 mod WriteLemmas
 mod RunLemmas
 mod TalkLemmas

@@ -21,6 +21,7 @@ use Rattle.stretch_bench.specs.Report.{report_line, report_words}
 use Rattle.stretch_bench.specs.Scale.{no_transfer_line}
 use Rattle.stretch_bench.specs.Search.{move_word, move_words, undecided_line}
 use Rattle.stretch_bench.specs.Value.{no_value_line, value_line}
+use Rattle.stretch_bench.specs.Force.{not_found_line}
 use Rattle.strategy_text.specs.Rules.{rule_word}
 use Rattle.strategy_text.specs.Text.{line_of, side_word}
 
@@ -60,6 +61,11 @@ value_text bins capacity target = refl
 pub no_value_text : (bins capacity : ℕ)
     → codes "value " ++ (decimal bins ++ (codes " " ++ (decimal capacity ++ codes " none\n"))) ≡ no_value_line bins capacity
 no_value_text bins capacity = refl
+
+pub not_found_text : (game : GameNumbers) (visits bins capacity target : ℕ) → bins ≡ game.bins → capacity ≡ game.capacity → target ≡ game.target
+    → codes "notfound " ++ (decimal bins ++ (codes " " ++ (decimal capacity ++ (codes " " ++ (decimal target ++ (codes " visits "
+    ++ (decimal visits ++ codes "\n"))))))) ≡ not_found_line game visits
+not_found_text game visits bins capacity target e1 e2 e3 = rw (e1, e2, e3) refl
 
 pub report_text : (report : Report) (side : List ℕ) (bins capacity target : ℕ) → side ≡ side_word report.side → bins ≡ report.game.bins
     → capacity ≡ report.game.capacity → target ≡ report.game.target

@@ -11,7 +11,7 @@ use Rattle.stretch_bench.specs.Answer.{most_item}
 use Rattle.stretch_bench.specs.Commands.{WordsSpellOneCommand, form_of}
 use Rattle.stretch_bench.specs.Play.{IsFirstNamed, name_at}
 use Rattle.stretch_bench.specs.declared.command.Command.TheVariants.{Check, Play, Answer, Minimise, Upgrade, Report, Drill, Search, Session}
-use Rattle.stretch_bench.specs.declared.command.Command.TheVariants.{Scale, Value, Weaken}
+use Rattle.stretch_bench.specs.declared.command.Command.TheVariants.{Force, Scale, Value, Weaken}
 
 -- two names that differ
 differ : (a b : List ℕ) (words rest more : List (List ℕ)) → pointwise nat_eq a b ≡ false → words ≡ a ∷ rest → words ≡ b ∷ more → ⊥
@@ -92,6 +92,16 @@ words_spell_one_command players words (Value bins capacity budget table) (Value 
     let tables = decimal_injective table entries (omega (arith, e.allowed.setting.most_entries)) (omega (arith, f.allowed.setting.most_entries))
     (ap (λ (word : List ℕ). drop 6 word) (at 4 words _ _ e.spelled f.spelled)) in
     λ i. Value (numbers i) (sizes i) (budgets i) (tables i)
+words_spell_one_command players words (Force game pass budget table) (Force other first visits entries) e f =
+    let games = one_game game other e.allowed.of_game f.allowed.of_game (at 1 words _ _ e.spelled f.spelled) (at 2 words _ _ e.spelled f.spelled)
+    (at 3 words _ _ e.spelled f.spelled) in
+    let passes = decimal_injective pass first (omega (arith, e.allowed.a_pass, e.allowed.of_game.capacity.high))
+    (omega (arith, f.allowed.a_pass, f.allowed.of_game.capacity.high)) (ap (λ (word : List ℕ). drop 5 word) (at 4 words _ _ e.spelled f.spelled)) in
+    let budgets = decimal_injective budget visits (omega (arith, e.allowed.most_visits)) (omega (arith, f.allowed.most_visits))
+    (ap (λ (word : List ℕ). drop 7 word) (at 5 words _ _ e.spelled f.spelled)) in
+    let tables = decimal_injective table entries (omega (arith, e.allowed.most_entries)) (omega (arith, f.allowed.most_entries))
+    (ap (λ (word : List ℕ). drop 6 word) (at 6 words _ _ e.spelled f.spelled)) in
+    λ i. Force (games i) (passes i) (budgets i) (tables i)
 words_spell_one_command players words one other e f =
     absurd (differ (form_of players one).name (form_of players other).name words (form_of players one).arguments (form_of players other).arguments refl e.spelled
     f.spelled)

@@ -1,7 +1,6 @@
 -- What the work of a command comes to.
-use Rattle.std.proofs.Common.{◌≡◌, ◌*◌, ◌≤◌, ◌<◌, ◌+◌, ℕ, List, [], length, ⊎_elim}
+use Rattle.std.proofs.Common.{◌≡◌, ◌*◌, ◌≤◌, ◌<◌, ◌+◌, ℕ, List, [], length, lt_of_not-le}
 use Rattle.std.proofs.Common.{Option, Some, Result, Ok, Err, IfOk, inl, inr, sym, ap, subst, refl, ◌∙◌, arith}
-use Rattle.std.proofs.lemmas.Bool.{cases_lt}
 use Rattle.std.specs.Prelude.{slice_get}
 use Rattle.items.specs.Game.{GameNumbers}
 use Rattle.items.specs.Multiset.{sizes_of}
@@ -33,7 +32,7 @@ use Rattle.stretch_bench.specs.Call.{Players}
 use Rattle.stretch_bench.specs.Check.{IsAcceptedLine, accepted_line}
 use Rattle.stretch_bench.specs.Commands.{form_of, reads_by}
 use Rattle.stretch_bench.specs.Drill.{drilled}
-use Rattle.stretch_bench.specs.Due.{IsFrontRejected, IsRejected, done, rejected, rejected_front, undecided, unpackable, unscaled, unvalued, unweakened}
+use Rattle.stretch_bench.specs.Due.{IsFrontRejected, IsRejected, done, not_found, rejected, rejected_front, undecided, unpackable, unscaled, unvalued, unweakened}
 use Rattle.stretch_bench.specs.Form.{IsDone, IsRead, Reads, reads_front, reads_nothing, reads_whole}
 use Rattle.stretch_bench.specs.Lines.{rejected_line}
 use Rattle.stretch_bench.specs.Minimise.{IsMinimised}
@@ -44,14 +43,16 @@ use Rattle.stretch_bench.specs.Search.{IsFound, IsUndecided, undecided_line}
 use Rattle.stretch_bench.specs.Scale.{IsScaled, IsUnscaled, no_transfer_line}
 use Rattle.stretch_bench.specs.Weaken.{IsUnweakened, IsWeakened}
 use Rattle.stretch_bench.specs.Value.{IsUnvalued, IsValued}
+use Rattle.stretch_bench.specs.Force.{IsForcing, IsNotFound}
 use Rattle.stretch_bench.specs.Upgrade.{IsUpgraded}
 use Rattle.stretch_bench.specs.declared.command.Command.{Command}
 use Rattle.stretch_bench.specs.declared.command.Command.TheVariants.{Check, Play, Answer, Minimise, Upgrade, Report, Drill, Search, Scale, Weaken, Value}
+use Rattle.stretch_bench.specs.declared.command.Command.TheVariants.{Force}
 use Rattle.stretch_bench.specs.declared.due.Due.{Due}
 use Rattle.stretch_bench.specs.declared.due.Stop.{Stop}
 use Rattle.stretch_bench.specs.declared.due.Stop.TheVariants.{Memory}
 use Rattle.stretch_bench.specs.declared.status.Status.{Status}
-use Rattle.stretch_bench.specs.declared.status.Status.TheVariants.{Done, Rejected, Undecided, Unpackable, NoTransfer}
+use Rattle.stretch_bench.specs.declared.status.Status.TheVariants.{Done, Rejected, Undecided, Unpackable, NoTransfer, NotFound}
 use Rattle.strategy_transfer.specs.Scaled.{scaled_strategy}
 use Rattle.strategy_transfer.specs.Targets.{CanScaleStrategy, CanWeakenStrategy}
 use Rattle.strategy_transfer.specs.Weakened.{weakened_strategy}
@@ -155,6 +156,13 @@ module _ (players : Players) (left new_left : Option (List ℕ)) where
   value_made bins capacity budget table due unread (inr with) =
       record { outcome = unvalued bins capacity budget table with.status_is refl unread with.text; writable = with.writable }
 
+  pub force_made : (game : GameNumbers) (pass budget table : ℕ) (due : Due) → new_left ≡ left
+      → IsEither Done (IsForcing game) NotFound (IsNotFound game budget) due → IsMade players left new_left (Force game pass budget table) due
+  force_made game pass budget table due unread (inl with) =
+      done_with (Force game pass budget table) (IsForcing game) due (λ text is. (unread, is)) with
+  force_made game pass budget table due unread (inr with) =
+      record { outcome = not_found game pass budget table with.status_is refl unread with.text; writable = with.writable }
+
   -- the line of a fault
   fault_by : (command : Command) (reads : Reads) (fault : CheckFault) (r : Result Due Stop) → reads_by players command ≡ reads
       → IsStopOf reads left new_left fault
@@ -247,10 +255,6 @@ found_due game budget strategy made due legal for is with =
     })
     with
 
--- a number that is not at least another
-less : (a b : ℕ) → (a ≤ b → ⊥) → b < a
-less a b not = ⊎_elim (λ (l : b < a). l) (λ (m : a ≤ b). absurd (not m)) (cases_lt b a)
-
 -- the visit that was due where a search spent its budget
 pub undecided_due : (game : GameNumbers) (budget table room visits pass : ℕ) (path : List PathMove) (answer : SearchAnswer) (line : List ℕ) (due : Due)
     → answer ≡ answers.Undecided visits pass path → room ≡ table → IsAnswer game budget answer
@@ -267,12 +271,12 @@ undecided_due game budget table room visits pass path answer line due e same is 
       pass = pass;
       path = path;
       due = at.1;
-      fewer_than_visits = less (most_visits (whole_game game)) budget (λ h. subst IsDecided e (many h));
-      fewer_than_positions = λ number counts within. less (game.capacity * number) budget
+      fewer_than_visits = lt_of_not-le (λ h. subst IsDecided e (many h));
+      fewer_than_positions = λ number counts within. lt_of_not-le
           (λ h. subst IsDecided e (all number counts (subst (λ (r : ℕ). number ≤ r) (sym same) within) h));
-      fewer_than_passes = λ numbers are room_for. less (reachable_before numbers game.capacity) budget
+      fewer_than_passes = λ numbers are room_for. lt_of_not-le
           (λ h. subst IsDecided e (each numbers are (subst (HasRoom game) (sym same) room_for) h));
-      fewer_than_won = λ numbers pass are room_for is_won. less (reachable_before numbers (pass + 1)) budget
+      fewer_than_won = λ numbers pass are room_for is_won. lt_of_not-le
           (λ h. subst IsOfAdversary e (won numbers pass are (subst (HasRoom game) (sym same) room_for) is_won h));
       line = told ∙ ap (λ (v : ℕ). undecided_line game v pass path) at.0;
     })

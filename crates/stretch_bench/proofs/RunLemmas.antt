@@ -6,7 +6,7 @@ use Rattle.checker.specs.declared.fault.CheckFault.TheVariants as check_fault
 use Rattle.port_io.specs.Faults.{Rose}
 use Rattle.stretch_bench.specs.Call.{Call, Players}
 use Rattle.stretch_bench.specs.Commands.{Spells, SpellsNone}
-use Rattle.stretch_bench.specs.Due.{IsDue, IsOutcome, bad_answer, commanded, done, input_ended, rejected, rejected_front, undecided}
+use Rattle.stretch_bench.specs.Due.{IsDue, IsOutcome, bad_answer, commanded, done, input_ended, not_found, rejected, rejected_front, undecided}
 use Rattle.stretch_bench.specs.Due.{unpackable, unscaled, unvalued, unweakened, usage}
 use Rattle.stretch_bench.specs.Form.{Reads, reads_front, reads_nothing, reads_whole}
 use Rattle.stretch_bench.specs.Lines.{usage_line}
@@ -18,7 +18,7 @@ use Rattle.stretch_bench.specs.declared.due.Stop.{Stop}
 use Rattle.stretch_bench.specs.declared.due.Stop.TheVariants.{Read}
 use Rattle.stretch_bench.specs.declared.status.Status.{Status}
 use Rattle.stretch_bench.specs.declared.status.Status.TheVariants.{Done, Rejected, Usage, Undecided, ReadFault, OutOfMemory, Unpackable, Ended, BadAnswer}
-use Rattle.stretch_bench.specs.declared.status.Status.TheVariants.{NoTransfer}
+use Rattle.stretch_bench.specs.declared.status.Status.TheVariants.{NoTransfer, NotFound}
 
 abbrev pub call_of : Players → List (List ℕ) → Option (List ℕ) → Option (List ℕ) → Call
 call_of players words left new_left = record { players = players; words = words; left = left; new_left = new_left }
@@ -78,6 +78,11 @@ no_transfer_goes (inl e) = absurd cc
 no_transfer_goes (inr (inl e)) = absurd cc
 no_transfer_goes (inr (inr e)) = absurd cc
 
+not_found_goes : IsStopped NotFound → ⊥
+not_found_goes (inl e) = absurd cc
+not_found_goes (inr (inl e)) = absurd cc
+not_found_goes (inr (inr e)) = absurd cc
+
 outcome_goes : (players : Players) (left new_left : Option (List ℕ)) (command : Command) (status : Status) (text : List ℕ)
     → IsOutcome players left new_left command status text → IsStopped status → ⊥
 outcome_goes players left new_left command status text (done e is) stopped = stop_differs status Done e stopped done_goes
@@ -91,6 +96,8 @@ outcome_goes players left new_left command status text (unscaled factor e c is) 
 outcome_goes players left new_left command status text (unweakened target e c is) stopped = stop_differs status NoTransfer e stopped no_transfer_goes
 outcome_goes players left new_left command status text (unvalued bins capacity budget table e c l is) stopped =
     stop_differs status Undecided e stopped undecided_goes
+outcome_goes players left new_left command status text (not_found game pass budget table e c l is) stopped =
+    stop_differs status NotFound e stopped not_found_goes
 
 pub due_goes : (call : Call) (status : Status) (text : List ℕ) → IsDue call status text → IsStopped status → ⊥
 due_goes call status text (commanded command spells is) stopped = outcome_goes call.players call.left call.new_left command status text is stopped

@@ -1,6 +1,5 @@
 -- What is due of a search for a value.
-use Rattle.std.proofs.Common.{◌≡◌, ◌*◌, ◌^◌, ◌≤◌, ◌<◌, ◌+◌, ℕ, List, ◌++◌, Some, None, Result, Ok, Err, IfOk, inl, inr, ap, subst, refl, ◌∙◌, arith, append-nil, ⊎_elim}
-use Rattle.std.proofs.lemmas.Bool.{cases_lt}
+use Rattle.std.proofs.Common.{◌≡◌, ◌*◌, ◌^◌, ◌≤◌, ◌<◌, ◌+◌, ℕ, List, ◌++◌, Some, None, Result, Ok, Err, IfOk, inl, inr, ap, subst, refl, ◌∙◌, arith, append-nil, lt_of_not-le}
 use Rattle.adversary_graph.specs.Pools as adversary_pools
 use Rattle.algorithm_graph.specs.Pools as algorithm_pools
 use Rattle.bound_value.specs.Answers.{FallsShort, IfUndecided, IsDecided, IsOpenAt, IsShownAt, IsShownNowhere, ShowsForced, ShowsKept}
@@ -61,7 +60,7 @@ first_kind (Err e) status other Is Kind Other gives with = tt
 algorithm_legal_too : (strategy : Strategy) → algorithm_pools.IsLegalOfAlgorithm strategy → IsLegal strategy
 algorithm_legal_too strategy legal = (legal_of_one_side strategy).1 (inr legal)
 
-adversary_side : (format : Format) (game : GameNumbers) (nodes : Nodes) → adversary_pools.AreLegal format game nodes → side_of nodes ≡ Adversary
+pub adversary_side : (format : Format) (game : GameNumbers) (nodes : Nodes) → adversary_pools.AreLegal format game nodes → side_of nodes ≡ Adversary
 adversary_side format game (sides.Adversary list) legal = refl
 adversary_side format game (sides.Algorithm list) legal = absurd legal
 
@@ -134,10 +133,6 @@ module _ (bins capacity budget : ℕ) (valued : Valued) (answer : IsAnswered bin
       }))
       with
 
-  -- a number that is not at least another
-  less : (a b : ℕ) → (a ≤ b → ⊥) → b < a
-  less a b not = ⊎_elim (λ (l : b < a). l) (λ (m : a ≤ b). absurd (not m)) (cases_lt b a)
-
   pub open_due : (table target visits pass : ℕ) (path : List PathMove) (game : GameNumbers) (line : List ℕ) (due : Due)
       → valued ≡ answers.Undecided target visits pass path
       → IfUndecided valued (λ target. FallsShort (numbers bins capacity target) budget table)
@@ -154,8 +149,8 @@ module _ (bins capacity budget : ℕ) (valued : Valued) (answer : IsAnswered bin
         path = path;
         spent = open_of target visits pass path e;
         falls_short = subst (λ (v : Valued). IfUndecided v (λ target. FallsShort (numbers bins capacity target) budget table)) e short;
-        fewer_than_visits = less (capacity * (bins + 1) ^ (bins * capacity)) budget (λ h. subst IsDecided e (many h));
-        fewer_than_positions = λ number counts within. less (capacity * number) budget (λ h. subst IsDecided e (all number counts within h));
+        fewer_than_visits = lt_of_not-le (λ h. subst IsDecided e (many h));
+        fewer_than_positions = λ number counts within. lt_of_not-le (λ h. subst IsDecided e (all number counts within h));
         line = told ∙ ap (λ (g : GameNumbers). undecided_line g visits pass path) same;
       })
       with

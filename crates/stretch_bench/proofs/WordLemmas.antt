@@ -121,6 +121,15 @@ pub six_words : (ws : List (List ℕ)) (a b c d f g : List ℕ) → length ws �
     → get_or ws 3 [] ≡ d → get_or ws 4 [] ≡ f → get_or ws 5 [] ≡ g → ws ≡ a ∷ b ∷ c ∷ d ∷ f ∷ g ∷ []
 six_words ws a b c d f g n p q r s t u = six_of ws n ∙ rw (p, q, r, s, t, u) refl
 
+pub seven_of : (ws : List (List ℕ)) → length ws ≡ 7
+    → ws ≡ get_or ws 0 [] ∷ get_or ws 1 [] ∷ get_or ws 2 [] ∷ get_or ws 3 [] ∷ get_or ws 4 [] ∷ get_or ws 5 [] ∷ get_or ws 6 [] ∷ []
+seven_of [] e = absurd (omega (arith, e))
+seven_of (a ∷ ws) e = ap (λ (l : List (List ℕ)). a ∷ l) (six_of ws (omega (arith, e)))
+
+pub seven_words : (ws : List (List ℕ)) (a b c d f g h : List ℕ) → length ws ≡ 7 → get_or ws 0 [] ≡ a → get_or ws 1 [] ≡ b → get_or ws 2 [] ≡ c
+    → get_or ws 3 [] ≡ d → get_or ws 4 [] ≡ f → get_or ws 5 [] ≡ g → get_or ws 6 [] ≡ h → ws ≡ a ∷ b ∷ c ∷ d ∷ f ∷ g ∷ h ∷ []
+seven_words ws a b c d f g h n p q r s t u v = seven_of ws n ∙ rw (p, q, r, s, t, u, v) refl
+
 pub spelled_at : (words : List (String Global)) (k : ℕ) (word : String Global) (read : List ℕ) (list : List (List ℕ)) → k < length words
     → word ≡ get_or words k word → read ≡ string_bytes word → spelling_of words ≡ list → read ≡ get_or list k []
 spelled_at words k word read list l at is e = sym (word_at words k word read l at is) ∙ ap (λ (ws : List (List ℕ)). get_or ws k []) e

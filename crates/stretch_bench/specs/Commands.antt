@@ -7,6 +7,7 @@ use Rattle.stretch_bench.specs.declared.command.Command.{Command}
 use Rattle.stretch_bench.specs.declared.command.Command.TheVariants.{Check, Play, Answer, Minimise, Upgrade}
 use Rattle.stretch_bench.specs.declared.command.Command.TheVariants.{Report, Drill, Search, Session}
 use Rattle.stretch_bench.specs.declared.command.Command.TheVariants.{Report, Drill, Search, Scale, Weaken, Value}
+use Rattle.stretch_bench.specs.declared.command.Command.TheVariants.{Force}
 use Rattle.stretch_bench.specs.Check.{check}
 use Rattle.stretch_bench.specs.Play.{play_against}
 use Rattle.stretch_bench.specs.Answer.{answer}
@@ -19,6 +20,7 @@ use Rattle.stretch_bench.specs.Session.{session}
 use Rattle.stretch_bench.specs.Scale.{scale}
 use Rattle.stretch_bench.specs.Weaken.{weaken}
 use Rattle.stretch_bench.specs.Value.{value}
+use Rattle.stretch_bench.specs.Force.{force}
 
 -- the list of commands
 abbrev pub form_of : Players → Command → Form
@@ -34,6 +36,7 @@ form_of players Session = session
 form_of players (Scale factor) = scale factor
 form_of players (Weaken target) = weaken target
 form_of players (Value bins capacity budget table) = value bins capacity budget table
+form_of players (Force game pass budget table) = force game pass budget table
 
 -- what a command reads
 abbrev pub reads_by : Players → Command → Reads

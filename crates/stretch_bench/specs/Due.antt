@@ -11,7 +11,7 @@ use Rattle.stretch_bench.specs.declared.command.Command.{Command}
 use Rattle.stretch_bench.specs.declared.command.Command.TheVariants as commands
 use Rattle.stretch_bench.specs.declared.status.Status.{Status}
 use Rattle.stretch_bench.specs.declared.status.Status.TheVariants.{Done, NoTransfer, Rejected, Usage}
-use Rattle.stretch_bench.specs.declared.status.Status.TheVariants.{Undecided, Unpackable}
+use Rattle.stretch_bench.specs.declared.status.Status.TheVariants.{NotFound, Undecided, Unpackable}
 use Rattle.stretch_bench.specs.declared.status.Status.TheVariants as statuses
 use Rattle.stretch_bench.specs.Answer.{IsUnpackable}
 use Rattle.stretch_bench.specs.Call.{Call, Players}
@@ -23,6 +23,7 @@ use Rattle.stretch_bench.specs.Session.{IsTalkOf}
 use Rattle.stretch_bench.specs.Scale.{IsUnscaled}
 use Rattle.stretch_bench.specs.Weaken.{IsUnweakened}
 use Rattle.stretch_bench.specs.Value.{IsUnvalued}
+use Rattle.stretch_bench.specs.Force.{IsNotFound}
 
 -- a fault was found, the first one of the bytes read and of the whole input
 pub record IsRejected (wanted : Wanted) (left new_left : Option (List ℕ)) (text : List ℕ) : Type 0 where
@@ -78,6 +79,10 @@ pub data IsOutcome (players : Players) (left new_left : Option (List ℕ)) (comm
   unvalued : (bins capacity budget table : ℕ) → status ≡ Undecided
       → command ≡ commands.Value bins capacity budget table → new_left ≡ left
       → IsUnvalued bins capacity budget table text → IsOutcome players left new_left command status text
+  -- a search for the adversary's side found no strategy
+  not_found : (game : GameNumbers) (pass budget table : ℕ) → status ≡ NotFound
+      → command ≡ commands.Force game pass budget table → new_left ≡ left → IsNotFound game budget text
+      → IsOutcome players left new_left command status text
 
 -- what a run is asked for
 pub data IsDue (call : Call) (status : Status) (text : List ℕ) : Type 0 where

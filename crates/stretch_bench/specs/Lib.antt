@@ -10,6 +10,7 @@ pub mod Upgrade
 pub mod Report
 pub mod Drill
 pub mod Search
+pub mod Force
 pub mod Session
 pub mod Scale
 pub mod Weaken

@@ -38,6 +38,9 @@ use std::alloc::Global;
 ///   `drill NUMBER COPIES nodes N bytes B accepted minimised K`.
 /// - `search M G T budget=B table=N` searches the game, and writes the canonical form of the strategy that it finds, or
 ///   `undecided M G T visits V pass K path MOVES` where its budget was spent.
+/// - `force M G T pass=K budget=B table=N` searches the game for a strategy of the adversary alone, from pass K on, and
+///   writes the canonical form of the one that it finds, in format 2, or `notfound M G T visits V`, which claims nothing
+///   about the game.
 /// - `session` reads a strategy of the adversary and plays it against the lines `bin B` that follow its text: it writes
 ///   `session M G T`, and in turns `item S` and reads the item's bin, until `lost loads LIST` at the play's end,
 ///   `ended K` where the input ends after K answers, or `badanswer K` where line K after the text is no answer. A play

@@ -6,6 +6,7 @@ ghost use Rattle.stretch_bench.specs.Commands.{Spells, SpellsNone, spelling_of};
 
 use crate::answering::answer_of;
 use crate::drilling::drill_of;
+use crate::force_search::force_of;
 use crate::playing::player_of;
 use crate::scaling::scale_of;
 use crate::searching::search_of;
@@ -75,6 +76,17 @@ pub enum Command {
         /// The most entries that its table may have, from 1 to 4,000,000.
         table: u32,
     },
+    /// Searches a game for a strategy of the adversary alone.
+    Force {
+        /// The game.
+        game: Game,
+        /// The first pass, from 0 to one less than the capacity.
+        pass: u16,
+        /// The most visits that it may make, from 1 to 4,000,000,000.
+        budget: u32,
+        /// The entries of its table, from 1 to 400,000,000.
+        table: u32,
+    },
 }
 
 /// The command that the words spell; None exactly where they spell none. A player is asked for by its name, and the
@@ -134,6 +146,14 @@ pub fn read_words(
         return Ok(Some(Command::Value {
             bins,
             capacity,
+            budget,
+            table,
+        }));
+    }
+    if let Some((game, pass, budget, table)) = force_of(words) {
+        return Ok(Some(Command::Force {
+            game,
+            pass,
             budget,
             table,
         }));

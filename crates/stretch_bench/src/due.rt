@@ -24,6 +24,7 @@ use crate::answering::answered;
 use crate::checking::checked;
 use crate::command::Command;
 use crate::drilling::drilled;
+use crate::force_search::forced;
 use crate::lines::{line_of_rejected, line_of_usage};
 use crate::minimising::minimised;
 use crate::playing::played;
@@ -209,6 +210,12 @@ fn made<S: Source>(
             budget,
             table,
         } => Ok(valued(alloc, *bins, *capacity, *budget, *table)?),
+        Command::Force {
+            game,
+            pass,
+            budget,
+            table,
+        } => Ok(forced(alloc, game, *pass, *budget, *table)?),
     }
 }
 

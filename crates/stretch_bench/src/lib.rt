@@ -11,6 +11,7 @@ mod due;
 mod failing_tests;
 #[cfg(test)]
 mod fault_tests;
+mod force_search;
 pub mod laws;
 mod lines;
 mod minimising;
@@ -31,5 +32,5 @@ mod weakening;
 
 pub use bench::run_bench;
 pub use command::{Command, read_words};
-pub use settings::{MOST_ENTRIES, MOST_VISITS};
+pub use settings::{MOST_ENTRIES, MOST_FORCE_ENTRIES, MOST_VISITS};
 pub use status::Status;

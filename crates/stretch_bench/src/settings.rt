@@ -13,6 +13,9 @@ pub const MOST_VISITS: u64 = 4_000_000_000;
 /// The most entries that the table of a search may have.
 pub const MOST_ENTRIES: u64 = 4_000_000;
 
+/// The most entries that the table of a search for the adversary's side may have. An entry takes 8 bytes.
+pub const MOST_FORCE_ENTRIES: u64 = 400_000_000;
+
 /// The game whose numbers these words tell.
 pub(crate) fn game_of(bins: &str, capacity: &str, target: &str) -> Option<Game>
     ensures { MatchOption result

@@ -28,10 +28,12 @@ pub enum Status {
     Ended,
     /// A line of a session is no answer.
     BadAnswer,
+    /// A search for the adversary's side found no strategy.
+    NotFound,
 }
 
 impl Status {
-    /// The number that the program ends with, from 0 to 10. Takes no memory.
+    /// The number that the program ends with, from 0 to 11. Takes no memory.
     pub fn code(self) -> u8
         ensures value { result ≡ code_of self }
     {

@@ -281,6 +281,17 @@ pub(crate) fn is_found(alloc: Global, row: &Found) -> Result<bool, AllocError> {
     Ok(checked.bytes().starts_with(row.3.as_bytes()))
 }
 
+// Whether a run of these words ends with a number, and what it writes begins so. A read would fail.
+pub(crate) fn is_begun(alloc: Global, row: &Unread) -> Result<bool, AllocError> {
+    let mut source = MemSource::new(alloc, LEGAL.as_bytes(), 64, &[1])?;
+    let mut sink = MemSink::new(alloc, 1_000, 100, &[])?;
+    let status = run(alloc, row.0, &mut source, &mut sink)?;
+    if status.code() != row.1 {
+        return Ok(false);
+    }
+    Ok(sink.bytes().starts_with(row.2.as_bytes()))
+}
+
 const NO_COMMANDS: [&str; 37] = [
     "",
     "check now",

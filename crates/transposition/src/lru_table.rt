@@ -57,8 +57,7 @@ impl<K: Eq + Hash + Drop, V: Copy + Drop> LruTable<K, V> {
         ensures capacity { self.new.capacity ≡ self.old.capacity }
     {
         prove!(self.cache.len() <= self.cache.cap().get());
-        self.cache.promote(key);
-        self.cache.peek(key).copied()
+        self.cache.get(key).copied()
     }
 
     /// Puts a value at a key, and tells whether the key is new. A key that is there keeps its entry, takes the value,

@@ -6,6 +6,7 @@ use Rattle.std.proofs.lemmas.List.{length-set, take_all}
 use Rattle.std.proofs.Math.Seq.{take-suc-set}
 use Rattle.std.proofs.lemmas.List.Elements.{All-contains, All-nil}
 use Rattle.items.proofs.MultisetLemmas.{sum-put_ascending}
+use Rattle.items.specs.Packable.{IsRoom}
 use Rattle.loads.specs.After.{after}
 use Rattle.loads.specs.Descending.{distinct}
 use Rattle.loads.specs.declared.position.Position.{Position}
@@ -97,7 +98,7 @@ look_up-decide-requires g t c κs l =
                         c.requires.behind.0,
                         (omega (arith, behind.0, one), AreServed-same space c.requires.behind.0 s.replies e0 e1 c.known-told.ensures.same behind.1),
                       ),
-                      subst (λ (q : Position). IsBound space.game q.items s.most) is c.requires.may.bound,
+                      (subst (λ (q : Position). IsBound space.game q.items s.most) is c.requires.may.bound, c.requires.may.rooms),
                     ),
                   ),
                 ),
@@ -123,16 +124,16 @@ look_up-returns-clause-serves g t c =
 
 pub decide-weigh_all-requires : goal.decide-weigh_all-requires
 decide-weigh_all-requires g t c κs l =
-    let room = c.in_ok-room.ensures.exact in
+    let room = subst (λ game. IsRoom game c.args.position.now.items c.in_ok-room.room) c.requires.rooms c.in_ok-room.ensures.exact in
     let from_room = opens c.args.space.now c.args.pass c.args.search.now c.room_up_to.new.self c.args.position.now c.in_ok-room.room c.requires.stands
-    c.requires.visited c.requires.unfinished room in
+    c.requires.visited c.requires.unfinished room (c.room_up_to.ensures.same ∙ c.requires.rooms) in
     (omega (arith, c.decreases), (l, (c.requires.of_key, (c.requires.sound, (from_room, (room, (c.requires.told, c.requires.behind)))))))
 
 pub decide-returns-clause-found : goal.decide-returns-clause-found
 decide-returns-clause-found g t c =
     finds_decided c.args.space.now c.args.pass c.args.search.now c.weigh_all.new.search c.room_up_to.new.self c.in_ok-room.room c.args.position.now (g.M.Memo.entries
     c.weigh_all.new.memo)
-    c.in_ok-verdict.verdict c.in_ok-verdict.ensures.found
+    c.in_ok-verdict.verdict c.room_up_to.ensures.same c.in_ok-verdict.ensures.found
 
 pub decide-returns-clause-counts : goal.decide-returns-clause-counts
 decide-returns-clause-counts g t c = c.in_ok-verdict.ensures.counts

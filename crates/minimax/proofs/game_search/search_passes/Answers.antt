@@ -31,6 +31,7 @@ loop-pass-init g c = record {
       c.new.ensures.unused c.requires.empty;
   path = c.new-5.ensures.none;
   most = c.g.ensures.value;
+  rooms = c.in_ok-new.ensures;
   budget = ap (λ (m : Metered). m.budget) c.new.ensures.unused;
   none_before = λ earlier first l won. omega (arith, l);
   later = λ path. subst (λ (m : Metered). IsLater m (visit c.args.space.now.first_pass path)) (sym c.new.ensures.unused) tt;
@@ -43,7 +44,8 @@ expand-requires-clause-may g c =
     let space = c.args.space.now in
     let root = c.in_ok-key.ensures.ok ∙ ap (λ xs. position xs c.empty.result) c.zero.ensures.value ∙ ap (position (empty_position space.game).loads) c.empty.ensures.none in
     may_visit_root space c.loop-pass.pass c.loop-pass.search c.in_ok-key.key c.loop-pass.invariant.from_first c.loop-pass.invariant.of_game
-    (subst (IsLoads space.game) c.zero.ensures.value c.zero.ensures.legal) root c.loop-pass.invariant.path c.loop-pass.invariant.most c.loop-pass.invariant.later
+    (subst (IsLoads space.game) c.zero.ensures.value c.zero.ensures.legal) root c.loop-pass.invariant.path c.loop-pass.invariant.most c.loop-pass.invariant.rooms
+    c.loop-pass.invariant.later
 
 pub write_wins-requires-clause-may : goal.write_wins-requires-clause-may
 write_wins-requires-clause-may g c =
@@ -129,6 +131,7 @@ loop-pass-preserved g c =
           c.loop-pass.invariant.from_first c.loop-pass.invariant.of_game c.loop-pass.invariant.reachable c.in-Ok-Held.ensures.counts;
       path = goes.path ∙ c.loop-pass.invariant.path;
       most = goes.most ∙ c.loop-pass.invariant.most;
+      rooms = goes.rooms ∙ c.loop-pass.invariant.rooms;
       budget = goes.budget ∙ c.loop-pass.invariant.budget;
       none_before = none_more space pass c.loop-pass.invariant.none_before
           (λ won. finds.tells.says.not_won

@@ -14,6 +14,7 @@ invariant-loop-pass g l = record {
   reachable : IsWithinReachable l.space (g.M.Memo.room l.fn.memo) l.budget l.pass (progress l.search.meter (g.M.Memo.entries l.memo) (g.M.Memo.room l.memo));
   path : l.search.path ≡ [];
   most : l.search.most ≡ l.space.game.capacity;
+  rooms : l.search.rooms ≡ l.space.game;
   budget : l.search.meter.budget ≡ l.budget;
   none_before : NoneWonBefore (space_of l.space) l.pass;
   later : (path : List PathMove) → IsLater l.search.meter (visit l.pass path);

@@ -21,6 +21,7 @@ returns-in-None g c = record {
     scales = c.in_default-scale_of.ensures _;
     weakens = c.in_default-weaken_of.ensures _;
     values = c.in_default-value_of.ensures _;
+    forces = c.in_default-force_of.ensures _;
     answer = no_items _ (spelling_of c.args.words.now) c.in_ok-items.field-0 (c.in_ok-items.ensures _) c.in-None.is;
   });
 }

@@ -1,6 +1,6 @@
 use Rattle.std.proofs.Common.{◌<◌, length, refl, arith}
 use Rattle.std.proofs.lemmas.List.{length-map}
-use Rattle.stretch_bench.proofs.OutcomeLemmas.{answer_made, drill_made, made_as, play_made, scale_made, search_made, value_made, weaken_made}
+use Rattle.stretch_bench.proofs.OutcomeLemmas.{answer_made, drill_made, force_made, made_as, play_made, scale_made, search_made, value_made, weaken_made}
 use Rattle.stretch_bench.proofs.PlayLemmas.{named_at, place_within}
 use Rattle.stretch_bench.proofs.due.made.Goals as goal
 
@@ -48,3 +48,9 @@ returns-in_ok-valued-in-Value-clause-due g c =
     made_as _ _ _ _ _ _ c.in-Value.is
     (value_made _ _ _ c.in-Value.bins c.in-Value.capacity c.in-Value.budget c.in-Value.table c.in_ok-valued-in-Value.field-0 refl
     c.in_ok-valued-in-Value.ensures.valued)
+
+pub returns-in_ok-forced-in-Force-clause-due : goal.returns-in_ok-forced-in-Force-clause-due
+returns-in_ok-forced-in-Force-clause-due g c =
+    made_as _ _ _ _ _ _ c.in-Force.is
+    (force_made _ _ _ c.in-Force.game c.in-Force.pass c.in-Force.budget c.in-Force.table c.in_ok-forced-in-Force.field-0 refl
+    c.in_ok-forced-in-Force.ensures.forced)

@@ -7,14 +7,11 @@ use Rattle.minimax.proofs.rooms.Rooms.room_up_to.Goals as goal
 pub invariant_of-self : goal.invariant_of-self
 invariant_of-self c = AreRooms-same c.self.inside.game c.self.inside.table.entries c.get.new.self.entries c.get.ensures.same c.self.invariant
 
-pub returns-in-Some : goal.returns-in-Some
-returns-in-Some c =
+pub returns-in-Some-clause-exact : goal.returns-in-Some-clause-exact
+returns-in-Some-clause-exact c =
     let kept = c.self.invariant c.in_ok-key.key c.in-Some.room (sym c.get.ensures.value ∙ c.in-Some.is) in
     let items : c.in_ok-key.key.items ≡ c.args.items.now = ap (λ (p : Position). p.items) c.in_ok-key.ensures.ok ∙ c.requires.of_key in
-    record {
-      exact = subst (λ game. IsRoom game c.args.items.now c.in-Some.room) c.if-not-is_same.ensures
-          (subst (λ xs. IsRoom c.self.inside.game xs c.in-Some.room) items kept);
-    }
+    subst (λ xs. IsRoom c.self.inside.game xs c.in-Some.room) items kept
 
 pub invariant_of-self-in_err-room : goal.invariant_of-self-in_err-room
 invariant_of-self-in_err-room c = AreRooms-same c.self.inside.game c.self.inside.table.entries c.get.new.self.entries c.get.ensures.same c.self.invariant
@@ -28,8 +25,7 @@ pub invariant_of-self-2 : goal.invariant_of-self-2
 invariant_of-self-2 c =
     let game = c.self.inside.game in
     let items : c.in_ok-key.key.items ≡ c.args.items.now = ap (λ (p : Position). p.items) c.in_ok-key.ensures.ok ∙ c.requires.of_key in
-    let is = subst (λ g. IsRoom g c.args.items.now c.in_ok-room.room) (sym c.if-not-is_same.ensures) c.in_ok-room.ensures.exact in
     AreRooms-with game c.get.new.self.entries c.insert.new.self.entries c.in_ok-key.key c.in_ok-room.room c.get.new.self.capacity
     (λ some. (c.insert.ensures.present some).1) c.in_ok-insert.ensures.below c.in_ok-insert.ensures.full
-    (subst (λ xs. IsRoom game xs c.in_ok-room.room) (sym items) is)
+    (subst (λ xs. IsRoom game xs c.in_ok-room.room) (sym items) c.in_ok-room.ensures.exact)
     (AreRooms-same game c.self.inside.table.entries c.get.new.self.entries c.get.ensures.same c.self.invariant)
