@@ -254,6 +254,11 @@ legal_text_tells one other a b e = text_tells one other (legal_is_spellable one 
 pub no_legal_prefix : NoLegalTextBeginsAnother
 no_legal_prefix one other more a b e = no_prefix one other more (legal_is_spellable one a) (legal_is_spellable other b) e
 
+-- a legal strategy with listed sizes is spellable
+pub listed_is_spellable : (sizes : List ℕ) (strategy : Strategy) → IsLegalOver sizes strategy → IsSpellable strategy
+listed_is_spellable sizes strategy legal =
+    legal_is_spellable_by (listed_head_of sizes strategy) strategy.nodes legal.are_sizes.sizes (listed_nodes_are_legal sizes strategy legal)
+
 -- no line of a legal strategy with listed sizes has a line feed
 listed_no_lf : (sizes : List ℕ) (strategy : Strategy) → IsLegalOver sizes strategy → All HasNoLf (listed_lines sizes strategy)
 listed_no_lf sizes strategy legal =
@@ -261,7 +266,7 @@ listed_no_lf sizes strategy legal =
     let game = strategy.game in
     let rest : List (List ℕ) = side_line (side_of strategy.nodes) ∷ count_line (length (nodes_of strategy.nodes)) ∷ node_lines 0 (nodes_of strategy.nodes) ++ end_line ∷ [] in
     let others : All HasNoLf (game_line game ∷ rest) = All-tail HasNoLf (first_line strategy.format) (game_line game ∷ rest) (lines_are_lines strategy
-    (legal_is_spellable_by (listed_head_of sizes strategy) strategy.nodes legal.are_sizes.sizes h)) in
+    (listed_is_spellable sizes strategy legal)) in
     All-cons HasNoLf listed_line (game_line game ∷ sizes_line sizes ∷ rest) (line_parts listed_line refl)
     (All-cons HasNoLf (game_line game) (sizes_line sizes ∷ rest) (All-head HasNoLf (game_line game) rest others)
     (All-cons HasNoLf (sizes_line sizes) rest (sizes_no_lf sizes (numbers_from_sizes game sizes h.of_game legal.are_sizes)) (All-tail HasNoLf (game_line game) rest others)))

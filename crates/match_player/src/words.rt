@@ -46,9 +46,9 @@ fn put_numbers<T: Integer>(text: &mut Text, list: &[T]) -> Result<(), AllocError
     Ok(())
 }
 
-/// Puts a list of numbers.
+/// Puts the numbers of a list at the end of a text, each after a space, or a dash where there are none.
 #[tactic(auto, using(crate::proofs::WordLemmas::some_words))]
-pub(crate) fn put_list<T: Integer>(text: &mut Text, list: &[T]) -> Result<(), AllocError>
+pub fn put_list<T: Integer>(text: &mut Text, list: &[T]) -> Result<(), AllocError>
     ensures { OnOk result (text.new ≡ text.old ++ spaced (words_of T.text list.now)) }
 {
     if list.is_empty() {

@@ -1,0 +1,4 @@
+pub mod SizeLists
+pub mod TextLemmas
+pub mod ForcedLemmas
+pub mod AnswerLemmas

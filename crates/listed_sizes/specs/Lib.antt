@@ -1,0 +1,4 @@
+pub mod Games
+pub mod Answers
+pub mod Accepted
+pub mod Laws
