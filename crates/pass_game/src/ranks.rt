@@ -15,7 +15,8 @@ pub(crate) struct Ranks {
 }
 
 impl Ranks {
-    /// The ranks of a game where the rows of one list of loads take so many bytes. Sums that don't fit stay at the greatest.
+    /// The ranks of a game where the rows of one list of loads take so many bytes. A sum that doesn't fit stays at the
+    /// greatest number.
     pub(crate) fn new(alloc: Global, game: &Game, block: u32) -> Result<Ranks, AllocError> {
         let mut places = Vec::new(alloc);
         let mut last = [block; LOADS];

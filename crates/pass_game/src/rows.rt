@@ -4,8 +4,8 @@ ghost use Rattle.std.specs.Prelude.{◌+◌, ◌<◌, ◌≤◌};
 
 use std::simd::prelude::*;
 
-/// How many bytes are looked at from the start of a row on: at least those of all rows of a list of loads, and the lanes that
-/// reach beyond the last.
+/// How many bytes are looked at from the start of a row on: at least those of all rows of a list of loads, and the lanes
+/// that reach beyond the last.
 pub(crate) const WINDOW: usize = 1280;
 
 const LANES: usize = 16;
@@ -99,8 +99,8 @@ pub(crate) struct Rows {
 }
 
 impl Rows {
-    /// Rows of so many bytes, in which the algorithm wins at once; to be decided up to this number of large items and this
-    /// greatest size.
+    /// Rows of so many bytes, in which the algorithm wins at once; to be decided up to this number of large items and
+    /// this greatest size.
     #[inline(always)]
     pub(crate) fn new(row_len: usize, most_large: usize, room: u16) -> Self {
         Rows {
