@@ -14,7 +14,8 @@ const MOST_BYTES: usize = 0x4000_0000;
 const SIZES: usize = 128;
 
 /// For each list of loads, number of large items that may still come and greatest size that may, the least greatest
-/// item so far from which the algorithm wins the relaxed game of a pass. It is a hint: nothing is claimed of its numbers.
+/// item so far from which the algorithm wins the relaxed game of a pass. It is a hint: nothing is claimed of its
+/// numbers.
 #[derive(Drop)]
 pub struct PassTable {
     game: Game,
@@ -27,7 +28,8 @@ pub struct PassTable {
 
 impl PassTable {
     /// A table for a game, of no pass yet; None where its rows would take more than 2^30 bytes. Takes all the memory
-    /// that it ever needs: binomial(t - 1 + m, m) (m + 1) (g + 1) bytes for the rows, and 8 bytes for each list of loads.
+    /// that it ever needs: binomial(t - 1 + m, m) (m + 1) (g + 1) bytes for the rows, and 8 bytes for each list of
+    /// loads.
     pub fn new(alloc: Global, game: &Game) -> Result<Option<PassTable>, AllocError> {
         let row_len = usize::from(game.g()) + 1;
         let block = row_len * (usize::from(game.m()) + 1);
