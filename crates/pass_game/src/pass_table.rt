@@ -13,8 +13,9 @@ const MOST_BYTES: usize = 0x4000_0000;
 // How many sizes there are, from 0 on.
 const SIZES: usize = 128;
 
-/// For each list of loads, number of large items that may still come and greatest size that may, the least greatest item
-/// so far from which the algorithm wins the relaxed game of a pass. It is a hint: nothing is claimed of its numbers.
+/// For each list of loads, number of large items that may still come and greatest size that may, the least greatest
+/// item so far from which the algorithm wins the relaxed game of a pass. It is a hint: nothing is claimed of its
+/// numbers.
 #[derive(Drop)]
 pub struct PassTable {
     game: Game,
@@ -26,8 +27,9 @@ pub struct PassTable {
 }
 
 impl PassTable {
-    /// A table for a game, of no pass yet; None where its rows would take more than 2^30 bytes. Takes all the memory that
-    /// it ever needs: binomial(t - 1 + m, m) (m + 1) (g + 1) bytes for the rows, and 8 bytes for each list of loads.
+    /// A table for a game, of no pass yet; None where its rows would take more than 2^30 bytes. Takes all the memory
+    /// that it ever needs: binomial(t - 1 + m, m) (m + 1) (g + 1) bytes for the rows, and 8 bytes for each list of
+    /// loads.
     pub fn new(alloc: Global, game: &Game) -> Result<Option<PassTable>, AllocError> {
         let row_len = usize::from(game.g()) + 1;
         let block = row_len * (usize::from(game.m()) + 1);
@@ -60,8 +62,8 @@ impl PassTable {
 
     /// Whether the algorithm wins the relaxed game of the pass that was filled last, from these loads, where so many
     /// items larger than half the capacity may still come, this is the greatest size that may, and this is the greatest
-    /// item so far. Numbers above those of the game are taken as the greatest ones; loads that are none of the game give
-    /// any answer. One look-up.
+    /// item so far. Numbers above those of the game are taken as the greatest ones; loads that are none of the game
+    /// give any answer. One look-up.
     #[inline]
     pub fn holds(&self, loads: PackedLoads, big: u16, room: u16, largest: u16) -> bool {
         let row = usize::from(big.min(self.game.m()));

@@ -4,8 +4,8 @@ ghost use Rattle.std.specs.Prelude.{◌+◌, ◌<◌, ◌≤◌};
 
 use std::simd::prelude::*;
 
-/// How many bytes are looked at from the start of a row on: at least those of all rows of a list of loads, and the lanes
-/// that reach beyond the last.
+/// How many bytes are looked at from the start of a row on: at least those of all rows of a list of loads, and the
+/// lanes that reach beyond the last.
 pub(crate) const WINDOW: usize = 1280;
 
 const LANES: usize = 16;
