@@ -232,7 +232,19 @@ conclude_text heading given Wrong (Rejected line cause) old left new_left clean 
       of_text_of_input = told_all (λ bytes. IsTextLine heading (old.held ++ bytes) line) left
           (λ bytes e. of_text (old.held ++ bytes) (told_at (λ bytes. IsWrongAfter given Wrong (Rejected line cause) (old.held ++ bytes)) left bytes r.in_all e));
     }
-conclude_text heading given Wrong Read old left new_left clean wrong high r = conclude heading given Wrong Read old left new_left clean wrong r
+conclude_text heading given Wrong Read old left new_left clean wrong high r =
+    let n = r.no_line refl in
+    let cut = conclude heading given Wrong Read old left new_left clean wrong r in
+    record {
+      read = cut.read;
+      gone = cut.gone;
+      faultless = cut.faultless;
+      unfinished = λ head rest has whole. absurd (omega (
+        arith,
+        few_whole given (old.held ++ r.read) n.0 rest (head.start + head.count) n.1 n.2 whole,
+        high (old.held ++ r.read) n.0 head n.1 has,
+      ));
+    }
 conclude_text heading given Wrong Memory old left new_left clean wrong high r = (r.read, r.gone)
 
 -- what is wrong with line n
@@ -464,7 +476,7 @@ past_fault n line why.Sizes rest h = absurd h
 abbrev pub lines_of_text : Heading → Head → List AnyNode → List (List ℕ)
 lines_of_text heading head nodes = lines_of_head heading head ++ (node_lines 0 nodes ++ end_line ∷ [])
 
-length-lines_of_text : (heading : Heading) (head : Head) (nodes : List AnyNode) → length (lines_of_text heading head nodes) ≡ side_place heading + 2 + length nodes
+pub length-lines_of_text : (heading : Heading) (head : Head) (nodes : List AnyNode) → length (lines_of_text heading head nodes) ≡ side_place heading + 2 + length nodes
 length-lines_of_text heading head nodes = omega (
   arith,
   length-append (lines_of_head heading head) (node_lines 0 nodes ++ end_line ∷ []),

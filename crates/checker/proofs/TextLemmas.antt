@@ -288,5 +288,5 @@ failed_from (Err fault) result kept P e h failed = h (ap Err (err_is result faul
 pub fault_of_text : (heading : Heading) (held : List ℕ) (fault : CheckFault) (left new_left : Option (List ℕ)) → IsTextFaultUnder heading held fault left new_left
     → IsFaultUnder heading held fault left new_left
 fault_of_text heading held (Rejected line cause) left new_left f = f.rejects
-fault_of_text heading held Read left new_left f = f
+fault_of_text heading held Read left new_left f = record { read = f.read; gone = f.gone; faultless = f.faultless }
 fault_of_text heading held Memory left new_left f = f

@@ -4,7 +4,7 @@ use Rattle.strategy_text.specs.Text.{nodes_of, side_of, text_of}
 use Rattle.strategy_text.specs.declared.node.Strategy.{Strategy}
 use Rattle.strategies.specs.AnyNode.{IsLegal}
 use Rattle.checker.specs.Head.{Head}
-use Rattle.checker.specs.FirstFault.{IsWanted, HasHead, FirstFault, HasNoWholeFault}
+use Rattle.checker.specs.FirstFault.{IsWanted, HasHead, HasWhole, FirstFault, HasNoWholeFault}
 use Rattle.checker.specs.Listed.{IsLegalOver, listed_text_of}
 use Rattle.checker.specs.declared.fault.Accepted.{Accepted}
 use Rattle.checker.specs.declared.fault.AcceptedListed.{AcceptedListed}
@@ -104,6 +104,15 @@ pub record IsInterruptedUnder (heading : Heading) (held : List ℕ) (left new_le
   pub gone : IsGone read left new_left
   pub faultless : HasNoWholeFault heading (held ++ read)
 
+-- a read failed, no whole line of the bytes in hand has a fault, and the last line of the text that they begin with is
+-- not whole
+pub record IsTextInterruptedUnder (heading : Heading) (held : List ℕ) (left new_left : Option (List ℕ)) : Type 0 where
+  pub read : List ℕ
+  pub gone : IsGone read left new_left
+  pub faultless : HasNoWholeFault heading (held ++ read)
+  pub unfinished : (head : Head) (rest : List ℕ) → HasHead heading (held ++ read) head
+      → HasWhole (held ++ read) (head.start + head.count) rest → ⊥
+
 -- why a text was not accepted, over the bytes that were held before, and what the source had left and has left
 abbrev pub IsFaultUnder : Heading → List ℕ → CheckFault → Option (List ℕ) → Option (List ℕ) → Type 0
 IsFaultUnder heading held (Rejected line why) left new_left = RejectsUnder heading held line why left new_left
@@ -113,7 +122,7 @@ IsFaultUnder heading held Memory left new_left = (read : List ℕ) × IsGone rea
 -- why no text was found at the beginning of the bytes
 abbrev pub IsTextFaultUnder : Heading → List ℕ → CheckFault → Option (List ℕ) → Option (List ℕ) → Type 0
 IsTextFaultUnder heading held (Rejected line why) left new_left = RejectsTextLineUnder heading held line why left new_left
-IsTextFaultUnder heading held Read left new_left = IsInterruptedUnder heading held left new_left
+IsTextFaultUnder heading held Read left new_left = IsTextInterruptedUnder heading held left new_left
 IsTextFaultUnder heading held Memory left new_left = (read : List ℕ) × IsGone read left new_left
 
 -- ---- the same of the texts of strategies of a wanted side
@@ -128,8 +137,18 @@ RejectsTextLine wanted held line fault left new_left =
 abbrev pub IsInterrupted : Wanted → List ℕ → Option (List ℕ) → Option (List ℕ) → Type 0
 IsInterrupted wanted held left new_left = IsInterruptedUnder (OfStrategy wanted) held left new_left
 
+-- a read failed before the whole text of a legal strategy was in hand, and no whole line of the bytes in hand has a
+-- fault
+pub record IsTextInterrupted (wanted : Wanted) (held : List ℕ) (left new_left : Option (List ℕ)) : Type 0 where
+  pub read : List ℕ
+  pub gone : IsGone read left new_left
+  pub faultless : HasNoWholeFault (OfStrategy wanted) (held ++ read)
+  pub no_text : BeginsWithLegalText wanted (held ++ read) → ⊥
+
 abbrev pub IsFaultOf : Wanted → List ℕ → CheckFault → Option (List ℕ) → Option (List ℕ) → Type 0
 IsFaultOf wanted held fault left new_left = IsFaultUnder (OfStrategy wanted) held fault left new_left
 
 abbrev pub IsTextFaultOf : Wanted → List ℕ → CheckFault → Option (List ℕ) → Option (List ℕ) → Type 0
-IsTextFaultOf wanted held fault left new_left = IsTextFaultUnder (OfStrategy wanted) held fault left new_left
+IsTextFaultOf wanted held (Rejected line why) left new_left = RejectsTextLine wanted held line why left new_left
+IsTextFaultOf wanted held Read left new_left = IsTextInterrupted wanted held left new_left
+IsTextFaultOf wanted held Memory left new_left = (read : List ℕ) × IsGone read left new_left

@@ -1,24 +1,29 @@
 -- What a run comes to, by what was made and how the writing of it ended.
-use Rattle.std.proofs.Common.{◌≡◌, ◌⊎◌, ℕ, List, [], Option, Result, Ok, Err, IfOk, IfErr, inl, inr, sym, subst}
-use Rattle.checker.specs.Accepted.{IsFaultOf, IsTextFaultOf}
+use Rattle.std.proofs.Common.{◌≡◌, ◌⊎◌, ℕ, List, [], Option, Result, Ok, Err, IfOk, IfErr, inl, inr, sym, subst, ◌∙◌}
+use Rattle.checker.specs.Accepted.{IsFaultOf, IsTextFaultOf, IsTextInterrupted}
 use Rattle.checker.specs.declared.fault.CheckFault.{CheckFault}
 use Rattle.checker.specs.declared.fault.CheckFault.TheVariants as check_fault
+use Rattle.checker.specs.declared.fault.Wanted.TheVariants.{Only}
 use Rattle.port_io.specs.Faults.{Rose}
+use Rattle.strategy_text.specs.declared.node.Side.TheVariants.{Adversary}
 use Rattle.stretch_bench.specs.Call.{Call, Players}
-use Rattle.stretch_bench.specs.Commands.{Spells, SpellsNone}
+use Rattle.stretch_bench.specs.Commands.{Spells, SpellsNone, reads_by}
 use Rattle.stretch_bench.specs.Due.{IsDue, IsOutcome, bad_answer, commanded, done, input_ended, not_found, rejected, rejected_front, undecided}
 use Rattle.stretch_bench.specs.Due.{unpackable, unscaled, unvalued, unweakened, usage}
 use Rattle.stretch_bench.specs.Form.{Reads, reads_front, reads_nothing, reads_whole}
 use Rattle.stretch_bench.specs.Lines.{usage_line}
 use Rattle.stretch_bench.specs.Pieces.{IsDueWith, IsEnding, IsMade, IsStopOf, all, due_text, some, unmade, unread}
 use Rattle.stretch_bench.specs.Run.{IsAnswer, IsCut, IsCutShort, IsStopped, Run, memory_refused, read_failed, write_failed, wrote}
+use Rattle.stretch_bench.specs.Session.{IsUnanswered}
 use Rattle.stretch_bench.specs.declared.command.Command.{Command}
+use Rattle.stretch_bench.specs.declared.command.Command.TheVariants.{Session}
 use Rattle.stretch_bench.specs.declared.due.Due.{Due}
 use Rattle.stretch_bench.specs.declared.due.Stop.{Stop}
 use Rattle.stretch_bench.specs.declared.due.Stop.TheVariants.{Read}
 use Rattle.stretch_bench.specs.declared.status.Status.{Status}
 use Rattle.stretch_bench.specs.declared.status.Status.TheVariants.{Done, Rejected, Usage, Undecided, ReadFault, OutOfMemory, Unpackable, Ended, BadAnswer}
 use Rattle.stretch_bench.specs.declared.status.Status.TheVariants.{NoTransfer, NotFound}
+use Rattle.stretch_bench.proofs.CommandLemmas.{spells_as}
 
 abbrev pub call_of : Players → List (List ℕ) → Option (List ℕ) → Option (List ℕ) → Call
 call_of players words left new_left = record { players = players; words = words; left = left; new_left = new_left }
@@ -132,6 +137,48 @@ module _ (call : Call) (reads new_reads : ℕ) (old new : Option (List ℕ)) (wr
   same_where Same made status due same (some what e s failed part) (inr r) = absurd cc
   same_where Same made status due same (unread e s old_is) stopped = subst (λ (r : Result Due Stop). IfErr r (λ (stop : Stop). Same)) e same
   same_where Same made status due same (unmade e s old_is) stopped = subst (λ (r : Result Due Stop). IfErr r (λ (stop : Stop). Same)) e same
+
+-- Where a run was stopped by a failed read, nothing was made for want of it: what is so of the sink where nothing was
+-- made, and of the source where a read failed, is so then.
+pub unread_where : (Same Cut : Type 0) (made : Result Due Stop) (old new : Option (List ℕ)) (writes new_writes : ℕ) (status : Status)
+    → IfOk made (λ due. due.status ≡ ReadFault → ⊥) → IfErr made (λ stop. Same) → (made ≡ Err Read → Cut) → IsEnding made old new writes new_writes status
+    → status ≡ ReadFault → Same × Cut
+unread_where Same Cut made old new writes new_writes status never same cut (all what e s whole) f =
+    absurd (subst (λ (r : Result Due Stop). IfOk r (λ due. due.status ≡ ReadFault → ⊥)) e never (sym s ∙ f))
+unread_where Same Cut made old new writes new_writes status never same cut (some what e s failed part) f = absurd cc
+unread_where Same Cut made old new writes new_writes status never same cut (unread e s old_is) f =
+    (subst (λ (r : Result Due Stop). IfErr r (λ (stop : Stop). Same)) e same, cut e)
+unread_where Same Cut made old new writes new_writes status never same cut (unmade e s old_is) f = absurd cc
+
+-- a text that is due has another status
+pub made_is_read : (players : Players) (left new_left : Option (List ℕ)) (command : Command) (made : Result Due Stop)
+    → IfOk made (IsMade players left new_left command) → IfOk made (λ due. due.status ≡ ReadFault → ⊥)
+made_is_read players left new_left command (Ok due) is = λ f. outcome_goes players left new_left command due.status (due_text due) is.outcome (inl f)
+made_is_read players left new_left command (Err stop) is = tt
+
+pub known_is_read : (known : Status) (made : Result Due Stop) → (known ≡ ReadFault → ⊥) → IfOk made (λ due. due.status ≡ known)
+    → IfOk made (λ due. due.status ≡ ReadFault → ⊥)
+known_is_read known (Ok due) never e = λ f. never (sym e ∙ f)
+known_is_read known (Err stop) never e = tt
+
+pub usage_is_read : (made : Result Due Stop) → IfOk made (IsDueWith Usage (λ text. text ≡ usage_line)) → IfOk made (λ due. due.status ≡ ReadFault → ⊥)
+usage_is_read (Ok due) is = λ f. usage_goes (inl (sym is.status_is ∙ f))
+usage_is_read (Err stop) is = tt
+
+-- the same of a session
+pub talk_unread : (Same : Type 0) (players : Players) (command : Command) (left new_left old new : Option (List ℕ)) → command ≡ Session
+    → (Same × IsTextInterrupted (Only Adversary) [] left new_left) ⊎ IsUnanswered left new_left old new
+    → (Same × IsCut (reads_by players command) left new_left) ⊎ ((command ≡ Session) × IsUnanswered left new_left old new)
+talk_unread Same players command left new_left old new e (inl h) =
+    inl (h.0, subst (λ (c : Command). IsCut (reads_by players c) left new_left) (sym e) h.1)
+talk_unread Same players command left new_left old new e (inr h) = inr (e, h)
+
+-- what is so of a command is so of the words that spell it
+pub spelled_unread : (Same : Type 0) (players : Players) (words : List (List ℕ)) (command : Command) (left new_left old new : Option (List ℕ))
+    → Spells players words command → (Same × IsCut (reads_by players command) left new_left) ⊎ ((command ≡ Session) × IsUnanswered left new_left old new)
+    → (Same × IsCutShort (call_of players words left new_left)) ⊎ (Spells players words Session × IsUnanswered left new_left old new)
+spelled_unread Same players words command left new_left old new spells (inl h) = inl (h.0, record { command = command; spells = spells; cut = h.1 })
+spelled_unread Same players words command left new_left old new spells (inr h) = inr (spells_as players words command Session h.0 spells, h.1)
 
 -- what a command comes to is due where the words spell it
 pub made_is_due : (players : Players) (words : List (List ℕ)) (left new_left : Option (List ℕ)) (command : Command) (made : Result Due Stop)

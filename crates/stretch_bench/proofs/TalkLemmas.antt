@@ -1,8 +1,8 @@
 -- What the command `session` comes to, by what its referee gave.
-use Rattle.std.proofs.Common.{◌≡◌, ℕ, ◌-◌, ◌≤◌, List, [], ◌++◌, Option, Some, None, Result, Ok, Err, IfOk, IfSome, inl, inr, sym, ap, subst, refl, ◌∙◌, append_assoc, length}
+use Rattle.std.proofs.Common.{◌≡◌, ℕ, ◌-◌, ◌≤◌, List, [], ◌++◌, Option, Some, None, Result, Ok, Err, IfErr, IfOk, IfSome, inl, inr, sym, ap, subst, refl, ◌∙◌, append_assoc, length}
 use Rattle.std.specs.Io.KnownBytes.{append_known, prepend_known}
 use Rattle.adversary_graph.specs.Pools.{IsPool, IsRoot, Pool}
-use Rattle.checker.specs.Accepted.{IsTextFaultOf, Spells as SpellsText}
+use Rattle.checker.specs.Accepted.{IsTextFaultOf, IsTextInterrupted, Spells as SpellsText}
 use Rattle.checker.specs.declared.fault.CheckFault.{CheckFault}
 use Rattle.checker.specs.declared.fault.CheckFault.TheVariants as check_fault
 use Rattle.checker.specs.declared.fault.Wanted.{Wanted}
@@ -50,7 +50,7 @@ use Rattle.stretch_bench.specs.declared.due.Stop.TheVariants as stops
 use Rattle.stretch_bench.specs.declared.status.Status.{Status}
 use Rattle.stretch_bench.specs.declared.status.Status.TheVariants as statuses
 use Rattle.stretch_bench.proofs.OutcomeLemmas.{fault_due}
-use Rattle.stretch_bench.proofs.RunLemmas.{answer_by, call_of, cut_for, made_is_due, run_of}
+use Rattle.stretch_bench.proofs.RunLemmas.{answer_by, call_of, cut_for, known_is_read, made_is_due, run_of, unread_where}
 
 -- ---- what a referee gave is a talk
 
@@ -302,3 +302,14 @@ fault_answers players words left new_left first reads new_reads writes new_write
     (λ e. rose (read e))
     (λ e. record { command = Session; spells = spells; cut = cut_for players left new_left (reads_front (Only Adversary)) fault stop (read e) })
     ending
+
+-- where a read failed, nothing was written, and the whole text was not read
+pub unread_front : (Same : Type 0) (left new_left : Option (List ℕ)) (first : List ℕ) (fault : CheckFault) (made : Result Due Stop)
+    (old new : Option (List ℕ)) (writes new_writes : ℕ) (status : Status) → first ≡ [] → IsTextFaultOf (Only Adversary) first fault left new_left
+    → IfOk made (λ due. due.status ≡ statuses.Rejected) → IfErr made (λ stop. Same) → (made ≡ Err stops.Read → fault ≡ check_fault.Read)
+    → IsEnding made old new writes new_writes status → status ≡ statuses.ReadFault → Same × IsTextInterrupted (Only Adversary) [] left new_left
+unread_front Same left new_left first fault made old new writes new_writes status none of rejected same read ending f =
+    let at_front : IsTextFaultOf (Only Adversary) [] fault left new_left = subst (λ (bytes : List ℕ). IsTextFaultOf (Only Adversary) bytes fault left new_left) none of in
+    unread_where Same (IsTextInterrupted (Only Adversary) [] left new_left) made old new writes new_writes status
+    (known_is_read statuses.Rejected made (λ e. absurd cc) rejected) same
+    (λ e. subst (λ (g : CheckFault). IsTextFaultOf (Only Adversary) [] g left new_left) (read e) at_front) ending f

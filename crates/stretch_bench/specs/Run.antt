@@ -1,7 +1,7 @@
 -- What a run comes to.
 use Rattle.std.specs.Prelude.{◌≡◌, ◌↔◌, ◌⊎◌, ℕ, List, [], Option, IfSome}
 use Rattle.std.specs.Io.KnownBytes.{append_known}
-use Rattle.checker.specs.Accepted.{BeginsWithLegalText, IsInterrupted}
+use Rattle.checker.specs.Accepted.{BeginsWithLegalText, IsInterrupted, IsTextInterrupted}
 use Rattle.checker.specs.FirstFault.{IsLegalText}
 use Rattle.port_io.specs.Faults.{Rose}
 use Rattle.port_io.specs.Told.{AppendsSome}
@@ -27,13 +27,15 @@ pub record Run : Type 0 where
   pub writes_failed : ℕ
   pub new_writes_failed : ℕ
 
--- no whole line of what was read has a fault, where a strategy of a wanted side is read
+-- no whole line of what was read has a fault, where a strategy of a wanted side is read; and where lines follow its
+-- text, what was read does not begin with the whole text
 abbrev pub IsCut : Reads → Option (List ℕ) → Option (List ℕ) → Type 0
 IsCut reads_nothing left new_left = ⊥
 IsCut (reads_whole wanted) left new_left = IsInterrupted wanted [] left new_left
-IsCut (reads_front wanted) left new_left = IsInterrupted wanted [] left new_left
+IsCut (reads_front wanted) left new_left = IsTextInterrupted wanted [] left new_left
 
--- no whole line of the bytes that were read for the command of the words has a fault
+-- the bytes that were read for the command of the words were cut short: no whole line of them has a fault, and of a
+-- session's strategy they are not the whole text
 pub record IsCutShort (call : Call) : Type 0 where
   pub command : Command
   pub spells : Spells call.players call.words command
@@ -55,7 +57,8 @@ pub data IsAnswer (run : Run) (status : Status) : Type 0 where
   -- the text that is due with the status was written whole
   wrote : (text : List ℕ) → IsDue run.call status text → run.new_written ≡ append_known run.written text
       → IsAnswer run status
-  -- a read failed in this run before anything was written, and no whole line of the bytes that were read has a fault
+  -- a read failed in this run before anything was written, and no whole line of the bytes that were read has a fault;
+  -- of a session's strategy not the whole text was read
   read_failed : status ≡ ReadFault → Rose run.reads_failed run.new_reads_failed → IsCutShort run.call
       → run.new_written ≡ run.written → IsAnswer run status
   -- a read failed in this run, in a session that waited for an answer

@@ -11,7 +11,7 @@ ghost use Rattle.stretch_bench.specs.Call.{Players};
 ghost use Rattle.stretch_bench.specs.Commands.{Spells, SpellsNone, reads_by, spelling_of};
 ghost use Rattle.stretch_bench.specs.Form.{reads_nothing};
 ghost use Rattle.stretch_bench.specs.Replying.{Replying};
-ghost use Rattle.stretch_bench.specs.Run.{IsAnswer, IsExact};
+ghost use Rattle.stretch_bench.specs.Run.{IsAnswer, IsCutShort, IsExact};
 ghost use Rattle.stretch_bench.specs.Session.{IsUnanswered};
 ghost use Rattle.stretch_bench.specs.Written.{WritesFirst};
 ghost use Rattle.stretch_bench.specs.declared.command.Command.{Command};
@@ -100,12 +100,18 @@ pub fn run_bench<S: Source, K: Sink>(
         → (source.new ≡ source.old)
         × ((result ≡ Status.Usage) ⊎ (result ≡ Status.WriteFault) ⊎ (result ≡ Status.OutOfMemory)) }
 
-    // Where a read failed, nothing was written, or in a session what is said to the answers that came.
+    // Where a read failed, nothing was written, and of a session's strategy not the whole text was read; or in a
+    // session what is said to the answers that came was written.
     ensures read_fault { let players : Players = record {
       names = map (λ player. player.name) players.now.items;
       answers = map (λ player. (⟦<dyn Online as Online>⟧ player.player.vtable).answer player.player.value)
           players.now.items;
-    } in result ≡ Status.ReadFault → (sink.new ≡ sink.old)
+    } in result ≡ Status.ReadFault → ((sink.new ≡ sink.old) × IsCutShort (record {
+      players = players;
+      words = spelling_of words.now;
+      left = S.left source.old;
+      new_left = S.left source.new;
+    }))
         ⊎ (Spells players (spelling_of words.now) commands.Session
         × IsUnanswered (S.left source.old) (S.left source.new) (K.written sink.old) (K.written sink.new)) }
     ensures memory { result ≡ Status.OutOfMemory → sink.new ≡ sink.old }

@@ -4,7 +4,7 @@ ghost use Rattle.std.specs.Prelude.{◌≡◌, ◌≤◌, ◌↔◌, ◌⊎◌, 
 ghost use Rattle.stretch_bench.specs.Call.{Players};
 ghost use Rattle.stretch_bench.specs.Commands.{Spells, SpellsNone, form_of, reads_by, spelling_of};
 ghost use Rattle.stretch_bench.specs.Form.{reads_nothing};
-ghost use Rattle.stretch_bench.specs.Run.{IsAnswer};
+ghost use Rattle.stretch_bench.specs.Run.{IsAnswer, IsCut, IsCutShort};
 ghost use Rattle.stretch_bench.specs.Session.{IsUnanswered};
 ghost use Rattle.stretch_bench.specs.declared.command.Command.{Command};
 ghost use Rattle.stretch_bench.specs.declared.command.Command.TheVariants as commands;
@@ -49,7 +49,12 @@ pub(crate) fn run_words<S: Source, K: Sink>(
       names = map (λ player. player.name) players.now.items;
       answers = map (λ player. (⟦<dyn Online as Online>⟧ player.player.vtable).answer player.player.value)
           players.now.items;
-    } in result ≡ Status.ReadFault → (sink.new ≡ sink.old)
+    } in result ≡ Status.ReadFault → ((sink.new ≡ sink.old) × IsCutShort (record {
+      players = players;
+      words = spelling_of words.now;
+      left = S.left source.old;
+      new_left = S.left source.new;
+    }))
         ⊎ (Spells players (spelling_of words.now) commands.Session
         × IsUnanswered (S.left source.old) (S.left source.new) (K.written sink.old) (K.written sink.new)) }
     ensures memory { result ≡ Status.OutOfMemory → sink.new ≡ sink.old }
@@ -105,7 +110,12 @@ fn run_command<S: Source, K: Sink>(
       writes_failed = K.faults sink.old;
       new_writes_failed = K.faults sink.new;
     }) result }
-    ensures read_fault { result ≡ Status.ReadFault → (sink.new ≡ sink.old)
+    ensures read_fault { let players : Players = record {
+      names = map (λ player. player.name) players.now.items;
+      answers = map (λ player. (⟦<dyn Online as Online>⟧ player.player.vtable).answer player.player.value)
+          players.now.items;
+    } in result ≡ Status.ReadFault
+        → ((sink.new ≡ sink.old) × IsCut (reads_by players command.now) (S.left source.old) (S.left source.new))
         ⊎ ((command.now ≡ commands.Session)
         × IsUnanswered (S.left source.old) (S.left source.new) (K.written sink.old) (K.written sink.new)) }
     ensures memory { result ≡ Status.OutOfMemory → sink.new ≡ sink.old }

@@ -1,7 +1,10 @@
 //! The command `session`.
 
-ghost use Rattle.std.specs.Prelude.{◌≡◌, ◌≤◌, ◌⊎◌, List, None, ℕ};
+ghost use Rattle.std.specs.Prelude.{◌≡◌, ◌≤◌, ◌⊎◌, List, [], None, ℕ};
 ghost use Rattle.adversary_graph.specs.Pools.{IsLegalOfAdversary};
+ghost use Rattle.checker.specs.Accepted.{IsTextInterrupted};
+ghost use Rattle.checker.specs.declared.fault.Wanted.TheVariants.{Only};
+ghost use Rattle.strategy_text.specs.declared.node.Side.TheVariants.{Adversary};
 ghost use Rattle.stretch_bench.specs.Call.{Players};
 ghost use Rattle.stretch_bench.specs.Commands.{Spells};
 ghost use Rattle.stretch_bench.specs.Run.{IsAnswer};
@@ -37,7 +40,8 @@ pub(crate) fn talked<S: Source, K: Sink>(alloc: Global, source: &mut S, sink: &m
       writes_failed = K.faults sink.old;
       new_writes_failed = K.faults sink.new;
     }) result }
-    ensures read_fault { result ≡ Status.ReadFault → (sink.new ≡ sink.old)
+    ensures read_fault { result ≡ Status.ReadFault
+        → ((sink.new ≡ sink.old) × IsTextInterrupted (Only Adversary) [] (S.left source.old) (S.left source.new))
         ⊎ IsUnanswered (S.left source.old) (S.left source.new) (K.written sink.old) (K.written sink.new) }
     ensures memory { result ≡ Status.OutOfMemory → sink.new ≡ sink.old }
 {
